@@ -1,0 +1,3 @@
+pub mod Compressing
+pub mod Finishing
+pub mod Padding

@@ -1,0 +1,8 @@
+pub mod Words
+pub mod Schedule
+pub mod Compression
+pub mod Hashing
+pub mod States
+pub mod StateLaws
+pub mod Published
+pub mod Sides

@@ -1,0 +1,61 @@
+-- What a core or a hasher stands for while a message comes in, how it takes bytes in, how it is
+-- finished, and the bytes that it is saved as.
+use Rattle.std.specs.Prelude.{◌≡◌, ℕ, ◌+◌, ◌-◌, ◌*◌, ◌%◌, ◌^◌, ◌<◌, List, [], ◌∷◌, ◌++◌, length, replicate}
+use Rattle.std.specs.List.{All}
+use Rattle.ripemd_block.specs.Words.{word_bytes, length_bytes}
+use Rattle.ripemd_block.specs.Compression.{Variant}
+use Rattle.ripemd_block.specs.Hashing.{closed, blocks, left_over, walk}
+
+-- a list of n words
+pub record AreWords (n : ℕ) (xs : List ℕ) : Type 0 where
+  pub count : length xs ≡ n
+  pub fit : All (λ w. w < 2 ^ 32) xs
+
+-- a state of a hash under way: the words after the whole blocks so far, how many those were modulo
+-- 2 ^ 64, and the tail of bytes behind them
+pub record Meaning : Type 0 where
+  pub words : List ℕ
+  pub count : ℕ
+  pub tail : List ℕ
+
+-- the state before the first byte
+abbrev pub new : Variant → Meaning
+new v = record { words = v.start; count = 0; tail = [] }
+
+-- the state after some blocks, which its tail does not touch
+abbrev pub walked : (List ℕ → List ℕ → List ℕ) → Meaning → List (List ℕ) → Meaning
+walked step h bs = record h { words = walk step h.words bs; count = (h.count + length bs) % 2 ^ 64 }
+
+-- the state after some bytes: a walk through the whole blocks of the tail and the bytes, and what
+-- is left of them
+unfoldable pub fed : (List ℕ → List ℕ → List ℕ) → Meaning → List ℕ → Meaning
+fed step h bytes = record (walked step h (blocks (h.tail ++ bytes))) { tail = left_over (h.tail ++ bytes) }
+
+-- the digest from a state: the output of the words after the walk through the closed tail
+unfoldable pub finish : {D : Type 0} → (List ℕ → List ℕ → List ℕ) → (List ℕ → D) → Meaning → D
+finish step output h = output (walk step h.words (blocks (closed h.tail (8 * (length h.tail + 64 * h.count) % 2 ^ 64))))
+
+-- a core's state with a tail behind its blocks
+abbrev pub with_tail : Meaning → List ℕ → Meaning
+with_tail h tail = record h { tail = tail }
+
+-- the states that a core or a hasher can be in: as many words as the variant has, a count below 2 ^ 64 and a tail of less than a block, whose elements are bytes
+pub record IsState (v : Variant) (h : Meaning) : Type 0 where
+  pub words : AreWords (length v.start) h.words
+  pub count : h.count < 2 ^ 64
+  pub tail_length : length h.tail < 64
+  pub tail : All (λ b. b < 256) h.tail
+
+-- the states that a core can be in: it has no tail
+pub record IsCoreState (v : Variant) (h : Meaning) : Type 0 where
+  pub state : IsState v h
+  pub no_tail : h.tail ≡ []
+
+-- the saved bytes of a core: its words and its count
+unfoldable pub core_bytes : Meaning → List ℕ
+core_bytes h = word_bytes h.words ++ length_bytes h.count
+
+-- the saved bytes of a hasher: those of its core, the length of its tail as one byte, the tail,
+-- and zero bytes until 63 bytes stand behind that byte
+unfoldable pub hasher_bytes : Meaning → List ℕ
+hasher_bytes h = core_bytes h ++ length h.tail ∷ h.tail ++ replicate (63 - length h.tail) 0

@@ -1,0 +1,186 @@
+//! The block cores: hash functions that take in whole blocks and leave a message's tail to a
+//! [`Buffer`], and the traits that they have.
+
+ghost use Rattle.std.specs.Prelude.{◌≡◌, ℕ, ◌+◌, ◌*◌, ◌%◌, ◌^◌, List, [], ◌++◌, length};
+ghost use Rattle.ripemd_block.specs.Words.{word_bytes};
+ghost use Rattle.ripemd_block.specs.Compression.{compress, ripemd160};
+ghost use Rattle.ripemd_block.specs.Hashing.{walk};
+ghost use Rattle.ripemd_block.specs.States.{Meaning, IsCoreState, new, walked, with_tail, finish};
+
+use crate::buffer::Buffer;
+use crate::c160;
+use std::marker::Model;
+
+/// The kind of buffer that is emptied as soon as it holds a whole block.
+#[derive(Clone, Copy, PartialEq, Eq, Debug)]
+pub struct Eager;
+
+/// A type that works on blocks.
+pub trait BlockSizeUser {
+    ghost BLOCK_SIZE: { ℕ };
+
+    // Every block has 64 bytes.
+    ghost block_size_is: { BLOCK_SIZE ≡ 64 };
+
+    /// How many bytes a block has: 64.
+    const BLOCK_SIZE: usize;
+}
+
+/// A type that has a digest.
+pub trait OutputSizeUser {
+    /// The digest, an array of bytes.
+    type Output: Copy;
+
+    // The bytes of a digest.
+    ghost bytes_of: { Self.Output → List ℕ };
+
+    ghost OUTPUT_SIZE: { ℕ };
+
+    /// How many bytes a digest has.
+    const OUTPUT_SIZE: usize;
+}
+
+/// A type that says what kind of buffer stands in front of it.
+pub trait BufferKindUser: BlockSizeUser {
+    /// The kind of buffer.
+    type BufferKind;
+}
+
+/// A core that takes in whole blocks.
+pub trait UpdateCore: BlockSizeUser {
+    // The states that a core can be in.
+    ghost is_core: { Self → Type 0 };
+
+    // A core after some blocks.
+    ghost after: { Self → List (List ℕ) → Self };
+
+    /// Takes in blocks of 64 bytes in order.
+    fn update_blocks(&mut self, blocks: &[[u8; 64]])
+        ensures after { self.new ≡ after self.old blocks.now }
+        ensures valid_old { is_core self.old }
+        ensures valid_new { is_core self.new };
+
+    // No blocks change nothing.
+    ghost after_none: { (core : Self) → is_core core → after core [] ≡ core };
+
+    // Some blocks and then others are both, joined.
+    ghost after_joined: { (core : Self) (xs ys : List (List ℕ)) → is_core core → after (after core xs) ys ≡ after core (xs ++ ys) };
+}
+
+/// A core that gives a digest.
+pub trait FixedOutputCore: UpdateCore + BufferKindUser + OutputSizeUser {
+    // The digest of a core and the tail of the message behind its blocks.
+    ghost digest_of: { Self → List ℕ → Self.Output };
+
+    /// Writes the digest of the message so far to `out`: of the core's blocks and the buffer's bytes
+    /// behind them. The core stays as it was, and the buffer is empty afterwards.
+    fn finalize_fixed_core(&mut self, buffer: &mut Buffer, out: &mut Self::Output)
+        ensures digest { out.new ≡ digest_of self.old buffer.old }
+        ensures size { length (Self.bytes_of out.new) ≡ Self.OUTPUT_SIZE }
+        ensures same_core { self.new ≡ self.old }
+        ensures empty { buffer.new ≡ [] }
+        ensures valid { Self.is_core self.old };
+}
+
+/// The block core of RIPEMD-160. Contracts see its words and its count of blocks modulo 2^64.
+#[derive(Drop)]
+pub struct Ripemd160Core {
+    words: [u32; 5],
+    block_count: u64,
+}
+
+impl Model for Ripemd160Core {
+    ghost Value = { Meaning };
+
+    ghost view = { λ c. record { words = c.words; count = c.block_count; tail = [] } };
+}
+
+impl Default for Ripemd160Core {
+    ghost is_default = { λ c. c ≡ new ripemd160 };
+
+    fn default() -> Ripemd160Core {
+        Ripemd160Core {
+            words: [
+                0x6745_2301,
+                0xefcd_ab89,
+                0x98ba_dcfe,
+                0x1032_5476,
+                0xc3d2_e1f0,
+            ],
+            block_count: 0,
+        }
+    }
+}
+
+impl BlockSizeUser for Ripemd160Core {
+    ghost BLOCK_SIZE = { 64 };
+
+    ghost use Rattle.std.specs.Prelude.{refl};
+
+    ghost block_size_is = { refl };
+
+    const BLOCK_SIZE: usize = 64;
+}
+
+impl OutputSizeUser for Ripemd160Core {
+    type Output = [u8; 20];
+
+    ghost bytes_of = { λ digest. digest };
+
+    ghost OUTPUT_SIZE = { 20 };
+
+    const OUTPUT_SIZE: usize = 20;
+}
+
+impl BufferKindUser for Ripemd160Core {
+    type BufferKind = Eager;
+}
+
+impl UpdateCore for Ripemd160Core {
+    ghost is_core = { IsCoreState ripemd160 };
+
+    ghost after = { walked (compress ripemd160) };
+
+    fn update_blocks(&mut self, blocks: &[[u8; 64]]) {
+        let mut words = self.words;
+        c160::walk(&mut words, blocks);
+        self.words = words;
+        self.block_count = self.block_count.wrapping_add(blocks.len() as u64);
+    }
+
+    ghost use Rattle.ripemd_block.specs.StateLaws.{walked_none, walked_joined};
+
+    ghost after_none = { walked_none (compress ripemd160) ripemd160 };
+
+    ghost after_joined = { λ core xs ys valid. walked_joined (compress ripemd160) core xs ys };
+}
+
+impl FixedOutputCore for Ripemd160Core {
+    ghost digest_of = { λ core tail. finish (compress ripemd160) word_bytes (with_tail core tail) };
+
+    fn finalize_fixed_core(&mut self, buffer: &mut Buffer, out: &mut [u8; 20]) {
+        let tail_len = buffer.get_pos() as u64;
+        let bit_len = self
+            .block_count
+            .wrapping_mul(512)
+            .wrapping_add(8 * tail_len);
+        let padded = buffer.len64_padding_le(bit_len);
+        let mut words = self.words;
+        let first = padded.first;
+        c160::walk(&mut words, &[first]);
+        if let Some(second) = padded.second {
+            c160::walk(&mut words, &[second]);
+        }
+        write_words(&words, out);
+    }
+}
+
+// Writes the bytes of words in order, four for each, least first.
+fn write_words(words: &[u32], out: &mut [u8])
+    requires { length out.old ≡ 4 * length words.now }
+    ensures { out.new ≡ word_bytes words.now }
+{
+    for (i, word) in words.iter().enumerate() {
+        out[4 * i..4 * i + 4].copy_from_slice(&word.to_le_bytes());
+    }
+}

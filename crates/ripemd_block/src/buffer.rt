@@ -1,0 +1,118 @@
+//! The bytes of a message behind its last whole block, and their padding.
+
+ghost use Rattle.std.specs.Prelude.{◌≡◌, ℕ, ◌+◌, ◌-◌, ◌<◌, ◌≤◌, ◌↔◌, List, [], ◌∷◌, ◌++◌, length, take, drop, replicate, SomeIff, IsSome};
+ghost use Rattle.std.specs.Option.{option_to_list};
+ghost use Rattle.ripemd_block.specs.Words.{length_bytes};
+ghost use Rattle.ripemd_block.specs.Hashing.{closed, blocks};
+
+use std::marker::Model;
+
+/// Fewer than 64 bytes of a message. Contracts see the list of its bytes.
+#[derive(Drop)]
+pub struct Buffer {
+    bytes: [u8; 64],
+    len: usize,
+}
+
+impl Model for Buffer {
+    ghost Value = { List ℕ };
+
+    ghost view = { λ b. take b.len b.bytes };
+
+    ghost invariant = { λ b. b.len < 64 };
+}
+
+/// The last block or the last two blocks of a padded message: `second` is there exactly if the tail
+/// left no room for the length behind it in `first`.
+#[derive(Clone, Copy, PartialEq, Eq, Debug)]
+pub struct Padded {
+    pub first: [u8; 64],
+    pub second: Option<[u8; 64]>,
+}
+
+impl Default for Buffer {
+    ghost is_default = { λ b. b ≡ [] };
+
+    fn default() -> Buffer {
+        Buffer {
+            bytes: [0; 64],
+            len: 0,
+        }
+    }
+}
+
+impl Buffer {
+    /// A buffer of these bytes; `None` if they are 64 or more.
+    pub fn try_new(bytes: &[u8]) -> Option<Buffer>
+        ensures { SomeIff result (length bytes.now < 64) bytes.now }
+    {
+        let len = bytes.len();
+        if len >= 64 {
+            return None;
+        }
+        let mut all = [0; 64];
+        all[..len].copy_from_slice(bytes);
+        Some(Buffer { bytes: all, len })
+    }
+
+    /// How many bytes it holds: 0 to 63.
+    pub fn get_pos(&self) -> usize
+        ensures length { result ≡ length self.now }
+        ensures small { result < 64 }
+    {
+        self.len
+    }
+
+    /// The bytes that it holds.
+    pub fn get_data(&self) -> &[u8]
+        ensures bytes { result.now ≡ self.now }
+        ensures small { length result.now < 64 }
+    {
+        &self.bytes[..self.len]
+    }
+
+    /// Ends a message whose last bytes it holds, and whose length is `bit_len` in bits: gives the
+    /// blocks of these bytes, the byte 80 (hexadecimal), the fewest zero bytes that leave room for
+    /// 8, and `bit_len` in 8 bytes, least first. The buffer is empty afterwards.
+    pub fn len64_padding_le(&mut self, bit_len: u64) -> Padded
+        ensures value { result.first ∷ option_to_list result.second ≡ blocks (closed self.old bit_len) }
+        ensures second { IsSome result.second ↔ (56 ≤ length self.old) }
+        ensures empty { self.new ≡ [] }
+    {
+        let len = self.len;
+        let marked = marked(&self.bytes[..len]);
+        self.len = 0;
+        if len < 56 {
+            Padded {
+                first: with_length(&marked, bit_len),
+                second: None,
+            }
+        } else {
+            Padded {
+                first: marked,
+                second: Some(with_length(&[0; 64], bit_len)),
+            }
+        }
+    }
+}
+
+// The tail, the byte 80 (hexadecimal), and zero bytes to the end of the block.
+fn marked(tail: &[u8]) -> [u8; 64]
+    requires { length tail.now < 64 }
+    ensures { result ≡ tail.now ++ 0x80 ∷ replicate (63 - length tail.now) 0 }
+{
+    let len = tail.len();
+    let mut block = [0; 64];
+    block[..len].copy_from_slice(tail);
+    block[len] = 0x80;
+    block
+}
+
+// The block with the length of a message in place of its last 8 bytes.
+fn with_length(block: &[u8; 64], bit_len: u64) -> [u8; 64]
+    ensures { result ≡ take 56 block.now ++ length_bytes bit_len }
+{
+    let mut ended = *block;
+    ended[56..].copy_from_slice(&bit_len.to_le_bytes());
+    ended
+}

@@ -1,0 +1,138 @@
+//! The tables and functions of the 1996 paper as code, each equal to its definition in `specs/`, and
+//! proofs that the definitions give what the authors published.
+
+ghost use Rattle.std.specs.Prelude.{◌≡◌, ◌<◌};
+ghost use Rattle.ripemd_block.specs.Words.{message_word};
+ghost use Rattle.ripemd_block.specs.Schedule.{function, rotation, Line};
+ghost use Rattle.ripemd_block.specs.Sides.{line_of};
+ghost use Rattle.ripemd_block.specs.Published.{EmptyMessage, ThreeLetters, TwoBlocks, LeftWordOrder, RightWordOrder, ConstantsAsPublished, AreWholeRoots};
+
+// The numbers of the message words that the left line takes, by round and step.
+const LEFT_ORDER: [[usize; 16]; 5] = [
+    [0, 1, 2, 3, 4, 5, 6, 7, 8, 9, 10, 11, 12, 13, 14, 15],
+    [7, 4, 13, 1, 10, 6, 15, 3, 12, 0, 9, 5, 2, 14, 11, 8],
+    [3, 10, 14, 4, 9, 15, 8, 1, 2, 7, 0, 6, 13, 11, 5, 12],
+    [1, 9, 11, 10, 0, 8, 12, 4, 13, 3, 7, 15, 14, 5, 6, 2],
+    [4, 0, 5, 9, 7, 12, 2, 10, 14, 1, 3, 8, 11, 6, 15, 13],
+];
+
+// The numbers of the message words that the right line takes, by round and step.
+const RIGHT_ORDER: [[usize; 16]; 5] = [
+    [5, 14, 7, 0, 9, 2, 11, 4, 13, 6, 15, 8, 1, 10, 3, 12],
+    [6, 11, 3, 7, 0, 13, 5, 10, 14, 15, 8, 12, 4, 9, 1, 2],
+    [15, 5, 1, 3, 7, 14, 6, 9, 11, 8, 12, 2, 10, 0, 4, 13],
+    [8, 6, 4, 1, 3, 11, 15, 0, 5, 12, 2, 13, 9, 7, 10, 14],
+    [12, 15, 10, 4, 1, 5, 8, 7, 6, 2, 13, 14, 0, 3, 9, 11],
+];
+
+// The amounts of the rotations, by round and message word.
+const ROTATIONS: [[u32; 16]; 5] = [
+    [11, 14, 15, 12, 5, 8, 7, 9, 11, 13, 14, 15, 6, 7, 9, 8],
+    [12, 13, 11, 15, 6, 9, 9, 7, 12, 15, 11, 13, 7, 8, 7, 7],
+    [13, 15, 14, 11, 7, 7, 6, 8, 13, 14, 13, 12, 5, 5, 6, 9],
+    [14, 11, 12, 14, 8, 6, 5, 5, 15, 12, 15, 14, 9, 9, 8, 6],
+    [15, 12, 13, 13, 9, 5, 8, 6, 14, 11, 12, 11, 8, 6, 5, 5],
+];
+
+// The constants of the left line's rounds, and of the right line's.
+const LEFT_CONSTANTS: [u32; 5] = [0, 0x5a82_7999, 0x6ed9_eba1, 0x8f1b_bcdc, 0xa953_fd4e];
+
+const RIGHT_CONSTANTS: [u32; 5] = [0x50a2_8be6, 0x5c4d_d124, 0x6d70_3ef3, 0x7a6d_76e9, 0];
+
+/// One of the two lines of five rounds.
+#[derive(Clone, Copy)]
+pub(crate) enum Side {
+    Left,
+    Right,
+}
+
+impl Side {
+    /// The number of the message word that step `i` of round `r` takes.
+    pub(crate) fn word_number(self, r: usize, i: usize) -> usize
+        requires round { r < 5 }
+        requires step { i < 16 }
+        ensures value { result ≡ (line_of self).word_number r i }
+        ensures small { result < 16 }
+    {
+        match self {
+            Side::Left => LEFT_ORDER[r][i],
+            Side::Right => RIGHT_ORDER[r][i],
+        }
+    }
+
+    /// The constant of round `r`.
+    pub(crate) fn constant(self, r: usize) -> u32
+        requires { r < 5 }
+        ensures { result ≡ (line_of self).constant r }
+    {
+        match self {
+            Side::Left => LEFT_CONSTANTS[r],
+            Side::Right => RIGHT_CONSTANTS[r],
+        }
+    }
+
+    /// The function of round `r`, of three words.
+    pub(crate) fn function(self, r: usize, x: u32, y: u32, z: u32) -> u32
+        requires { r < 5 }
+        ensures { result ≡ (line_of self).function r x y z }
+    {
+        match self {
+            Side::Left => function(r, x, y, z),
+            Side::Right => function(4 - r, x, y, z),
+        }
+    }
+}
+
+/// By how many bits a step of round `r` that takes message word `j` rotates.
+pub(crate) fn rotation(r: usize, j: usize) -> u32
+    requires round { r < 5 }
+    requires word { j < 16 }
+    ensures { result ≡ rotation r j }
+{
+    ROTATIONS[r][j]
+}
+
+/// Function number `j` of the five, of three words.
+fn function(j: usize, x: u32, y: u32, z: u32) -> u32
+    requires { j < 5 }
+    ensures { result ≡ function j x y z }
+{
+    match j {
+        0 => x ^ y ^ z,
+        1 => (x & y) | (!x & z),
+        2 => (x | !y) ^ z,
+        3 => (x & z) | (y & !z),
+        _ => x ^ (y | !z),
+    }
+}
+
+/// Message word `j` of a block of 64 bytes: four of its bytes, least first.
+pub(crate) fn message_word(block: &[u8; 64], j: usize) -> u32
+    requires { j < 16 }
+    ensures { result ≡ message_word block.now j }
+{
+    u32::from_le_bytes([
+        block[4 * j],
+        block[4 * j + 1],
+        block[4 * j + 2],
+        block[4 * j + 3],
+    ])
+}
+
+/// The definitions give the published digests.
+pub fn published_digests()
+    ensures empty { EmptyMessage }
+    ensures three_letters { ThreeLetters }
+    ensures two_blocks { TwoBlocks }
+{}
+
+/// The definitions give the published tables.
+pub fn published_tables()
+    ensures left { LeftWordOrder }
+    ensures right { RightWordOrder }
+    ensures constants { ConstantsAsPublished }
+    ensures first { AreWholeRoots 0 }
+    ensures second { AreWholeRoots 1 }
+    ensures third { AreWholeRoots 2 }
+    ensures fourth { AreWholeRoots 3 }
+{}
