@@ -1,3 +1,5 @@
+pub mod BlockLaws
 pub mod Compressing
 pub mod Finishing
 pub mod Padding
+pub mod StateLaws

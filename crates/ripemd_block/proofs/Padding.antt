@@ -1,8 +1,9 @@
 -- The one or two blocks that end a padded message.
 use Rattle.std.proofs.Common.{◌≡◌, ℕ, suc, ◌+◌, ◌-◌, ◌<◌, ◌≤◌, List, [], ◌∷◌, ◌++◌, length, take, drop, set, replicate, refl, sym, arith}
-use Rattle.std.proofs.lemmas.List.{length-append, length-replicate, append_assoc, append-nil, take_at, drop_at, take_all, drop_all, set_at, drop-drop, drop-replicate, replicate-append-replicate}
+use Rattle.std.proofs.lemmas.List.{length-append, length-replicate, append_assoc, append-nil, take_at, drop_all, set_at, drop-drop, drop-replicate, replicate-append-replicate}
 use borrow.Rule.Slice.PartMut.{put_mid}
 use Rattle.ripemd_block.specs.Words.{length_bytes}
+use Rattle.ripemd_block.proofs.BlockLaws.{blocks_of_one, blocks_of_two}
 use Rattle.ripemd_block.specs.Hashing.{closed, blocks, zero_count}
 
 -- a list with its last part written over
@@ -15,18 +16,6 @@ pub marked_block : (tail ys : List ℕ) (byte : ℕ) → length tail < 64 → ys
 marked_block tail ys byte short same =
     let room : 64 - length tail ≡ suc (63 - length tail) = omega arith in
     rw (same, drop-replicate {X = ℕ} (length tail) 64 0, room) (set_at tail 0 (replicate (63 - length tail) 0) byte (length tail) refl)
-
--- ---- blocks
-
-pub blocks_of_one : (xs : List ℕ) → length xs ≡ 64 → blocks xs ≡ xs ∷ []
-unfolding blocks
-blocks_of_one xs h = rw (h, take_all 64 xs (omega arith)) refl
-
-pub blocks_of_two : (xs ys : List ℕ) → length xs ≡ 64 → length ys ≡ 64 → blocks (xs ++ ys) ≡ xs ∷ ys ∷ []
-unfolding blocks
-blocks_of_two xs ys hx hy =
-    let both : length (xs ++ ys) ≡ 128 = omega (arith, length-append xs ys) in
-    rw (both, take_at xs ys 64 hx, drop_at xs ys 64 hx, take_all 64 ys (omega arith)) refl
 
 -- ---- a closed tail
 

@@ -3,6 +3,6 @@ pub mod Schedule
 pub mod Compression
 pub mod Hashing
 pub mod States
-pub mod StateLaws
+pub mod WalkLaws
 pub mod Published
 pub mod Sides

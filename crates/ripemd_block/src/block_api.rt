@@ -148,7 +148,7 @@ impl UpdateCore for Ripemd160Core {
         self.block_count = self.block_count.wrapping_add(blocks.len() as u64);
     }
 
-    ghost use Rattle.ripemd_block.specs.StateLaws.{walked_none, walked_joined};
+    ghost use Rattle.ripemd_block.specs.WalkLaws.{walked_none, walked_joined};
 
     ghost after_none = { walked_none (compress ripemd160) ripemd160 };
 
