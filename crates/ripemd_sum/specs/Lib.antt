@@ -1,0 +1,4 @@
+pub mod Variants
+pub mod Track
+pub mod Runs
+pub mod Faults

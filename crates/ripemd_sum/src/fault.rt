@@ -1,0 +1,33 @@
+//! Why a run of the program fails.
+
+ghost use Rattle.std.specs.Prelude.{◌≡◌};
+
+use std::io;
+use thiserror::Error;
+
+/// Why a run wrote no digest, or not all of its line.
+#[derive(Debug, Drop, Error)]
+#[error("{}", self.message())]
+pub enum RunFault {
+    /// A read failed with this fault.
+    Read(io::Error),
+    /// The reader gave more bytes than the limit.
+    TooLong,
+    /// The write of the line failed with this fault.
+    Write(io::Error),
+}
+
+impl RunFault {
+    ghost use Rattle.ripemd_sum.specs.Faults.{message_of};
+
+    /// The line that the program prints for it.
+    pub fn message(&self) -> &'static str
+        ensures { result.now ≡ message_of self.now }
+    {
+        match self {
+            RunFault::Read(_) => "ripemd_sum: read error",
+            RunFault::TooLong => "ripemd_sum: input too long",
+            RunFault::Write(_) => "ripemd_sum: write error",
+        }
+    }
+}
