@@ -4,7 +4,7 @@ use Rattle.std.proofs.lemmas.List.{length-append, length-replicate, append_assoc
 use borrow.Rule.Slice.PartMut.{put_mid}
 use Rattle.ripemd_block.specs.Words.{length_bytes}
 use Rattle.ripemd_block.proofs.BlockLaws.{blocks_of_one, blocks_of_two}
-use Rattle.ripemd_block.specs.Hashing.{closed, blocks, zero_count}
+use Rattle.ripemd_block.specs.Hashing.{with_padding, blocks, zero_count}
 
 -- a list with its last part written over
 pub put_mid_end : (a k : ℕ) (xs ys : List ℕ) → length xs ≤ a + k → put_mid a k xs ys ≡ take a xs ++ ys
@@ -17,7 +17,7 @@ marked_block tail ys byte short same =
     let room : 64 - length tail ≡ suc (63 - length tail) = omega arith in
     rw (same, drop-replicate {X = ℕ} (length tail) 64 0, room) (set_at tail 0 (replicate (63 - length tail) 0) byte (length tail) refl)
 
--- ---- a closed tail
+-- ---- a tail with its padding
 
 -- a tail, a byte and zero bytes to the end of a block
 filled : List ℕ → List ℕ
@@ -27,10 +27,10 @@ length-filled : (tail : List ℕ) → length tail < 64 → length (filled tail) 
 unfolding filled
 length-filled tail h = omega (arith, length-append tail (0x80 ∷ replicate (63 - length tail) 0), length-replicate {A = ℕ} (63 - length tail) 0)
 
-pub closed_short : (tail : List ℕ) (n : ℕ) → length tail < 56
-    → (take 56 (tail ++ 0x80 ∷ replicate (63 - length tail) 0) ++ length_bytes n) ∷ [] ≡ blocks (closed tail n)
-unfolding closed
-closed_short tail n h =
+pub with_padding_short : (tail : List ℕ) (n : ℕ) → length tail < 56
+    → (take 56 (tail ++ 0x80 ∷ replicate (63 - length tail) 0) ++ length_bytes n) ∷ [] ≡ blocks (with_padding tail n)
+unfolding with_padding
+with_padding_short tail n h =
     let front : List ℕ = tail ++ 0x80 ∷ replicate (55 - length tail) 0 in
     let front_length : length front ≡ 56 = omega (arith, length-append tail (0x80 ∷ replicate (55 - length tail) 0), length-replicate {A = ℕ} (55 - length tail) 0) in
     let zeros : 63 - length tail ≡ 55 - length tail + 8 = omega arith in
@@ -40,10 +40,10 @@ closed_short tail n h =
     let whole : length (front ++ length_bytes n) ≡ 64 = omega (arith, front_length, length-append front (length_bytes n)) in
     rw (split, take_at front (replicate 8 0) 56 front_length, count) (sym (blocks_of_one (front ++ length_bytes n) whole))
 
-pub closed_long : (tail : List ℕ) (n : ℕ) → 56 ≤ length tail → length tail < 64
-    → (tail ++ 0x80 ∷ replicate (63 - length tail) 0) ∷ (replicate 56 0 ++ length_bytes n) ∷ [] ≡ blocks (closed tail n)
-unfolding closed
-closed_long tail n low high =
+pub with_padding_long : (tail : List ℕ) (n : ℕ) → 56 ≤ length tail → length tail < 64
+    → (tail ++ 0x80 ∷ replicate (63 - length tail) 0) ∷ (replicate 56 0 ++ length_bytes n) ∷ [] ≡ blocks (with_padding tail n)
+unfolding with_padding
+with_padding_long tail n low high =
     let front : List ℕ = tail ++ 0x80 ∷ replicate (63 - length tail) 0 in
     let count : zero_count (length tail) ≡ 63 - length tail + 56 = omega arith in
     let split : tail ++ 0x80 ∷ replicate (63 - length tail + 56) 0 ++ length_bytes n ≡ front ++ (replicate 56 0 ++ length_bytes n) =

@@ -4,7 +4,7 @@ use Rattle.std.proofs.Common.{◌≡◌, ℕ, ◌+◌, ◌*◌, ◌%◌, ◌^◌
 use Rattle.std.proofs.lemmas.List.{append_assoc, append-nil}
 use Rattle.std.proofs.lemmas.List.Sums.{fold-append}
 use Rattle.ripemd_block.specs.Words.{length_bytes}
-use Rattle.ripemd_block.specs.Hashing.{zero_count, closed, blocks, left_over, hash}
+use Rattle.ripemd_block.specs.Hashing.{zero_count, with_padding, blocks, left_over, hash}
 use Rattle.ripemd_block.proofs.BlockLaws.{blocks_of_short, left_over_of_short, blocks_of_one, left_over_of_one, length-blocks, length-left_over, blocks-append, left_over-append}
 use Rattle.ripemd_block.specs.States.{Meaning, walked, with_tail, fed, finish}
 use Rattle.ripemd_block.specs.WalkLaws.{walked_joined}
@@ -42,10 +42,10 @@ fed_block step h x full = rw (blocks_of_one (h.tail ++ x) full, left_over_of_one
 
 -- ---- the end
 
--- closing the whole message is closing what is left behind its whole blocks
-closed_rest : (m : List ℕ) (n : ℕ) → blocks (closed m n) ≡ blocks m ++ blocks (closed (left_over m) n)
-unfolding closed
-closed_rest m n =
+-- the padding of a whole message stands behind what is left of its whole blocks
+with_padding_rest : (m : List ℕ) (n : ℕ) → blocks (with_padding m n) ≡ blocks m ++ blocks (with_padding (left_over m) n)
+unfolding with_padding
+with_padding_rest m n =
     let zeros : zero_count (length m) ≡ zero_count (length (left_over m)) = omega (arith, length-left_over m) in
     let padding : List ℕ = 0x80 ∷ replicate (zero_count (length (left_over m))) 0 in
     let behind : m ++ padding ++ length_bytes n ≡ m ++ (padding ++ length_bytes n) = append_assoc m padding (length_bytes n) in
@@ -58,4 +58,4 @@ pub finish_fed : {D : Type 0} (start : List ℕ) (step : List ℕ → List ℕ �
 unfolding finish fed hash
 finish_fed start step output m =
     let bits : 8 * (length (left_over m) + 64 * ((0 + length (blocks m)) % 2 ^ 64)) % 2 ^ 64 ≡ 8 * length m % 2 ^ 64 = omega (arith, length-left_over m, length-blocks m) in
-    rw (bits, closed_rest m (8 * length m % 2 ^ 64), fold-append step start (blocks m) (blocks (closed (left_over m) (8 * length m % 2 ^ 64)))) refl
+    rw (bits, with_padding_rest m (8 * length m % 2 ^ 64), fold-append step start (blocks m) (blocks (with_padding (left_over m) (8 * length m % 2 ^ 64)))) refl

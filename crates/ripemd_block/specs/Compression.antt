@@ -1,5 +1,5 @@
--- The compression functions of RIPEMD-128, RIPEMD-160, RIPEMD-256 and RIPEMD-320 (1996, sections
--- 3 to 5 and appendix A).
+-- The compression functions of RIPEMD-128, RIPEMD-160, RIPEMD-256 and RIPEMD-320 (the 1996 paper:
+-- its operations in one step, its pseudo-code, and its extensions to 256 and 320 bits).
 use Rattle.std.specs.Prelude.{ℕ, zero, suc, ◌-◌, List, [], ◌∷◌, ◌++◌, length, take, drop, slice_get, slice_index, slice_set, Option, Some, None}
 use Rattle.ripemd_block.specs.Words.{◌⊞◌, rol, message_word}
 use Rattle.ripemd_block.specs.Schedule.{Line, left_line, right_line, rotation}

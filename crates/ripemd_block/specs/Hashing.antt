@@ -1,23 +1,23 @@
--- Messages: padding, blocks, the walk of a block function through them, and the hash (1996, section
--- 3 and appendix A; the padding is that of MD4).
+-- Messages: their padding, their blocks, the walk of a block function through these, and the hash
+-- (the 1996 paper's pseudo-code; the padding is that of MD4).
 use Rattle.std.specs.Prelude.{ℕ, ◌+◌, ◌-◌, ◌*◌, ◌/◌, ◌%◌, ◌^◌, List, ◌∷◌, ◌++◌, length, drop, replicate}
 use Rattle.std.specs.List.{fold}
 use Rattle.std.specs.Simd.{first_chunks}
 use Rattle.ripemd_block.specs.Words.{word_bytes, length_bytes}
 use Rattle.ripemd_block.specs.Compression.{Variant, compress}
 
--- how many zero bytes follow the byte 80 behind n bytes: the fewest after which 8 bytes are
--- missing to a whole number of blocks
+-- how many zero bytes follow n bytes and the byte 80: the fewest that make the length 56 modulo 64
 abbrev pub zero_count : ℕ → ℕ
 zero_count n = (55 + 64 - n % 64) % 64
 
--- some last bytes of a message, the byte 80, zero bytes, and the length of the message in bits
-unfoldable pub closed : List ℕ → ℕ → List ℕ
-closed tail bit_length = tail ++ 0x80 ∷ replicate (zero_count (length tail)) 0 ++ length_bytes bit_length
+-- a message's last bytes with the padding behind them: the byte 80, zero bytes, and the length of
+-- the whole message in bits
+unfoldable pub with_padding : List ℕ → ℕ → List ℕ
+with_padding tail bit_length = tail ++ 0x80 ∷ replicate (zero_count (length tail)) 0 ++ length_bytes bit_length
 
 -- the padded message, with its length in bits modulo 2 ^ 64
 abbrev pub padded : List ℕ → List ℕ
-padded message = closed message (8 * length message % 2 ^ 64)
+padded message = with_padding message (8 * length message % 2 ^ 64)
 
 -- the whole blocks of some bytes, in order
 unfoldable pub blocks : List ℕ → List (List ℕ)

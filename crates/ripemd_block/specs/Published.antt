@@ -22,23 +22,23 @@ pub record HasDigests (message by128 by160 by256 by320 : List ℕ) : Type 0 wher
   pub of256 : hexadecimal (ripemd ripemd256 message) ≡ by256
   pub of320 : hexadecimal (ripemd ripemd320 message) ≡ by320
 
-abbrev pub EmptyMessage : Type 0
-EmptyMessage = HasDigests []
+abbrev pub DigestsOfEmpty : Type 0
+DigestsOfEmpty = HasDigests []
     (codes "cdf26213a150dc3ecb610f18f6b38b46")
     (codes "9c1185a5c5e9fc54612808977ee8f548b2258d31")
     (codes "02ba4c4e5f8ecd1877fc52d64d30e37a2d9774fb1e5d026380ae0168e3c5522d")
     (codes "22d65d5661536cdc75c1fdf5c6de7b41b9f27325ebc61e8557177d705a0ec880151c3a32a00899b8")
 
-abbrev pub ThreeLetters : Type 0
-ThreeLetters = HasDigests (codes "abc")
+abbrev pub DigestsOfAbc : Type 0
+DigestsOfAbc = HasDigests (codes "abc")
     (codes "c14a12199c66e4ba84636b0f69144c77")
     (codes "8eb208f7e05d987a9b044a8e98c6b087f15a0bfc")
     (codes "afbd6e228b9d8cbbcef5ca2d03e6dba10ac0bc7dcbe4680e1e42d2e975459b65")
     (codes "de4c01b3054f8930a79d09ae738e92301e5a17085beffdc1b8d116713e74f82fa942d64cdbc4682d")
 
 -- 56 bytes, so that the padding needs a block of its own
-abbrev pub TwoBlocks : Type 0
-TwoBlocks = HasDigests (codes "abcdbcdecdefdefgefghfghighijhijkijkljklmklmnlmnomnopnopq")
+abbrev pub DigestsOfTwoBlocks : Type 0
+DigestsOfTwoBlocks = HasDigests (codes "abcdbcdecdefdefgefghfghighijhijkijkljklmklmnlmnomnopnopq")
     (codes "a1aa0689d0fafa2ddc22e88b49133a06")
     (codes "12a053384a9c0c88e405a06c27dcf49ada62eb2b")
     (codes "3843045583aac6c8c8d9128573e7a9809afb2a0f34ccc36ea9e72f16f6368e3f")
@@ -50,8 +50,8 @@ TwoBlocks = HasDigests (codes "abcdbcdecdefdefgefghfghighijhijkijkljklmklmnlmnom
 abbrev pub word_order : Line → List (List ℕ)
 word_order line = map (λ r. map (line.word_number r) (range_with_len 0 16)) (range_with_len 0 5)
 
-abbrev pub LeftWordOrder : Type 0
-LeftWordOrder = word_order left_line ≡
+abbrev pub OrderOfLeftLine : Type 0
+OrderOfLeftLine = word_order left_line ≡
     (0 ∷ 1 ∷ 2 ∷ 3 ∷ 4 ∷ 5 ∷ 6 ∷ 7 ∷ 8 ∷ 9 ∷ 10 ∷ 11 ∷ 12 ∷ 13 ∷ 14 ∷ 15 ∷ [])
     ∷ (7 ∷ 4 ∷ 13 ∷ 1 ∷ 10 ∷ 6 ∷ 15 ∷ 3 ∷ 12 ∷ 0 ∷ 9 ∷ 5 ∷ 2 ∷ 14 ∷ 11 ∷ 8 ∷ [])
     ∷ (3 ∷ 10 ∷ 14 ∷ 4 ∷ 9 ∷ 15 ∷ 8 ∷ 1 ∷ 2 ∷ 7 ∷ 0 ∷ 6 ∷ 13 ∷ 11 ∷ 5 ∷ 12 ∷ [])
@@ -59,8 +59,8 @@ LeftWordOrder = word_order left_line ≡
     ∷ (4 ∷ 0 ∷ 5 ∷ 9 ∷ 7 ∷ 12 ∷ 2 ∷ 10 ∷ 14 ∷ 1 ∷ 3 ∷ 8 ∷ 11 ∷ 6 ∷ 15 ∷ 13 ∷ [])
     ∷ []
 
-abbrev pub RightWordOrder : Type 0
-RightWordOrder = word_order (right_line 5) ≡
+abbrev pub OrderOfRightLine : Type 0
+OrderOfRightLine = word_order (right_line 5) ≡
     (5 ∷ 14 ∷ 7 ∷ 0 ∷ 9 ∷ 2 ∷ 11 ∷ 4 ∷ 13 ∷ 6 ∷ 15 ∷ 8 ∷ 1 ∷ 10 ∷ 3 ∷ 12 ∷ [])
     ∷ (6 ∷ 11 ∷ 3 ∷ 7 ∷ 0 ∷ 13 ∷ 5 ∷ 10 ∷ 14 ∷ 15 ∷ 8 ∷ 12 ∷ 4 ∷ 9 ∷ 1 ∷ 2 ∷ [])
     ∷ (15 ∷ 5 ∷ 1 ∷ 3 ∷ 7 ∷ 14 ∷ 6 ∷ 9 ∷ 11 ∷ 8 ∷ 12 ∷ 2 ∷ 10 ∷ 0 ∷ 4 ∷ 13 ∷ [])
@@ -74,7 +74,7 @@ RightWordOrder = word_order (right_line 5) ≡
 abbrev pub constants : Line → ℕ → List ℕ
 constants line n = map line.constant (range_with_len 0 n)
 
-pub record ConstantsAsPublished : Type 0 where
+pub record ConstantsOfLines : Type 0 where
   pub left : constants left_line 5 ≡ 0 ∷ 0x5a827999 ∷ 0x6ed9eba1 ∷ 0x8f1bbcdc ∷ 0xa953fd4e ∷ []
   pub right_of_four : constants (right_line 4) 4 ≡ 0x50a28be6 ∷ 0x5c4dd124 ∷ 0x6d703ef3 ∷ 0 ∷ []
   pub right_of_five : constants (right_line 5) 5 ≡ 0x50a28be6 ∷ 0x5c4dd124 ∷ 0x6d703ef3 ∷ 0x7a6d76e9 ∷ 0 ∷ []

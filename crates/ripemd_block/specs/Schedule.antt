@@ -1,6 +1,7 @@
 -- What the steps of the two lines read: the numbers of their message words, the amounts of their
--- rotations, their constants and their functions (RIPEMD-160: A Strengthened Version of RIPEMD,
--- 1996, appendix A). Rounds r and steps i are counted from 0.
+-- rotations, their constants and their functions. The source is the 1996 paper, where it orders the
+-- message words and lists the shifts, the constants and the Boolean functions. Rounds r and steps i
+-- are counted from 0.
 use Rattle.std.specs.Prelude.{ℕ, zero, suc, ◌+◌, ◌-◌, ◌*◌, ◌%◌, ◌^◌, nat_le, List, [], ◌∷◌, bit_and, bit_or, bit_xor, slice_index, slice_index_or, if◌then◌else◌}
 use Rattle.std.specs.Int.{w32, bit_not}
 
@@ -21,7 +22,8 @@ pi i = (9 * i + 5) % 16
 
 -- ---- the amounts of the rotations
 
--- by how many bits a step of round r that takes message word j rotates, on both lines
+-- by how many bits a step rotates, row by row for the rounds, by the number of its message word; it
+-- is one table for both lines
 abbrev pub rotations : List (List ℕ)
 rotations =
     (11 ∷ 14 ∷ 15 ∷ 12 ∷ 5 ∷ 8 ∷ 7 ∷ 9 ∷ 11 ∷ 13 ∷ 14 ∷ 15 ∷ 6 ∷ 7 ∷ 9 ∷ 8 ∷ [])
@@ -31,12 +33,13 @@ rotations =
     ∷ (15 ∷ 12 ∷ 13 ∷ 13 ∷ 9 ∷ 5 ∷ 8 ∷ 6 ∷ 14 ∷ 11 ∷ 12 ∷ 11 ∷ 8 ∷ 6 ∷ 5 ∷ 5 ∷ [])
     ∷ []
 
+-- by how many bits a step of round r that takes message word j rotates
 abbrev pub rotation : ℕ → ℕ → ℕ
 rotation r j = slice_index (slice_index_or rotations r []) j
 
 -- ---- the constants
 
--- the best k at hand, with its lower bits found one by one: each is set where k ^ e stays at most n
+-- k with its lower bits found one by one: each is set where the power e of the sum stays at most n
 abbrev pub root_from : ℕ → ℕ → ℕ → ℕ → ℕ
 root_from e n zero k = k
 root_from e n (suc bits) k = root_from e n bits (if nat_le ((k + 2 ^ bits) ^ e) n then k + 2 ^ bits else k)
@@ -49,15 +52,17 @@ whole_root e n = root_from e n 32 0
 abbrev pub prime : ℕ → ℕ
 prime i = slice_index (2 ∷ 3 ∷ 5 ∷ 7 ∷ []) i
 
--- 2 ^ 30 times the square root, and the cube root, of prime i, rounded down
+-- 2 ^ 30 times the square root of prime i, rounded down
 abbrev pub square_root_constant : ℕ → ℕ
 square_root_constant i = whole_root 2 (prime i * 2 ^ 60)
 
+-- 2 ^ 30 times the cube root of prime i, rounded down
 abbrev pub cube_root_constant : ℕ → ℕ
 cube_root_constant i = whole_root 3 (prime i * 2 ^ 90)
 
 -- ---- the functions
 
+-- the functions of three words, bit by bit
 abbrev pub f0 : ℕ → ℕ → ℕ → ℕ
 f0 x y z = bit_xor (bit_xor x y) z
 
@@ -73,6 +78,7 @@ f3 x y z = bit_or (bit_and x z) (bit_and y (bit_not w32 z))
 abbrev pub f4 : ℕ → ℕ → ℕ → ℕ
 f4 x y z = bit_xor x (bit_or y (bit_not w32 z))
 
+-- function number j
 abbrev pub function : ℕ → ℕ → ℕ → ℕ → ℕ
 function j = slice_index_or (f0 ∷ f1 ∷ f2 ∷ f3 ∷ f4 ∷ []) j f0
 

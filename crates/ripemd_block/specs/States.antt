@@ -4,7 +4,7 @@ use Rattle.std.specs.Prelude.{◌≡◌, ℕ, ◌+◌, ◌-◌, ◌*◌, ◌%◌
 use Rattle.std.specs.List.{All}
 use Rattle.ripemd_block.specs.Words.{word_bytes, length_bytes}
 use Rattle.ripemd_block.specs.Compression.{Variant}
-use Rattle.ripemd_block.specs.Hashing.{closed, blocks, left_over, walk}
+use Rattle.ripemd_block.specs.Hashing.{with_padding, blocks, left_over, walk}
 
 -- a list of n words
 pub record AreWords (n : ℕ) (xs : List ℕ) : Type 0 where
@@ -31,9 +31,9 @@ walked step h bs = record h { words = walk step h.words bs; count = (h.count + l
 unfoldable pub fed : (List ℕ → List ℕ → List ℕ) → Meaning → List ℕ → Meaning
 fed step h bytes = record (walked step h (blocks (h.tail ++ bytes))) { tail = left_over (h.tail ++ bytes) }
 
--- the digest from a state: the output of the words after the walk through the closed tail
+-- the digest of a state: the output of its words after the walk through its tail with the padding
 unfoldable pub finish : {D : Type 0} → (List ℕ → List ℕ → List ℕ) → (List ℕ → D) → Meaning → D
-finish step output h = output (walk step h.words (blocks (closed h.tail (8 * (length h.tail + 64 * h.count) % 2 ^ 64))))
+finish step output h = output (walk step h.words (blocks (with_padding h.tail (8 * (length h.tail + 64 * h.count) % 2 ^ 64))))
 
 -- a core's state with a tail behind its blocks
 abbrev pub with_tail : Meaning → List ℕ → Meaning

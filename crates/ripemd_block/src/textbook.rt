@@ -1,13 +1,18 @@
 //! The tables and functions of the 1996 paper as code, each equal to its definition in `specs/`, and
-//! proofs that the definitions give what the authors published.
+//! what is proved of the definitions themselves: that they give what the authors published, and
+//! their laws.
 
-ghost use Rattle.std.specs.Prelude.{◌≡◌, ◌<◌};
-ghost use Rattle.ripemd_block.specs.Words.{message_word};
+ghost use Rattle.std.specs.Prelude.{◌≡◌, ℕ, ◌+◌, ◌%◌, ◌<◌, List, [], ◌++◌, length};
+ghost use Rattle.ripemd_block.specs.Words.{message_word, word_bytes};
 ghost use Rattle.ripemd_block.specs.Schedule.{function, rotation, Line};
+ghost use Rattle.ripemd_block.specs.Compression.{Variant, compress};
+ghost use Rattle.ripemd_block.specs.Hashing.{zero_count, padded, ripemd};
+ghost use Rattle.ripemd_block.specs.States.{Meaning, IsState, new, fed, finish};
 ghost use Rattle.ripemd_block.specs.Sides.{line_of};
-ghost use Rattle.ripemd_block.specs.Published.{EmptyMessage, ThreeLetters, TwoBlocks, LeftWordOrder, RightWordOrder, ConstantsAsPublished, AreWholeRoots};
+ghost use Rattle.ripemd_block.specs.Published.{DigestsOfEmpty, DigestsOfAbc, DigestsOfTwoBlocks, OrderOfLeftLine, OrderOfRightLine, ConstantsOfLines, AreWholeRoots};
 
-// The numbers of the message words that the left line takes, by round and step.
+// The numbers of the message words that the left line takes, by round and step (1996, ordering of
+// the message words).
 const LEFT_ORDER: [[usize; 16]; 5] = [
     [0, 1, 2, 3, 4, 5, 6, 7, 8, 9, 10, 11, 12, 13, 14, 15],
     [7, 4, 13, 1, 10, 6, 15, 3, 12, 0, 9, 5, 2, 14, 11, 8],
@@ -25,7 +30,7 @@ const RIGHT_ORDER: [[usize; 16]; 5] = [
     [12, 15, 10, 4, 1, 5, 8, 7, 6, 2, 13, 14, 0, 3, 9, 11],
 ];
 
-// The amounts of the rotations, by round and message word.
+// The amounts of the rotations, by round and message word (1996, shifts).
 const ROTATIONS: [[u32; 16]; 5] = [
     [11, 14, 15, 12, 5, 8, 7, 9, 11, 13, 14, 15, 6, 7, 9, 8],
     [12, 13, 11, 15, 6, 9, 9, 7, 12, 15, 11, 13, 7, 8, 7, 7],
@@ -34,7 +39,7 @@ const ROTATIONS: [[u32; 16]; 5] = [
     [15, 12, 13, 13, 9, 5, 8, 6, 14, 11, 12, 11, 8, 6, 5, 5],
 ];
 
-// The constants of the left line's rounds, and of the right line's.
+// The constants of the left line's rounds, and of the right line's (1996, constants).
 const LEFT_CONSTANTS: [u32; 5] = [0, 0x5a82_7999, 0x6ed9_eba1, 0x8f1b_bcdc, 0xa953_fd4e];
 
 const RIGHT_CONSTANTS: [u32; 5] = [0x50a2_8be6, 0x5c4d_d124, 0x6d70_3ef3, 0x7a6d_76e9, 0];
@@ -92,7 +97,7 @@ pub(crate) fn rotation(r: usize, j: usize) -> u32
     ROTATIONS[r][j]
 }
 
-/// Function number `j` of the five, of three words.
+/// Function number `j` of the five, of three words (1996, Boolean functions).
 fn function(j: usize, x: u32, y: u32, z: u32) -> u32
     requires { j < 5 }
     ensures { result ≡ function j x y z }
@@ -119,20 +124,40 @@ pub(crate) fn message_word(block: &[u8; 64], j: usize) -> u32
     ])
 }
 
-/// The definitions give the published digests.
+/// The definitions give the digests that the authors published of the empty message, of "abc" and of
+/// a message of 56 bytes, for each of the four variants.
 pub fn published_digests()
-    ensures empty { EmptyMessage }
-    ensures three_letters { ThreeLetters }
-    ensures two_blocks { TwoBlocks }
+    ensures empty { DigestsOfEmpty }
+    ensures abc { DigestsOfAbc }
+    ensures two_blocks { DigestsOfTwoBlocks }
 {}
 
-/// The definitions give the published tables.
+/// The definitions give the published orders of the message words and the published constants, and
+/// the constants are the whole roots that they are said to be.
 pub fn published_tables()
-    ensures left { LeftWordOrder }
-    ensures right { RightWordOrder }
-    ensures constants { ConstantsAsPublished }
+    ensures left { OrderOfLeftLine }
+    ensures right { OrderOfRightLine }
+    ensures constants { ConstantsOfLines }
     ensures first { AreWholeRoots 0 }
     ensures second { AreWholeRoots 1 }
     ensures third { AreWholeRoots 2 }
     ensures fourth { AreWholeRoots 3 }
+{}
+
+/// The padding is as the 1996 paper says: the fewest zero bytes make the length 56 modulo 64, and a
+/// padded message is whole blocks.
+pub fn padding_laws()
+    ensures zeros { (n : ℕ) → (n + 1 + zero_count n) % 64 ≡ 56 }
+    ensures fewest { (n : ℕ) → zero_count n < 64 }
+    ensures whole { (message : List ℕ) → length (padded message) % 64 ≡ 0 }
+{}
+
+/// However a message comes in, its state is that of the whole message, and from there finishing
+/// gives its digest: for each block function, and for messages of every length.
+pub fn state_laws()
+    ensures nothing { (v : Variant) (h : Meaning) → IsState v h → fed (compress v) h [] ≡ h }
+    ensures joined { (step : List ℕ → List ℕ → List ℕ) (h : Meaning) (x y : List ℕ)
+        → fed step (fed step h x) y ≡ fed step h (x ++ y) }
+    ensures finished { (v : Variant) (message : List ℕ)
+        → finish (compress v) word_bytes (fed (compress v) (new v) message) ≡ ripemd v message }
 {}

@@ -1,17 +1,17 @@
 -- The definitions compute the digests.
 use Rattle.std.proofs.Common.{refl}
 use Rattle.ripemd_block.specs.Compression.{steps, lines_after, compress}
-use Rattle.ripemd_block.specs.Hashing.{closed, blocks, hash}
+use Rattle.ripemd_block.specs.Hashing.{with_padding, blocks, hash}
 use Rattle.ripemd_block.proofs.textbook.published_digests.Goals as goal
 
 pub returns-clause-empty : goal.returns-clause-empty
-unfolding steps lines_after compress closed blocks hash
+unfolding steps lines_after compress with_padding blocks hash
 returns-clause-empty c = record { of128 = refl; of160 = refl; of256 = refl; of320 = refl }
 
-pub returns-clause-three_letters : goal.returns-clause-three_letters
-unfolding steps lines_after compress closed blocks hash
-returns-clause-three_letters c = record { of128 = refl; of160 = refl; of256 = refl; of320 = refl }
+pub returns-clause-abc : goal.returns-clause-abc
+unfolding steps lines_after compress with_padding blocks hash
+returns-clause-abc c = record { of128 = refl; of160 = refl; of256 = refl; of320 = refl }
 
 pub returns-clause-two_blocks : goal.returns-clause-two_blocks
-unfolding steps lines_after compress closed blocks hash
+unfolding steps lines_after compress with_padding blocks hash
 returns-clause-two_blocks c = record { of128 = refl; of160 = refl; of256 = refl; of320 = refl }

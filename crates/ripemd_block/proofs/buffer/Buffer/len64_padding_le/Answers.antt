@@ -1,6 +1,6 @@
 use Rattle.std.proofs.Common.{arith, ◌≡◌, ◌<◌, ◌∷◌, ◌++◌, ◌-◌, length, replicate}
 use Rattle.std.proofs.lemmas.List.{length-take-le}
-use Rattle.ripemd_block.proofs.Padding.{closed_short, closed_long}
+use Rattle.ripemd_block.proofs.Padding.{with_padding_short, with_padding_long}
 use Rattle.ripemd_block.proofs.buffer.Buffer.len64_padding_le.Goals as goal
 use Rattle.ripemd_block.proofs.buffer.Buffer.len64_padding_le.Goals.{then-len-lt56, else-len-lt56}
 
@@ -11,6 +11,6 @@ returns-clause-value c =
     let fits : c.self.inside.len < 64 = c.self.invariant in
     let len : length tail ≡ c.self.inside.len = rw (← c.self.view_is) (length-take-le c.self.inside.len c.self.inside.bytes (omega arith)) in
     elim c.if-len-lt56.branch [
-      | then-len-lt56 w ↦ rw (w.result-is, w.with_length.ensures, marked) (closed_short tail c.args.bit_len (omega arith))
-      | else-len-lt56 w ↦ rw (w.result-is, w.with_length-else-len-lt56.ensures, marked) (closed_long tail c.args.bit_len (omega arith) (omega arith))
+      | then-len-lt56 w ↦ rw (w.result-is, w.with_length.ensures, marked) (with_padding_short tail c.args.bit_len (omega arith))
+      | else-len-lt56 w ↦ rw (w.result-is, w.with_length-else-len-lt56.ensures, marked) (with_padding_long tail c.args.bit_len (omega arith) (omega arith))
     ]

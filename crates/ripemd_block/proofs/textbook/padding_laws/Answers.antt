@@ -1,0 +1,12 @@
+use Rattle.std.proofs.Common.{ℕ, ◌*◌, ◌%◌, ◌^◌, List, ◌∷◌, ◌++◌, length, replicate, arith, length-append}
+use Rattle.std.proofs.lemmas.List.{length-replicate}
+use Rattle.ripemd_block.specs.Words.{length_bytes}
+use Rattle.ripemd_block.specs.Hashing.{zero_count, with_padding}
+use Rattle.ripemd_block.proofs.textbook.padding_laws.Goals as goal
+
+pub returns-clause-whole : goal.returns-clause-whole
+unfolding with_padding
+returns-clause-whole c = λ message.
+    let zeros : List ℕ = 0x80 ∷ replicate (zero_count (length message)) 0 in
+    let end : List ℕ = length_bytes (8 * length message % 2 ^ 64) in
+    omega (arith, length-append (message ++ zeros) end, length-append message zeros, length-replicate {A = ℕ} (zero_count (length message)) 0)
