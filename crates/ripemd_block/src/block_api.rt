@@ -11,6 +11,9 @@ use crate::buffer::Buffer;
 use crate::c160;
 use std::marker::Model;
 
+#[cfg(test)]
+mod tests;
+
 /// The kind of buffer that is emptied as soon as it holds a whole block.
 #[derive(Clone, Copy, PartialEq, Eq, Debug)]
 pub struct Eager;

@@ -7,6 +7,9 @@ ghost use Rattle.ripemd_block.specs.Hashing.{with_padding, blocks};
 
 use std::marker::Model;
 
+#[cfg(test)]
+mod tests;
+
 /// Fewer than 64 bytes of a message. Contracts see the list of its bytes.
 #[derive(Drop)]
 pub struct Buffer {
