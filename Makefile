@@ -1,9 +1,32 @@
-# make         build the program, proved
-# make check   the gate: every proof, wrong body and test from nothing, then the built program
-# make install copies the program to PREFIX/bin
-# CPU=x86-64-v3 builds for processors with AVX2
+# The habits of people who install software, over the toolchain's command `rt`.
+#
+#   make               builds the program, proved, as crates/ripemd_sum/out/ripemd_sum
+#   make check         the gate: every proof, every wrong body and every test from nothing, and then
+#                      the built program on its cases
+#   make install       copies the program to PREFIX/bin (PREFIX=/usr/local; DESTDIR goes in front)
+#   make clean         removes what was built
+#
+#   CPU=x86-64-v3      builds for processors with AVX2; without it, for the toolchain's default
 
-.PHONY: check
+PREFIX = /usr/local
+CPU =
+
+PROGRAM = crates/ripemd_sum/out/ripemd_sum
+
+.PHONY: all check install clean
+
+# `rt run` proves, builds and then runs the program, here on no input.
+all:
+	cd crates/ripemd_sum && rt run $(if $(CPU),--cpu $(CPU)) </dev/null >/dev/null
 
 check:
-	rt ci
+	tests/check
+
+install: $(PROGRAM)
+	install -D -m 755 $(PROGRAM) $(DESTDIR)$(PREFIX)/bin/ripemd_sum
+
+$(PROGRAM):
+	$(MAKE) all
+
+clean:
+	rm -rf crates/*/out
