@@ -1,10 +1,11 @@
 -- What the authors published of the four variants, as facts that these definitions compute to: the
 -- tables of the two lines, the constants, and digests.
-use Rattle.std.specs.Prelude.{◌≡◌, ℕ, ◌+◌, ◌*◌, ◌/◌, ◌%◌, ◌^◌, ◌<◌, ◌≤◌, List, [], ◌∷◌, map, slice_index, codes}
+use Rattle.std.specs.Prelude.{◌≡◌, ℕ, ◌+◌, ◌*◌, ◌/◌, ◌%◌, ◌^◌, ◌<◌, ◌≤◌, List, [], ◌∷◌, ◌++◌, replicate, map, slice_index, codes}
 use Rattle.std.specs.List.{flat_map, range_with_len}
 use Rattle.ripemd_block.specs.Schedule.{Line, left_line, right_line, prime, square_root_constant, cube_root_constant}
-use Rattle.ripemd_block.specs.Compression.{ripemd128, ripemd160, ripemd256, ripemd320}
+use Rattle.ripemd_block.specs.Compression.{ripemd128, ripemd160, ripemd256, ripemd320, compress}
 use Rattle.ripemd_block.specs.Hashing.{ripemd}
+use Rattle.ripemd_block.specs.States.{new, fed, core_bytes, hasher_bytes}
 
 -- ---- digests
 
@@ -88,3 +89,17 @@ pub record IsWholeRoot (e n k : ℕ) : Type 0 where
 pub record AreWholeRoots (i : ℕ) : Type 0 where
   pub square : IsWholeRoot 2 (prime i * 2 ^ 60) (square_root_constant i)
   pub cube : IsWholeRoot 3 (prime i * 2 ^ 90) (cube_root_constant i)
+
+-- ---- saved bytes
+
+-- the saved bytes of new cores: the start words, and the count 0
+pub record SavedCores : Type 0 where
+  pub of128 : hexadecimal (core_bytes (new ripemd128)) ≡ codes "0123456789abcdeffedcba98765432100000000000000000"
+  pub of160 : hexadecimal (core_bytes (new ripemd160)) ≡ codes "0123456789abcdeffedcba9876543210f0e1d2c30000000000000000"
+  pub of256 : hexadecimal (core_bytes (new ripemd256)) ≡ codes "0123456789abcdeffedcba98765432101032547698badcfeefcdab89674523010000000000000000"
+  pub of320 : hexadecimal (core_bytes (new ripemd320)) ≡ codes "0123456789abcdeffedcba9876543210f0e1d2c31032547698badcfeefcdab89674523010f1e2d3c0000000000000000"
+
+-- the saved bytes of a RIPEMD-160 hasher that was fed "abc": its core's, the length 3, the three
+-- bytes, and sixty zero bytes
+abbrev pub SavedHasher : Type 0
+SavedHasher = hasher_bytes (fed (compress ripemd160) (new ripemd160) (codes "abc")) ≡ core_bytes (new ripemd160) ++ 3 ∷ codes "abc" ++ replicate 60 0

@@ -39,7 +39,8 @@ finish step output h = output (walk step h.words (blocks (with_padding h.tail (8
 abbrev pub with_tail : Meaning → List ℕ → Meaning
 with_tail h tail = record h { tail = tail }
 
--- the states that a core or a hasher can be in: as many words as the variant has, a count below 2 ^ 64 and a tail of less than a block, whose elements are bytes
+-- the states that a core or a hasher can be in: as many words as the variant has, a count below
+-- 2 ^ 64, and a tail of fewer than 64 bytes
 pub record IsState (v : Variant) (h : Meaning) : Type 0 where
   pub words : AreWords (length v.start) h.words
   pub count : h.count < 2 ^ 64

@@ -9,7 +9,7 @@ ghost use Rattle.ripemd_block.specs.Compression.{Variant, compress};
 ghost use Rattle.ripemd_block.specs.Hashing.{zero_count, padded, ripemd};
 ghost use Rattle.ripemd_block.specs.States.{Meaning, IsState, new, fed, finish};
 ghost use Rattle.ripemd_block.specs.Sides.{line_of};
-ghost use Rattle.ripemd_block.specs.Published.{DigestsOfEmpty, DigestsOfAbc, DigestsOfTwoBlocks, OrderOfLeftLine, OrderOfRightLine, ConstantsOfLines, AreWholeRoots};
+ghost use Rattle.ripemd_block.specs.Published.{DigestsOfEmpty, DigestsOfAbc, DigestsOfTwoBlocks, OrderOfLeftLine, OrderOfRightLine, ConstantsOfLines, AreWholeRoots, SavedCores, SavedHasher};
 
 // The numbers of the message words that the left line takes, by round and step (1996, ordering of
 // the message words).
@@ -142,6 +142,13 @@ pub fn published_tables()
     ensures second { AreWholeRoots 1 }
     ensures third { AreWholeRoots 2 }
     ensures fourth { AreWholeRoots 3 }
+{}
+
+/// The definitions give the saved bytes of new cores of the four variants, and of a RIPEMD-160 hasher
+/// that was fed "abc".
+pub fn saved_states()
+    ensures cores { SavedCores }
+    ensures hasher { SavedHasher }
 {}
 
 /// The padding is as the 1996 paper says: the fewest zero bytes make the length 56 modulo 64, and a
