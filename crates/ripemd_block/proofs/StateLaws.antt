@@ -3,10 +3,11 @@
 use Rattle.std.proofs.Common.{◌≡◌, ℕ, ◌+◌, ◌*◌, ◌%◌, ◌^◌, ◌<◌, List, [], ◌∷◌, ◌++◌, length, replicate, refl, sym, ap, arith}
 use Rattle.std.proofs.lemmas.List.{append_assoc, append-nil}
 use Rattle.std.proofs.lemmas.List.Sums.{fold-append}
-use Rattle.ripemd_block.specs.Words.{length_bytes}
-use Rattle.ripemd_block.specs.Hashing.{zero_count, with_padding, blocks, left_over, hash}
+use Rattle.ripemd_block.specs.Words.{word_bytes, length_bytes}
+use Rattle.ripemd_block.specs.Compression.{Variant, compress}
+use Rattle.ripemd_block.specs.Hashing.{zero_count, with_padding, blocks, left_over, hash, ripemd}
 use Rattle.ripemd_block.proofs.BlockLaws.{blocks_of_short, left_over_of_short, blocks_of_one, left_over_of_one, length-blocks, length-left_over, blocks-append, left_over-append}
-use Rattle.ripemd_block.specs.States.{Meaning, walked, with_tail, fed, finish}
+use Rattle.ripemd_block.specs.States.{Meaning, new, walked, with_tail, fed, finish}
 use Rattle.ripemd_block.specs.WalkLaws.{walked_joined}
 
 -- ---- bytes
@@ -59,3 +60,7 @@ unfolding finish fed hash
 finish_fed start step output m =
     let bits : 8 * (length (left_over m) + 64 * ((0 + length (blocks m)) % 2 ^ 64)) % 2 ^ 64 ≡ 8 * length m % 2 ^ 64 = omega (arith, length-left_over m, length-blocks m) in
     rw (bits, with_padding_rest m (8 * length m % 2 ^ 64), fold-append step start (blocks m) (blocks (with_padding (left_over m) (8 * length m % 2 ^ 64)))) refl
+
+-- the digest of a message shorter than a block, from a new state with the message as its tail
+pub finish_short : (v : Variant) (m : List ℕ) → length m < 64 → finish (compress v) word_bytes (with_tail (new v) m) ≡ ripemd v m
+finish_short v m short = rw (← fed_short (compress v) (new v) m (omega arith) short) (finish_fed v.start (compress v) word_bytes m)
