@@ -3,6 +3,8 @@
 
 mod engine;
 mod fault;
+#[cfg(test)]
+mod tests;
 mod tracked;
 mod variant;
 

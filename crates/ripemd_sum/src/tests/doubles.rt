@@ -1,0 +1,128 @@
+//! A reader and a writer that give and take little at a call, and that fail when they are told to.
+
+use std::io;
+use std::io::{ErrorKind, Read, Write};
+
+/// The text of the faults that a reader or a writer of this module makes.
+pub const PLANNED: &str = "planned by the test";
+
+/// Which call of a reader or a writer fails, the first being 1, and with which kind of fault.
+#[derive(Clone, Copy)]
+struct Failure {
+    call: usize,
+    kind: ErrorKind,
+}
+
+/// Gives the bytes of a slice, at most `step` at a call, and counts its calls.
+#[derive(Drop)]
+pub struct SliceReader<'a> {
+    rest: &'a [u8],
+    step: usize,
+    failure: Option<Failure>,
+    pub calls: usize,
+}
+
+impl<'a> SliceReader<'a> {
+    pub fn new(bytes: &'a [u8], step: usize) -> Self {
+        SliceReader {
+            rest: bytes,
+            step,
+            failure: None,
+            calls: 0,
+        }
+    }
+
+    /// The same, but this call of it fails.
+    pub fn failing_at(self, call: usize, kind: ErrorKind) -> Self {
+        SliceReader {
+            failure: Some(Failure { call, kind }),
+            ..self
+        }
+    }
+}
+
+impl Read for SliceReader<'_> {
+    fn read(&mut self, buf: &mut [u8]) -> io::Result<usize> {
+        begin_call(&mut self.calls, self.failure)?;
+        let count = buf.len().min(self.rest.len()).min(self.step);
+        let (given, rest) = self.rest.split_at(count);
+        buf[..count].copy_from_slice(given);
+        self.rest = rest;
+        Ok(count)
+    }
+}
+
+/// Gives one byte again and again, as many as it is asked for, until none is left.
+#[derive(Drop)]
+pub struct RepeatingReader {
+    pub byte: u8,
+    pub left: usize,
+}
+
+impl Read for RepeatingReader {
+    fn read(&mut self, buf: &mut [u8]) -> io::Result<usize> {
+        let count = buf.len().min(self.left);
+        buf[..count].fill(self.byte);
+        self.left -= count;
+        Ok(count)
+    }
+}
+
+/// Keeps what it takes, at most `step` bytes at a call and 64 in all, and counts its calls.
+#[derive(Drop)]
+pub struct PageWriter {
+    page: [u8; 64],
+    len: usize,
+    step: usize,
+    failure: Option<Failure>,
+    pub calls: usize,
+}
+
+impl PageWriter {
+    pub fn new(step: usize) -> Self {
+        PageWriter {
+            page: [0; 64],
+            len: 0,
+            step,
+            failure: None,
+            calls: 0,
+        }
+    }
+
+    /// The same, but this call of it fails.
+    pub fn failing_at(self, call: usize, kind: ErrorKind) -> Self {
+        PageWriter {
+            failure: Some(Failure { call, kind }),
+            ..self
+        }
+    }
+
+    /// What it took.
+    pub fn written(&self) -> &[u8] {
+        &self.page[..self.len.min(64)]
+    }
+}
+
+impl Write for PageWriter {
+    fn write(&mut self, buf: &[u8]) -> io::Result<usize> {
+        begin_call(&mut self.calls, self.failure)?;
+        let free = &mut self.page[self.len.min(64)..];
+        let count = buf.len().min(free.len()).min(self.step);
+        free[..count].copy_from_slice(&buf[..count]);
+        self.len = self.len.saturating_add(count);
+        Ok(count)
+    }
+
+    fn flush(&mut self) -> io::Result<()> {
+        begin_call(&mut self.calls, self.failure)
+    }
+}
+
+// Counts a call, and fails if it is the one that is to fail.
+fn begin_call(calls: &mut usize, failure: Option<Failure>) -> io::Result<()> {
+    *calls = calls.saturating_add(1);
+    match failure {
+        Some(Failure { call, kind }) if call == *calls => Err(io::Error::new(kind, PLANNED)),
+        _ => Ok(()),
+    }
+}
