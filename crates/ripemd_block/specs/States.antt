@@ -39,13 +39,17 @@ finish step output h = output (walk step h.words (blocks (with_padding h.tail (8
 abbrev pub with_tail : Meaning → List ℕ → Meaning
 with_tail h tail = record h { tail = tail }
 
+-- the tails that a buffer can hold: fewer than 64 bytes
+pub record IsTail (tail : List ℕ) : Type 0 where
+  pub short : length tail < 64
+  pub bytes : All (λ b. b < 256) tail
+
 -- the states that a core or a hasher can be in: as many words as the variant has, a count below
--- 2 ^ 64, and a tail of fewer than 64 bytes
+-- 2 ^ 64, and a tail
 pub record IsState (v : Variant) (h : Meaning) : Type 0 where
   pub words : AreWords (length v.start) h.words
   pub count : h.count < 2 ^ 64
-  pub tail_length : length h.tail < 64
-  pub tail : All (λ b. b < 256) h.tail
+  pub tail : IsTail h.tail
 
 -- the states that a core can be in: it has no tail
 pub record IsCoreState (v : Variant) (h : Meaning) : Type 0 where

@@ -5,7 +5,7 @@ ghost use Rattle.std.specs.Prelude.{◌≡◌, ℕ, ◌+◌, ◌*◌, ◌%◌, �
 ghost use Rattle.ripemd_block.specs.Words.{word_bytes};
 ghost use Rattle.ripemd_block.specs.Compression.{compress, ripemd160};
 ghost use Rattle.ripemd_block.specs.Hashing.{walk};
-ghost use Rattle.ripemd_block.specs.States.{Meaning, IsCoreState, new, walked, with_tail, finish};
+ghost use Rattle.ripemd_block.specs.States.{Meaning, IsTail, IsCoreState, new, walked, with_tail, finish};
 
 use crate::buffer::Buffer;
 use crate::c160;
@@ -82,7 +82,8 @@ pub trait FixedOutputCore: UpdateCore + BufferKindUser + OutputSizeUser {
         ensures size { length (Self.bytes_of out.new) ≡ Self.OUTPUT_SIZE }
         ensures same_core { self.new ≡ self.old }
         ensures empty { buffer.new ≡ [] }
-        ensures valid { Self.is_core self.old };
+        ensures valid { Self.is_core self.old }
+        ensures valid_tail { IsTail buffer.old };
 }
 
 /// The block core of RIPEMD-160. Contracts see its words and its count of blocks modulo 2^64.

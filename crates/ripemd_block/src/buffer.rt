@@ -4,6 +4,7 @@ ghost use Rattle.std.specs.Prelude.{◌≡◌, ℕ, ◌+◌, ◌-◌, ◌<◌, �
 ghost use Rattle.std.specs.Option.{option_to_list};
 ghost use Rattle.ripemd_block.specs.Words.{length_bytes};
 ghost use Rattle.ripemd_block.specs.Hashing.{with_padding, blocks};
+ghost use Rattle.ripemd_block.specs.States.{IsTail};
 
 use std::marker::Model;
 
@@ -81,6 +82,7 @@ impl Buffer {
         ensures value { result.first ∷ option_to_list result.second ≡ blocks (with_padding self.old bit_len) }
         ensures second { IsSome result.second ↔ (56 ≤ length self.old) }
         ensures empty { self.new ≡ [] }
+        ensures valid { IsTail self.old }
     {
         let len = self.len;
         let marked = marked(&self.bytes[..len]);
@@ -102,7 +104,8 @@ impl Buffer {
 // The tail, the byte 80 (hexadecimal), and zero bytes to the end of the block.
 fn marked(tail: &[u8]) -> [u8; 64]
     requires { length tail.now < 64 }
-    ensures { result ≡ tail.now ++ 0x80 ∷ replicate (63 - length tail.now) 0 }
+    ensures block { result ≡ tail.now ++ 0x80 ∷ replicate (63 - length tail.now) 0 }
+    ensures valid { IsTail tail.now }
 {
     let len = tail.len();
     let mut block = [0; 64];

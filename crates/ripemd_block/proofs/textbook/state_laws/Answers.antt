@@ -4,7 +4,7 @@ use Rattle.ripemd_block.proofs.StateLaws.{fed_nothing, fed_twice, finish_fed}
 use Rattle.ripemd_block.proofs.textbook.state_laws.Goals as goal
 
 pub returns-clause-nothing : goal.returns-clause-nothing
-returns-clause-nothing c = λ v h valid. fed_nothing (compress v) h valid.count valid.tail_length
+returns-clause-nothing c = λ v h valid. fed_nothing (compress v) h valid.count valid.tail.short
 
 pub returns-clause-joined : goal.returns-clause-joined
 returns-clause-joined c = fed_twice

@@ -7,7 +7,7 @@ use Rattle.ripemd_block.proofs.buffer.Buffer.len64_padding_le.Goals.{then-len-lt
 pub returns-clause-value : goal.returns-clause-value
 returns-clause-value c =
     let tail = c.args.self.now in
-    let marked : c.marked-marked.result ≡ tail ++ 0x80 ∷ replicate (63 - length tail) 0 = rw (← c.self.view_is) c.marked-marked.ensures in
+    let marked : c.marked-marked.result ≡ tail ++ 0x80 ∷ replicate (63 - length tail) 0 = rw (← c.self.view_is) c.marked-marked.ensures.block in
     let fits : c.self.inside.len < 64 = c.self.invariant in
     let len : length tail ≡ c.self.inside.len = rw (← c.self.view_is) (length-take-le c.self.inside.len c.self.inside.bytes (omega arith)) in
     elim c.if-len-lt56.branch [
