@@ -1,4 +1,5 @@
 mod doubles;
+mod tracking;
 
 use crate::engine::run;
 use crate::fault::RunFault;
@@ -25,7 +26,7 @@ const ABC_LINE: &str = "8eb208f7e05d987a9b044a8e98c6b087f15a0bfc\n";
 
 const MILLION_LINE: &str = "52783243c1697bdbe16d37f97f68f08325dc1528\n";
 
-// What OpenSSL and a dozen other implementations give for "Hello world!" and the bytes 0 to 199.
+// What OpenSSL and other implementations agree on for "Hello world!" and for the bytes 0 to 199.
 const HELLO_LINE: &str = "7f772647d88750add82d8e1a7a3e5c0902a346a3\n";
 
 const RAMP_LINE: &str = "c315823ea8fe07a2dd18de4e545255afe3af0738\n";
@@ -312,48 +313,4 @@ fn chooses_by_the_words(rt: HostRuntime) -> Result<(), Fail> {
         assert_eq!(rt; choose(words.as_slice()), variant, "{texts:?}");
     }
     Ok(())
-}
-
-// A new one has not failed and has given nothing, and it gives back what it was made of.
-#[test]
-fn tracks_from_the_start(rt: HostRuntime) {
-    let tracked = Tracked::new(57);
-    assert!(rt; !tracked.failed());
-    assert_eq!(rt; tracked.taken(), 0);
-    assert_eq!(rt; tracked.into_inner(), 57);
-}
-
-// A read adds its count, and one that fails is marked and adds nothing.
-#[test]
-fn tracks_reads(rt: HostRuntime) {
-    let mut buffer = [0; 8];
-    let mut tracked = Tracked::new(SliceReader::new(HELLO, 5).failing_at(3, ErrorKind::TimedOut));
-    assert!(rt; matches!(tracked.read(&mut buffer), Ok(5)));
-    assert_eq!(rt; tracked.taken(), 5);
-    assert!(rt; matches!(tracked.read(&mut buffer), Ok(5)));
-    assert_eq!(rt; tracked.taken(), 10);
-    assert!(rt; !tracked.failed());
-
-    assert!(rt; matches!(tracked.read(&mut buffer), Err(e) if e.kind() == ErrorKind::TimedOut));
-    assert_eq!(rt; tracked.taken(), 10);
-    assert!(rt; tracked.failed());
-
-    assert!(rt; matches!(tracked.read(&mut buffer), Ok(2)));
-    assert_eq!(rt; tracked.taken(), 12);
-    assert!(rt; tracked.failed());
-    let _ = tracked.into_inner();
-}
-
-// A write adds nothing to what was given, and one that fails is marked.
-#[test]
-fn tracks_writes(rt: HostRuntime) {
-    let mut tracked = Tracked::new(PageWriter::new(64).failing_at(2, ErrorKind::StorageFull));
-    assert!(rt; tracked.write_all(b"abc").is_ok());
-    assert!(rt; !tracked.failed());
-    assert_eq!(rt; tracked.taken(), 0);
-
-    assert!(rt; tracked.write_all(b"def").is_err());
-    assert!(rt; tracked.failed());
-    assert_eq!(rt; tracked.taken(), 0);
-    assert_eq!(rt; tracked.into_inner().written(), b"abc".as_slice());
 }

@@ -1,0 +1,51 @@
+//! What a tracked reader or writer keeps.
+
+use super::doubles::{PageWriter, SliceReader};
+use crate::tracked::Tracked;
+use std::io::ErrorKind;
+
+// A new one has not failed and has given nothing, and it gives back what it was made of.
+#[test]
+fn tracks_from_the_start(rt: HostRuntime) {
+    let tracked = Tracked::new(57);
+    assert!(rt; !tracked.failed());
+    assert_eq!(rt; tracked.taken(), 0);
+    assert_eq!(rt; tracked.into_inner(), 57);
+}
+
+// A read adds its count, and one that fails is marked and adds nothing.
+#[test]
+fn tracks_reads(rt: HostRuntime) {
+    let mut buffer = [0; 8];
+    let reader = SliceReader::new(b"Hello world!", 5).failing_at(3, ErrorKind::TimedOut);
+    let mut tracked = Tracked::new(reader);
+    assert!(rt; matches!(tracked.read(&mut buffer), Ok(5)));
+    assert_eq!(rt; tracked.taken(), 5);
+    assert!(rt; matches!(tracked.read(&mut buffer), Ok(5)));
+    assert_eq!(rt; tracked.taken(), 10);
+    assert!(rt; !tracked.failed());
+
+    assert!(rt; matches!(tracked.read(&mut buffer), Err(e) if e.kind() == ErrorKind::TimedOut));
+    assert_eq!(rt; tracked.taken(), 10);
+    assert!(rt; tracked.failed());
+
+    assert!(rt; matches!(tracked.read(&mut buffer), Ok(2)));
+    assert_eq!(rt; tracked.taken(), 12);
+    assert!(rt; tracked.failed());
+    let _ = tracked.into_inner();
+}
+
+// A write adds nothing to what was given, and one that fails is marked.
+#[test]
+fn tracks_writes(rt: HostRuntime) {
+    let writer = PageWriter::new(64).failing_at(2, ErrorKind::StorageFull);
+    let mut tracked = Tracked::new(writer);
+    assert!(rt; tracked.write_all(b"abc").is_ok());
+    assert!(rt; !tracked.failed());
+    assert_eq!(rt; tracked.taken(), 0);
+
+    assert!(rt; tracked.write_all(b"def").is_err());
+    assert!(rt; tracked.failed());
+    assert_eq!(rt; tracked.taken(), 0);
+    assert_eq!(rt; tracked.into_inner().written(), b"abc".as_slice());
+}
