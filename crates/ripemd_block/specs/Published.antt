@@ -1,6 +1,6 @@
 -- What the authors published of the four variants, as facts that these definitions compute to: the
 -- tables of the two lines, the constants, and digests.
-use Rattle.std.specs.Prelude.{◌≡◌, ℕ, ◌+◌, ◌*◌, ◌/◌, ◌%◌, ◌^◌, ◌<◌, ◌≤◌, List, [], ◌∷◌, ◌++◌, replicate, map, slice_index, codes}
+use Rattle.std.specs.Prelude.{◌≡◌, ℕ, ◌+◌, ◌*◌, ◌/◌, ◌%◌, ◌^◌, ◌<◌, ◌≤◌, List, [], ◌∷◌, ◌++◌, replicate, drop, map, slice_index, codes}
 use Rattle.std.specs.List.{flat_map, range_with_len}
 use Rattle.ripemd_block.specs.Schedule.{Line, left_line, right_line, prime, square_root_constant, cube_root_constant}
 use Rattle.ripemd_block.specs.Compression.{ripemd128, ripemd160, ripemd256, ripemd320, compress}
@@ -103,3 +103,8 @@ pub record SavedCores : Type 0 where
 -- bytes, and sixty zero bytes
 abbrev pub SavedHasher : Type 0
 SavedHasher = hasher_bytes (fed (compress ripemd160) (new ripemd160) (codes "abc")) ≡ core_bytes (new ripemd160) ++ 3 ∷ codes "abc" ++ replicate 60 0
+
+-- behind the words of one that was fed 65 times the byte 61 (hexadecimal): the count 1 in eight
+-- bytes, the length 1, the one byte, and 62 zero bytes
+abbrev pub SavedBlockAndTail : Type 0
+SavedBlockAndTail = drop 20 (hasher_bytes (fed (compress ripemd160) (new ripemd160) (replicate 65 0x61))) ≡ 1 ∷ replicate 7 0 ++ 1 ∷ 0x61 ∷ replicate 62 0

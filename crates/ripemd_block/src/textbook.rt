@@ -2,14 +2,14 @@
 //! what is proved of the definitions themselves: that they give what the authors published, and
 //! their laws.
 
-ghost use Rattle.std.specs.Prelude.{◌≡◌, ℕ, ◌+◌, ◌%◌, ◌<◌, List, [], ◌++◌, length};
-ghost use Rattle.ripemd_block.specs.Words.{message_word, word_bytes};
+ghost use Rattle.std.specs.Prelude.{◌≡◌, ℕ, ◌+◌, ◌-◌, ◌*◌, ◌%◌, ◌^◌, ◌<◌, List, [], ◌++◌, length, drop};
+ghost use Rattle.ripemd_block.specs.Words.{message_word, word_bytes, length_bytes};
 ghost use Rattle.ripemd_block.specs.Schedule.{function, rotation, Line};
 ghost use Rattle.ripemd_block.specs.Compression.{Variant, compress};
 ghost use Rattle.ripemd_block.specs.Hashing.{zero_count, padded, ripemd};
 ghost use Rattle.ripemd_block.specs.States.{Meaning, IsState, new, fed, finish};
 ghost use Rattle.ripemd_block.specs.Sides.{line_of};
-ghost use Rattle.ripemd_block.specs.Published.{DigestsOfEmpty, DigestsOfAbc, DigestsOfTwoBlocks, OrderOfLeftLine, OrderOfRightLine, ConstantsOfLines, AreWholeRoots, SavedCores, SavedHasher};
+ghost use Rattle.ripemd_block.specs.Published.{DigestsOfEmpty, DigestsOfAbc, DigestsOfTwoBlocks, OrderOfLeftLine, OrderOfRightLine, ConstantsOfLines, AreWholeRoots, SavedCores, SavedHasher, SavedBlockAndTail};
 
 // The numbers of the message words that the left line takes, by round and step (1996, ordering of
 // the message words).
@@ -144,19 +144,23 @@ pub fn published_tables()
     ensures fourth { AreWholeRoots 3 }
 {}
 
-/// The definitions give the saved bytes of new cores of the four variants, and of a RIPEMD-160 hasher
-/// that was fed "abc".
+/// The definitions give the saved bytes of new cores of the four variants, of a RIPEMD-160 hasher that
+/// was fed "abc", and of one that was fed 65 bytes.
 pub fn saved_states()
     ensures cores { SavedCores }
     ensures hasher { SavedHasher }
+    ensures block_and_tail { SavedBlockAndTail }
 {}
 
-/// The padding is as the 1996 paper says: the fewest zero bytes make the length 56 modulo 64, and a
-/// padded message is whole blocks.
+/// The padding is as the 1996 paper says: the fewest zero bytes make the length 56 modulo 64, a
+/// padded message is whole blocks, and its last 8 bytes are the message's length in bits, as long as
+/// that is below 2^64.
 pub fn padding_laws()
     ensures zeros { (n : ℕ) → (n + 1 + zero_count n) % 64 ≡ 56 }
     ensures fewest { (n : ℕ) → zero_count n < 64 }
     ensures whole { (message : List ℕ) → length (padded message) % 64 ≡ 0 }
+    ensures length { (message : List ℕ) → length message < 2 ^ 61
+        → drop (length (padded message) - 8) (padded message) ≡ length_bytes (8 * length message) }
 {}
 
 /// However a message comes in, its state is that of the whole message, and from there finishing

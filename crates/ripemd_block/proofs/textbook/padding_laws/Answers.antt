@@ -1,5 +1,5 @@
-use Rattle.std.proofs.Common.{ℕ, ◌*◌, ◌%◌, ◌^◌, List, ◌∷◌, ◌++◌, length, replicate, arith, length-append}
-use Rattle.std.proofs.lemmas.List.{length-replicate}
+use Rattle.std.proofs.Common.{◌≡◌, ℕ, ◌*◌, ◌-◌, ◌%◌, ◌^◌, List, ◌∷◌, ◌++◌, length, replicate, ap, ◌∙◌, arith, length-append}
+use Rattle.std.proofs.lemmas.List.{length-replicate, drop_at}
 use Rattle.ripemd_block.specs.Words.{length_bytes}
 use Rattle.ripemd_block.specs.Hashing.{zero_count, with_padding}
 use Rattle.ripemd_block.proofs.textbook.padding_laws.Goals as goal
@@ -10,3 +10,12 @@ returns-clause-whole c = λ message.
     let zeros : List ℕ = 0x80 ∷ replicate (zero_count (length message)) 0 in
     let end : List ℕ = length_bytes (8 * length message % 2 ^ 64) in
     omega (arith, length-append (message ++ zeros) end, length-append message zeros, length-replicate {A = ℕ} (zero_count (length message)) 0)
+
+pub returns-clause-length : goal.returns-clause-length
+unfolding with_padding
+returns-clause-length c = λ message short.
+    let front : List ℕ = message ++ 0x80 ∷ replicate (zero_count (length message)) 0 in
+    let end : List ℕ = length_bytes (8 * length message % 2 ^ 64) in
+    let place : length front ≡ length (front ++ end) - 8 = omega (arith, length-append front end) in
+    let number : 8 * length message % 2 ^ 64 ≡ 8 * length message = omega (arith, short) in
+    drop_at front end (length (front ++ end) - 8) place ∙ ap length_bytes number
