@@ -13,7 +13,8 @@ fn tracks_from_the_start(rt: HostRuntime) {
     assert_eq!(rt; tracked.into_inner(), 57);
 }
 
-// A read adds its count, and one that fails is marked and adds nothing.
+// A read adds its count, and one that fails is marked and adds nothing. Each, also the one that finds
+// the end, is one call of the reader, with its answer.
 #[test]
 fn tracks_reads(rt: HostRuntime) {
     let mut buffer = [0; 8];
@@ -31,11 +32,13 @@ fn tracks_reads(rt: HostRuntime) {
 
     assert!(rt; matches!(tracked.read(&mut buffer), Ok(2)));
     assert_eq!(rt; tracked.taken(), 12);
+    assert!(rt; matches!(tracked.read(&mut buffer), Ok(0)));
     assert!(rt; tracked.failed());
-    let _ = tracked.into_inner();
+    assert_eq!(rt; tracked.into_inner().calls, 5);
 }
 
-// A write adds nothing to what was given, and one that fails is marked.
+// A write adds nothing to what was given, and one that fails is marked. Each is one call of the
+// writer, with its answer.
 #[test]
 fn tracks_writes(rt: HostRuntime) {
     let writer = PageWriter::new(64).failing_at(2, ErrorKind::StorageFull);
@@ -44,8 +47,11 @@ fn tracks_writes(rt: HostRuntime) {
     assert!(rt; !tracked.failed());
     assert_eq!(rt; tracked.taken(), 0);
 
-    assert!(rt; tracked.write_all(b"def").is_err());
+    let fault = tracked.write_all(b"def");
+    assert!(rt; matches!(fault, Err(e) if e.kind() == ErrorKind::StorageFull));
     assert!(rt; tracked.failed());
     assert_eq!(rt; tracked.taken(), 0);
-    assert_eq!(rt; tracked.into_inner().written(), b"abc".as_slice());
+    let writer = tracked.into_inner();
+    assert_eq!(rt; writer.written(), b"abc".as_slice());
+    assert_eq!(rt; writer.calls, 2);
 }
