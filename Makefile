@@ -17,7 +17,7 @@ PROGRAM = crates/ripemd_sum/out/ripemd_sum
 
 # `rt run` proves, builds and then runs the program, here on no input.
 all:
-	cd crates/ripemd_sum && rt run $(if $(CPU),--cpu $(CPU)) </dev/null >/dev/null
+	@cd crates/ripemd_sum && rt run $(if $(CPU),--cpu $(CPU)) </dev/null >/dev/null
 
 check:
 	tests/check
