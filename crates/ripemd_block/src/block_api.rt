@@ -67,7 +67,8 @@ pub trait UpdateCore: BlockSizeUser {
     ghost after_none: { (core : Self) → is_core core → after core [] ≡ core };
 
     // Some blocks and then others are both, joined.
-    ghost after_joined: { (core : Self) (xs ys : List (List ℕ)) → is_core core → after (after core xs) ys ≡ after core (xs ++ ys) };
+    ghost after_joined: { (core : Self) (xs ys : List (List ℕ)) → is_core core
+        → after (after core xs) ys ≡ after core (xs ++ ys) };
 }
 
 /// A core that gives a digest.

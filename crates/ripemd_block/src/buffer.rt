@@ -79,7 +79,8 @@ impl Buffer {
     /// blocks of these bytes, the byte 80 (hexadecimal), the fewest zero bytes that leave room for
     /// 8, and `bit_len` in 8 bytes, least first. The buffer is empty afterwards.
     pub fn len64_padding_le(&mut self, bit_len: u64) -> Padded
-        ensures value { result.first ∷ option_to_list result.second ≡ blocks (with_padding self.old bit_len) }
+        ensures value { result.first ∷ option_to_list result.second
+            ≡ blocks (with_padding self.old bit_len) }
         ensures second { IsSome result.second ↔ (56 ≤ length self.old) }
         ensures empty { self.new ≡ [] }
         ensures valid { IsTail self.old }

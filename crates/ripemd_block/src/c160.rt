@@ -15,7 +15,8 @@ fn step(side: Side, r: usize, i: usize, block: &[u8; 64], registers: [u32; 5]) -
     requires round { r < 5 }
     requires step { i < 16 }
     ensures { let line = line_of side in let j = line.word_number r i in
-        result ≡ step (line.function r) (message_word block.now j) (line.constant r) (rotation r j) registers }
+        result ≡ step (line.function r) (message_word block.now j) (line.constant r) (rotation r j)
+        registers }
 {
     let [a, b, c, d, e] = registers;
     let j = side.word_number(r, i);

@@ -18,9 +18,13 @@ use std::io::{Read, Write};
 /// Reads to the end of the reader, and writes the digest of all that it gave to the writer, as one
 /// line in lower case hexadecimal.
 ///
-/// It takes no memory, and nothing is written before the reader has ended. A reader that gives more
-/// than `limit` bytes is left within 4,096 bytes behind that. After a fault of the writer it is not
-/// known how much of the line went out.
+/// The reader is a new one: it has not failed and has given nothing; the writer has not failed. The
+/// run takes no memory, and nothing is written before the reader has ended.
+///
+/// The answer is `Read` with the fault of the first read that fails, which is not tried again;
+/// `TooLong` exactly if a byte comes after `limit` bytes, and then at most 4,096 bytes behind the
+/// limit were taken; or `Write` with the fault of the writer, and then it is not known how much of
+/// the line went out. Whichever comes first in the stream is answered.
 pub fn run<R: Read, W: Write>(
     variant: Variant,
     reader: &mut Tracked<R>,
@@ -33,7 +37,8 @@ pub fn run<R: Read, W: Write>(
     ensures ok { OnOk result ((message : List ℕ)
         × GivesAll R.remaining reader.old reader.new limit message
         × Gets W.contents writer.old writer.new (digest_line variant message)) }
-    ensures fault { IfErr result (ExplainsRun R.remaining reader.old reader.new writer.old writer.new limit) }
+    ensures fault { IfErr result
+        (ExplainsRun R.remaining reader.old reader.new writer.old writer.new limit) }
 {
     let mut line = [0; 41];
     match variant {

@@ -63,8 +63,11 @@ impl<R: Read> Tracked<R> {
     /// One call of the reader's own `read`, with its answer.
     pub fn read(&mut self, buffer: &mut [u8]) -> io::Result<usize>
         ensures bound { ReadsAtMost result buffer.new }
-        ensures bytes { ReadConsumes (R.remaining (inner_of self.old)) (R.remaining (inner_of self.new)) result buffer.new }
-        ensures failed { MatchResult result (λ _. has_failed self.new ≡ has_failed self.old) (λ _. has_failed self.new ≡ true) }
+        ensures bytes { ReadConsumes (R.remaining (inner_of self.old)) (R.remaining (inner_of self.new))
+            result buffer.new }
+        ensures failed { MatchResult result
+            (λ _. has_failed self.new ≡ has_failed self.old)
+            (λ _. has_failed self.new ≡ true) }
         ensures taken { MatchResult result
             (λ n. taken_of self.new ≡ min (taken_of self.old + n) (2 ^ 128 - 1))
             (λ _. taken_of self.new ≡ taken_of self.old) }
@@ -83,8 +86,11 @@ impl<W: Write> Tracked<W> {
 
     /// One call of the writer's own `write_all`, with its answer.
     pub fn write_all(&mut self, bytes: &[u8]) -> io::Result<()>
-        ensures bytes { OnOk result (Appends (W.contents (inner_of self.old)) (W.contents (inner_of self.new)) bytes.now) }
-        ensures failed { MatchResult result (λ _. has_failed self.new ≡ has_failed self.old) (λ _. has_failed self.new ≡ true) }
+        ensures bytes { OnOk result
+            (Appends (W.contents (inner_of self.old)) (W.contents (inner_of self.new)) bytes.now) }
+        ensures failed { MatchResult result
+            (λ _. has_failed self.new ≡ has_failed self.old)
+            (λ _. has_failed self.new ≡ true) }
         ensures taken { taken_of self.new ≡ taken_of self.old }
     {
         let outcome = self.inner.write_all(bytes);
