@@ -57,7 +57,7 @@ pub trait UpdateCore: BlockSizeUser {
     // A core after some blocks.
     ghost after: { Self → List (List ℕ) → Self };
 
-    /// Takes in blocks of 64 bytes in order.
+    /// Takes in blocks of 64 bytes in order; the count of blocks wraps at 2^64.
     fn update_blocks(&mut self, blocks: &[[u8; 64]])
         ensures after { self.new ≡ after self.old blocks.now }
         ensures valid_old { is_core self.old }
@@ -77,7 +77,8 @@ pub trait FixedOutputCore: UpdateCore + BufferKindUser + OutputSizeUser {
     ghost digest_of: { Self → List ℕ → Self.Output };
 
     /// Writes the digest of the message so far to `out`: of the core's blocks and the buffer's bytes
-    /// behind them. The core stays as it was, and the buffer is empty afterwards.
+    /// behind them, with the length in bits modulo 2^64. The core stays as it was, and the buffer is
+    /// empty afterwards.
     fn finalize_fixed_core(&mut self, buffer: &mut Buffer, out: &mut Self::Output)
         ensures digest { out.new ≡ digest_of self.old buffer.old }
         ensures size { length (Self.bytes_of out.new) ≡ Self.OUTPUT_SIZE }
@@ -87,7 +88,8 @@ pub trait FixedOutputCore: UpdateCore + BufferKindUser + OutputSizeUser {
         ensures valid_tail { IsTail buffer.old };
 }
 
-/// The block core of RIPEMD-160. Contracts see its words and its count of blocks modulo 2^64.
+/// The block core of RIPEMD-160 (1996, pseudo-code): five words, and the count of the blocks that
+/// they took in, modulo 2^64. Contracts see these, and no tail.
 #[derive(Drop)]
 pub struct Ripemd160Core {
     words: [u32; 5],

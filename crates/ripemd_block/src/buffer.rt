@@ -26,11 +26,12 @@ impl Model for Buffer {
     ghost invariant = { λ b. b.len < 64 };
 }
 
-/// The last block or the last two blocks of a padded message: `second` is there exactly if the tail
-/// left no room for the length behind it in `first`.
+/// The last block or the last two blocks of a padded message.
 #[derive(Clone, Copy, PartialEq, Eq, Debug)]
 pub struct Padded {
+    /// The block that begins with the tail.
     pub first: [u8; 64],
+    /// The block behind it, at a tail of 56 bytes or more.
     pub second: Option<[u8; 64]>,
 }
 
@@ -75,8 +76,8 @@ impl Buffer {
         &self.bytes[..self.len]
     }
 
-    /// Ends a message whose last bytes it holds, and whose length is `bit_len` in bits: gives the
-    /// blocks of these bytes, the byte 80 (hexadecimal), the fewest zero bytes that leave room for
+    /// Ends a message whose last bytes it holds, and whose length is `bit_len` in bits (1996, with the
+    /// padding of MD4): gives the blocks of these bytes, the byte 80 (hexadecimal), the fewest zero bytes that leave room for
     /// 8, and `bit_len` in 8 bytes, least first. The buffer is empty afterwards.
     pub fn len64_padding_le(&mut self, bit_len: u64) -> Padded
         ensures value { result.first ∷ option_to_list result.second

@@ -1,4 +1,4 @@
-//! The compression function of RIPEMD-160.
+//! The compression function of RIPEMD-160 (1996, pseudo-code).
 
 ghost use Rattle.std.specs.Prelude.{◌≡◌, ◌<◌, List, ℕ};
 ghost use Rattle.ripemd_block.specs.Words.{message_word};
