@@ -1,5 +1,5 @@
--- What the authors published of the four variants, as facts that these definitions compute to: the
--- tables of the two lines, the constants, and digests.
+-- What the authors published of the four variants, as facts that these definitions compute to:
+-- digests, the tables of the two lines, and the constants. Then some saved bytes.
 use Rattle.std.specs.Prelude.{◌≡◌, ℕ, ◌+◌, ◌*◌, ◌/◌, ◌%◌, ◌^◌, ◌<◌, ◌≤◌, List, [], ◌∷◌, ◌++◌, replicate, drop, map, slice_index, codes}
 use Rattle.std.specs.List.{flat_map, range_with_len}
 use Rattle.ripemd_block.specs.Schedule.{Line, left_line, right_line, prime, square_root_constant, cube_root_constant}
