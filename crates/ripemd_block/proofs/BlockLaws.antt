@@ -1,16 +1,13 @@
 -- Laws of the whole blocks of bytes and of what is left behind them.
-use Rattle.std.proofs.Common.{◌≡◌, ℕ, zero, suc, ◌+◌, ◌*◌, ◌/◌, ◌%◌, ◌<◌, ◌≤◌, List, [], ◌∷◌, ◌++◌, length, take, drop, refl, sym, ap, ◌∙◌, arith, length-append}
-use Rattle.std.proofs.lemmas.List.{length-drop, length-take-le, append_assoc, take-append-drop, take-append-le, drop-append-le, take_all, drop_all}
+use Rattle.std.proofs.Common.{◌≡◌, ℕ, zero, suc, ◌+◌, ◌*◌, ◌/◌, ◌%◌, ◌<◌, ◌≤◌, List, [], ◌∷◌, ◌++◌, length, take, drop, refl, sym, ap, ◌∙◌, arith, length-append, zero-add}
+use Rattle.std.proofs.lemmas.List.{length-drop, length-take-le, append_assoc, append-nil, take-append-drop, take-append-le, drop-append-le, take_all, drop_all}
 use Rattle.std.proofs.Math.Seq.{drop-append-add}
 use Rattle.std.specs.Simd.{first_chunks}
 use Rattle.ripemd_block.specs.Hashing.{blocks, left_over}
 
 -- the first chunks of bytes that begin with whole chunks
 first_chunks-append : (k j : ℕ) (a b : List ℕ) → length a ≡ k * 64 → first_chunks 64 (k + j) (a ++ b) ≡ first_chunks 64 k a ++ first_chunks 64 j b
-first_chunks-append zero j [] b h = rw (zero_first j) refl
-  where
-    zero_first : (j : ℕ) → 0 + j ≡ j
-    zero_first j = omega arith
+first_chunks-append zero j [] b h = rw (zero-add j) refl
 first_chunks-append zero j (x ∷ a) b h = absurd (omega arith)
 first_chunks-append (suc k) j a b h =
     let step : suc k + j ≡ suc (k + j) = omega arith in
@@ -85,11 +82,7 @@ blocks_of_whole : (a : List ℕ) → blocks (whole a) ≡ blocks a
 blocks_of_whole a =
     let split = blocks_joined (length a / 64) (whole a) (left_over a) (length-whole a) in
     let short : length (left_over a) < 64 = omega (arith, length-left_over a) in
-    sym (ap blocks (sym (whole_and_rest a)) ∙ split ∙ rw (blocks_of_short (left_over a) short) (no_more (blocks (whole a))))
-  where
-    no_more : (bs : List (List ℕ)) → bs ++ [] ≡ bs
-    no_more [] = refl
-    no_more (b ∷ bs) = ap (λ (cs : List (List ℕ)). b ∷ cs) (no_more bs)
+    sym (ap blocks (sym (whole_and_rest a)) ∙ split ∙ rw (blocks_of_short (left_over a) short) (append-nil (blocks (whole a))))
 
 -- what stands before the rest does not matter to what follows it
 pub blocks-append : (a b : List ℕ) → blocks (a ++ b) ≡ blocks a ++ blocks (left_over a ++ b)

@@ -19,14 +19,6 @@ marked_block tail ys byte short same =
 
 -- ---- a tail with its padding
 
--- a tail, a byte and zero bytes to the end of a block
-filled : List ℕ → List ℕ
-filled tail = tail ++ 0x80 ∷ replicate (63 - length tail) 0
-
-length-filled : (tail : List ℕ) → length tail < 64 → length (filled tail) ≡ 64
-unfolding filled
-length-filled tail h = omega (arith, length-append tail (0x80 ∷ replicate (63 - length tail) 0), length-replicate {A = ℕ} (63 - length tail) 0)
-
 pub with_padding_short : (tail : List ℕ) (n : ℕ) → length tail < 56
     → (take 56 (tail ++ 0x80 ∷ replicate (63 - length tail) 0) ++ length_bytes n) ∷ [] ≡ blocks (with_padding tail n)
 unfolding with_padding

@@ -7,7 +7,7 @@ use Rattle.ripemd_block.specs.Words.{word_bytes, length_bytes}
 use Rattle.ripemd_block.specs.Compression.{Variant, compress}
 use Rattle.ripemd_block.specs.Hashing.{zero_count, with_padding, blocks, left_over, hash, ripemd}
 use Rattle.ripemd_block.proofs.BlockLaws.{blocks_of_short, left_over_of_short, blocks_of_one, left_over_of_one, length-blocks, length-left_over, blocks-append, left_over-append}
-use Rattle.ripemd_block.specs.States.{Meaning, new, walked, with_tail, fed, finish}
+use Rattle.ripemd_block.specs.States.{Meaning, started, new, walked, with_tail, fed, finish}
 use Rattle.ripemd_block.specs.WalkLaws.{walked_joined}
 
 -- ---- bytes
@@ -55,7 +55,7 @@ with_padding_rest m n =
 -- a state that was fed a whole message from the start finishes as its hash: the count may have
 -- wrapped, and 8 * 64 * 2 ^ 64 is a multiple of 2 ^ 64
 pub finish_fed : {D : Type 0} (start : List ℕ) (step : List ℕ → List ℕ → List ℕ) (output : List ℕ → D) (m : List ℕ)
-    → finish step output (fed step (record { words = start; count = 0; tail = [] }) m) ≡ hash start step output m
+    → finish step output (fed step (started start) m) ≡ hash start step output m
 unfolding finish fed hash
 finish_fed start step output m =
     let bits : 8 * (length (left_over m) + 64 * ((0 + length (blocks m)) % 2 ^ 64)) % 2 ^ 64 ≡ 8 * length m % 2 ^ 64 = omega (arith, length-left_over m, length-blocks m) in

@@ -18,9 +18,13 @@ pub record Meaning : Type 0 where
   pub count : ℕ
   pub tail : List ℕ
 
--- the state before the first byte
+-- the state before the first byte, for a walk from some start words
+abbrev pub started : List ℕ → Meaning
+started start = record { words = start; count = 0; tail = [] }
+
+-- the same for a variant
 abbrev pub new : Variant → Meaning
-new v = record { words = v.start; count = 0; tail = [] }
+new v = started v.start
 
 -- the state after some blocks, which its tail does not touch
 abbrev pub walked : (List ℕ → List ℕ → List ℕ) → Meaning → List (List ℕ) → Meaning

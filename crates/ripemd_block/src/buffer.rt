@@ -76,9 +76,10 @@ impl Buffer {
         &self.bytes[..self.len]
     }
 
-    /// Ends a message whose last bytes it holds, and whose length is `bit_len` in bits (1996, with the
-    /// padding of MD4): gives the blocks of these bytes, the byte 80 (hexadecimal), the fewest zero bytes that leave room for
-    /// 8, and `bit_len` in 8 bytes, least first. The buffer is empty afterwards.
+    /// Ends a message whose last bytes it holds, and whose length is `bit_len` in bits (1996, with
+    /// the padding of MD4): gives the blocks of these bytes, the byte 80 (hexadecimal), the fewest
+    /// zero bytes that leave room for 8, and `bit_len` in 8 bytes, least first. The buffer is empty
+    /// afterwards.
     pub fn len64_padding_le(&mut self, bit_len: u64) -> Padded
         ensures value { result.first ∷ option_to_list result.second
             ≡ blocks (with_padding self.old bit_len) }

@@ -6,8 +6,8 @@ ghost use Rattle.std.specs.Prelude.{◌≡◌, ℕ, ◌+◌, ◌-◌, ◌*◌, �
 ghost use Rattle.ripemd_block.specs.Words.{message_word, word_bytes, length_bytes};
 ghost use Rattle.ripemd_block.specs.Schedule.{function, rotation, Line};
 ghost use Rattle.ripemd_block.specs.Compression.{Variant, compress};
-ghost use Rattle.ripemd_block.specs.Hashing.{zero_count, padded, ripemd};
-ghost use Rattle.ripemd_block.specs.States.{Meaning, IsState, new, fed, finish};
+ghost use Rattle.ripemd_block.specs.Hashing.{zero_count, padded, hash, ripemd};
+ghost use Rattle.ripemd_block.specs.States.{Meaning, started, new, fed, finish};
 ghost use Rattle.ripemd_block.specs.Sides.{line_of};
 ghost use Rattle.ripemd_block.specs.Published.{DigestsOfEmpty, DigestsOfAbc, DigestsOfTwoBlocks, OrderOfLeftLine, OrderOfRightLine, ConstantsOfLines, AreWholeRoots, SavedCores, SavedHasher, SavedBlockAndTail};
 
@@ -164,11 +164,16 @@ pub fn padding_laws()
 {}
 
 /// However a message comes in, its state is that of the whole message, and from there finishing
-/// gives its digest: for each block function, and for messages of every length.
+/// gives its hash: for each start, step and output of a block function, and for messages of every
+/// length. So for each of the four variants it gives the digest.
 pub fn state_laws()
-    ensures nothing { (v : Variant) (h : Meaning) → IsState v h → fed (compress v) h [] ≡ h }
+    ensures nothing { (step : List ℕ → List ℕ → List ℕ) (h : Meaning)
+        → h.count < 2 ^ 64 → length h.tail < 64 → fed step h [] ≡ h }
     ensures joined { (step : List ℕ → List ℕ → List ℕ) (h : Meaning) (x y : List ℕ)
         → fed step (fed step h x) y ≡ fed step h (x ++ y) }
-    ensures finished { (v : Variant) (message : List ℕ)
+    ensures finished { (start : List ℕ) (step : List ℕ → List ℕ → List ℕ) (output : List ℕ → List ℕ)
+        (message : List ℕ)
+        → finish step output (fed step (started start) message) ≡ hash start step output message }
+    ensures digest { (v : Variant) (message : List ℕ)
         → finish (compress v) word_bytes (fed (compress v) (new v) message) ≡ ripemd v message }
 {}
