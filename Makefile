@@ -3,10 +3,12 @@
 #   make               builds the program, proved, as crates/ripemd_sum/out/ripemd_sum
 #   make check         the gate: every proof, every wrong body and every test from nothing, and then
 #                      the built program on its cases
-#   make install       copies the program to PREFIX/bin (PREFIX=/usr/local; DESTDIR goes in front)
+#   make install       the same, and copies the program to PREFIX/bin (PREFIX=/usr/local; DESTDIR
+#                      goes in front)
 #   make clean         removes what was built
 #
-#   CPU=x86-64-v3      builds for processors with AVX2; without it, for the toolchain's default
+#   CPU=x86-64-v3      builds for processors with AVX2; without it, for the toolchain's default. Give
+#                      it to `make install` too.
 
 PREFIX = /usr/local
 CPU =
@@ -22,11 +24,8 @@ all:
 check:
 	tests/check
 
-install: $(PROGRAM)
+install: all
 	install -D -m 755 $(PROGRAM) $(DESTDIR)$(PREFIX)/bin/ripemd_sum
-
-$(PROGRAM):
-	$(MAKE) all
 
 clean:
 	rm -rf crates/*/out

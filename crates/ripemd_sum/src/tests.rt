@@ -1,4 +1,5 @@
 mod doubles;
+mod readme;
 mod tracking;
 
 use crate::engine::run;
@@ -227,7 +228,7 @@ fn writes_in_any_pieces(rt: HostRuntime) {
     assert_eq!(rt; done.writer.calls, 41);
 }
 
-// Whichever write fails, its fault is the answer, and none follows it.
+// Whichever write fails, other than by an interruption, its fault is the answer, and none follows it.
 #[test]
 fn answers_a_write_that_fails(rt: HostRuntime) -> Result<(), Fail> {
     for kind in [ErrorKind::BrokenPipe, ErrorKind::StorageFull] {
@@ -248,6 +249,17 @@ fn answers_a_write_that_fails(rt: HostRuntime) -> Result<(), Fail> {
         }
     }
     Ok(())
+}
+
+// A write that was interrupted is tried again, as the library's `write_all` does.
+#[test]
+fn goes_on_after_an_interrupted_write(rt: HostRuntime) {
+    for n in [1, 20, 41] {
+        let writer = PageWriter::new(1).failing_at(n, ErrorKind::Interrupted);
+        let done = finish(SliceReader::new(HELLO, 100), writer, AMPLE);
+        assert_eq!(rt; done.line(), Some(HELLO_LINE), "write {n}");
+        assert_eq!(rt; done.writer.calls, 42, "write {n}");
+    }
 }
 
 // The texts that the program prints.
