@@ -6,12 +6,13 @@ use Rattle.std.specs.Simd.{first_chunks}
 use Rattle.ripemd_block.specs.Words.{word_bytes, length_bytes}
 use Rattle.ripemd_block.specs.Compression.{Variant, compress}
 
--- how many zero bytes follow n bytes and the byte 80: the fewest that make the length 56 modulo 64
+-- how many zero bytes follow n bytes and the byte 80 (hexadecimal): the fewest that make the length
+-- 56 modulo 64
 abbrev pub zero_count : ℕ → ℕ
 zero_count n = (55 + 64 - n % 64) % 64
 
--- a message's last bytes with the padding behind them: the byte 80, zero bytes, and the length of
--- the whole message in bits
+-- a message's last bytes with the padding behind them: the byte 80 (hexadecimal), zero bytes, and
+-- the length of the whole message in bits
 unfoldable pub with_padding : List ℕ → ℕ → List ℕ
 with_padding tail bit_length = tail ++ 0x80 ∷ replicate (zero_count (length tail)) 0 ++ length_bytes bit_length
 

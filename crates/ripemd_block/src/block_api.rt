@@ -76,9 +76,9 @@ pub trait FixedOutputCore: UpdateCore + BufferKindUser + OutputSizeUser {
     // The digest of a core and the tail of the message behind its blocks.
     ghost digest_of: { Self → List ℕ → Self.Output };
 
-    /// Writes the digest of the message so far to `out`: of the core's blocks and the buffer's bytes
-    /// behind them, with the length in bits modulo 2^64. The core stays as it was, and the buffer is
-    /// empty afterwards.
+    /// Writes the digest of the message so far to `out`: of the core's blocks and the buffer's
+    /// bytes behind them, with the length in bits modulo 2^64. The core stays as it was, and the
+    /// buffer is empty afterwards.
     fn finalize_fixed_core(&mut self, buffer: &mut Buffer, out: &mut Self::Output)
         ensures digest { out.new ≡ digest_of self.old buffer.old }
         ensures size { length (Self.bytes_of out.new) ≡ Self.OUTPUT_SIZE }

@@ -1,6 +1,6 @@
-//! The tables and functions of the 1996 paper as code, each equal to its definition in `specs/`, and
-//! what is proved of the definitions themselves: that they give what the authors published, and
-//! their laws.
+//! The tables and functions of the 1996 paper as code, each equal to its definition in `specs/`,
+//! and what is proved of the definitions themselves: that they give what the authors published,
+//! and their laws.
 
 ghost use Rattle.std.specs.Prelude.{◌≡◌, ℕ, ◌+◌, ◌-◌, ◌*◌, ◌%◌, ◌^◌, ◌<◌, List, [], ◌++◌, length, drop};
 ghost use Rattle.ripemd_block.specs.Words.{message_word, word_bytes, length_bytes};
@@ -124,8 +124,8 @@ pub(crate) fn message_word(block: &[u8; 64], j: usize) -> u32
     ])
 }
 
-/// The definitions give the digests that the authors published of the empty message, of "abc" and of
-/// a message of 56 bytes, for each of the four variants.
+/// The definitions give the digests that the authors published of the empty message, of "abc" and
+/// of a message of 56 bytes, for each of the four variants.
 pub fn published_digests()
     ensures empty { DigestsOfEmpty }
     ensures abc { DigestsOfAbc }
@@ -138,14 +138,14 @@ pub fn published_tables()
     ensures left { OrderOfLeftLine }
     ensures right { OrderOfRightLine }
     ensures constants { ConstantsOfLines }
-    ensures first { AreWholeRoots 0 }
-    ensures second { AreWholeRoots 1 }
-    ensures third { AreWholeRoots 2 }
-    ensures fourth { AreWholeRoots 3 }
+    ensures roots_of_two { AreWholeRoots 0 }
+    ensures roots_of_three { AreWholeRoots 1 }
+    ensures roots_of_five { AreWholeRoots 2 }
+    ensures roots_of_seven { AreWholeRoots 3 }
 {}
 
-/// The definitions give the saved bytes of new cores of the four variants, of a RIPEMD-160 hasher that
-/// was fed "abc", and of one that was fed 65 bytes.
+/// The definitions give the saved bytes of new cores of the four variants, of a RIPEMD-160 hasher
+/// that was fed "abc", and of one that was fed 65 bytes.
 pub fn saved_states()
     ensures cores { SavedCores }
     ensures hasher { SavedHasher }
@@ -153,8 +153,8 @@ pub fn saved_states()
 {}
 
 /// The padding is as the 1996 paper says: the fewest zero bytes make the length 56 modulo 64, a
-/// padded message is whole blocks, and its last 8 bytes are the message's length in bits, as long as
-/// that is below 2^64.
+/// padded message is whole blocks, and its last 8 bytes are the message's length in bits, as long
+/// as that is below 2^64.
 pub fn padding_laws()
     ensures zeros { (n : ℕ) → (n + 1 + zero_count n) % 64 ≡ 56 }
     ensures fewest { (n : ℕ) → zero_count n < 64 }
@@ -164,8 +164,8 @@ pub fn padding_laws()
 {}
 
 /// However a message comes in, its state is that of the whole message, and from there finishing
-/// gives its hash: for each start, step and output of a block function, and for messages of every
-/// length. So for each of the four variants it gives the digest.
+/// gives its hash: for each start, step and output of a block function over lists of numbers, and
+/// for messages of every length. So for each of the four variants it gives the digest.
 pub fn state_laws()
     ensures nothing { (step : List ℕ → List ℕ → List ℕ) (h : Meaning)
         → h.count < 2 ^ 64 → length h.tail < 64 → fed step h [] ≡ h }

@@ -20,8 +20,8 @@ pub const USAGE: &str = "usage: ripemd_sum [128|160|256|320]";
 /// What the program prints, with status 3, where it cannot take its arguments.
 pub const NO_MEMORY: &str = "ripemd_sum: out of memory";
 
-/// The greatest length of the input in bytes, 2^61 - 1: the length in bits of a longer one needs more
-/// than 64 bits.
+/// The greatest length of the input in bytes, 2^61 - 1: the length in bits of a longer one needs
+/// more than 64 bits.
 const LIMIT: u64 = u64::MAX / 8;
 
 // The words behind the program's name.

@@ -228,7 +228,7 @@ fn writes_in_any_pieces(rt: HostRuntime) {
     assert_eq!(rt; done.writer.calls, 41);
 }
 
-// Whichever write fails, other than by an interruption, its fault is the answer, and none follows it.
+// Whichever write fails, but by an interruption, its fault is the answer, and none follows it.
 #[test]
 fn answers_a_write_that_fails(rt: HostRuntime) -> Result<(), Fail> {
     for kind in [ErrorKind::BrokenPipe, ErrorKind::StorageFull] {

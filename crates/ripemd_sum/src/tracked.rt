@@ -63,8 +63,8 @@ impl<R: Read> Tracked<R> {
     /// One call of the reader's own `read`, with its answer.
     pub fn read(&mut self, buffer: &mut [u8]) -> io::Result<usize>
         ensures bound { ReadsAtMost result buffer.new }
-        ensures bytes { ReadConsumes (R.remaining (inner_of self.old)) (R.remaining (inner_of self.new))
-            result buffer.new }
+        ensures bytes { ReadConsumes (R.remaining (inner_of self.old))
+            (R.remaining (inner_of self.new)) result buffer.new }
         ensures failed { MatchResult result
             (λ _. has_failed self.new ≡ has_failed self.old)
             (λ _. has_failed self.new ≡ true) }

@@ -13,8 +13,8 @@ fn tracks_from_the_start(rt: HostRuntime) {
     assert_eq!(rt; tracked.into_inner(), 57);
 }
 
-// A read adds its count, and one that fails is marked and adds nothing. Each, also the one that finds
-// the end, is one call of the reader, with its answer.
+// A read adds its count, and one that fails is marked and adds nothing. Each, also the one that
+// finds the end, is one call of the reader, with its answer.
 #[test]
 fn tracks_reads(rt: HostRuntime) {
     let mut buffer = [0; 8];
