@@ -6,7 +6,7 @@ use crate::engine::run;
 use crate::fault::RunFault;
 use crate::tracked::Tracked;
 use crate::variant::{Variant, choose};
-use crate::{NO_MEMORY, USAGE};
+use crate::{LIMIT, NO_MEMORY, USAGE};
 use doubles::{PLANNED, PageWriter, RepeatingReader, SliceReader};
 use std::alloc::{AllocError, Global};
 use std::io::{ErrorKind, Read};
@@ -284,6 +284,12 @@ fn prints_its_texts(rt: HostRuntime) -> Result<(), Fail> {
     assert_eq!(rt; USAGE, "usage: ripemd_sum [128|160|256|320]");
     assert_eq!(rt; NO_MEMORY, "ripemd_sum: out of memory");
     Ok(())
+}
+
+// The program's limit is the last length whose length in bits is below 2^64.
+#[test]
+fn limits_its_input(rt: HostRuntime) {
+    assert_eq!(rt; LIMIT, 2_305_843_009_213_693_951);
 }
 
 // The one name of a variant, and texts that are near it.
