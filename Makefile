@@ -1,10 +1,11 @@
-# The habits of people who install software, over the toolchain's command `rt`.
+# What people who install software are used to, over the toolchain's command `rt`.
 #
 #   make               builds the program, proved, as crates/ripemd_sum/out/ripemd_sum
 #   make check         the gate: every proof, every wrong body and every test from nothing, and then
 #                      the built program on its cases
-#   make install       the same, and copies the program to PREFIX/bin (PREFIX=/usr/local; DESTDIR
-#                      goes in front)
+#   make quick         the proofs and tests, without the wrong bodies and over what earlier runs kept
+#   make install       copies the program, built, to PREFIX/bin (PREFIX=/usr/local; DESTDIR goes in
+#                      front)
 #   make clean         removes what was built
 #
 #   CPU=x86-64-v3      builds for processors with AVX2; without it, for the toolchain's default. Give
@@ -15,14 +16,17 @@ CPU =
 
 PROGRAM = crates/ripemd_sum/out/ripemd_sum
 
-.PHONY: all check install clean
+.PHONY: all check quick install clean
 
 # `rt run` proves, builds and then runs the program, here on no input.
 all:
 	@cd crates/ripemd_sum && rt run $(if $(CPU),--cpu $(CPU)) </dev/null >/dev/null
 
 check:
-	tests/check
+	tests/check rt ci
+
+quick:
+	tests/check rt all test
 
 install: all
 	install -D -m 755 $(PROGRAM) $(DESTDIR)$(PREFIX)/bin/ripemd_sum

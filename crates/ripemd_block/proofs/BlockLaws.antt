@@ -1,12 +1,15 @@
--- Laws of the whole blocks of bytes and of what is left behind them.
-use Rattle.std.proofs.Common.{◌≡◌, ℕ, zero, suc, ◌+◌, ◌*◌, ◌/◌, ◌%◌, ◌<◌, ◌≤◌, List, [], ◌∷◌, ◌++◌, length, take, drop, refl, sym, ap, ◌∙◌, arith, length-append, zero-add}
-use Rattle.std.proofs.lemmas.List.{length-drop, length-take-le, append_assoc, append-nil, take-append-drop, take-append-le, drop-append-le, take_all, drop_all}
+-- Laws of the whole blocks of bytes, and of the bytes after them.
+use Rattle.std.proofs.Common.{◌≡◌, ℕ, zero, suc, ◌+◌, ◌*◌, ◌/◌, ◌%◌, ◌<◌, ◌≤◌, refl, sym, ap, ◌∙◌, arith, zero-add}
+use Rattle.std.proofs.Common.{List, [], ◌∷◌, ◌++◌, length, take, drop, length-append}
+use Rattle.std.proofs.lemmas.List.{append_assoc, append-nil, length-drop, length-take-le, take_all, drop_all}
+use Rattle.std.proofs.lemmas.List.{take-append-drop, take-append-le, drop-append-le}
 use Rattle.std.proofs.Math.Seq.{drop-append-add}
 use Rattle.std.specs.Simd.{first_chunks}
-use Rattle.ripemd_block.specs.Hashing.{blocks, left_over}
+use Rattle.ripemd_block.specs.Standard.Hashing.{blocks, partial_block}
 
 -- the first chunks of bytes that begin with whole chunks
-first_chunks-append : (k j : ℕ) (a b : List ℕ) → length a ≡ k * 64 → first_chunks 64 (k + j) (a ++ b) ≡ first_chunks 64 k a ++ first_chunks 64 j b
+first_chunks-append : (k j : ℕ) (a b : List ℕ) → length a ≡ k * 64
+    → first_chunks 64 (k + j) (a ++ b) ≡ first_chunks 64 k a ++ first_chunks 64 j b
 first_chunks-append zero j [] b h = rw (zero-add j) refl
 first_chunks-append zero j (x ∷ a) b h = absurd (omega arith)
 first_chunks-append (suc k) j a b h =
@@ -17,6 +20,7 @@ first_chunks-append (suc k) j a b h =
 
 -- ---- bytes that begin with whole blocks
 
+-- their blocks are those, and then the blocks of the bytes that follow
 pub blocks_joined : (k : ℕ) (a b : List ℕ) → length a ≡ k * 64 → blocks (a ++ b) ≡ blocks a ++ blocks b
 unfolding blocks
 blocks_joined k a b h =
@@ -24,35 +28,42 @@ blocks_joined k a b h =
     let front : length a / 64 ≡ k = omega arith in
     rw (both, front) (first_chunks-append k (length b / 64) a b h)
 
-pub left_over_joined : (k : ℕ) (a b : List ℕ) → length a ≡ k * 64 → left_over (a ++ b) ≡ left_over b
-unfolding left_over
+-- what is left over is what the bytes that follow leave over
+pub left_over_joined : (k : ℕ) (a b : List ℕ) → length a ≡ k * 64 → partial_block (a ++ b) ≡ partial_block b
+unfolding partial_block
 left_over_joined k a b h =
     let place : length (a ++ b) / 64 * 64 ≡ length a + length b / 64 * 64 = omega (arith, length-append a b) in
     rw place (drop-append-add a b (length b / 64 * 64))
 
--- ---- fewer bytes than a block, and one block
+-- ---- fewer bytes than a block, one block, and two
 
+-- fewer bytes than a block have no block
 pub blocks_of_short : (a : List ℕ) → length a < 64 → blocks a ≡ []
 unfolding blocks
 blocks_of_short a h = let none : length a / 64 ≡ 0 = omega arith in rw none refl
 
-pub left_over_of_short : (a : List ℕ) → length a < 64 → left_over a ≡ a
-unfolding left_over
+-- fewer bytes than a block are all left over
+pub left_over_of_short : (a : List ℕ) → length a < 64 → partial_block a ≡ a
+unfolding partial_block
 left_over_of_short a h = let none : length a / 64 * 64 ≡ 0 = omega arith in rw none refl
 
+-- the bytes of a block have that one block
 pub blocks_of_one : (a : List ℕ) → length a ≡ 64 → blocks a ≡ a ∷ []
 unfolding blocks
 blocks_of_one a h = rw (h, take_all 64 a (omega arith)) refl
 
-pub left_over_of_one : (a : List ℕ) → length a ≡ 64 → left_over a ≡ []
-unfolding left_over
+-- the bytes of a block leave nothing over
+pub left_over_of_one : (a : List ℕ) → length a ≡ 64 → partial_block a ≡ []
+unfolding partial_block
 left_over_of_one a h = rw h (drop_all 64 a (omega arith))
 
+-- the bytes of two blocks have those two
 pub blocks_of_two : (a b : List ℕ) → length a ≡ 64 → length b ≡ 64 → blocks (a ++ b) ≡ a ∷ b ∷ []
 blocks_of_two a b ha hb = rw (blocks_joined 1 a b ha, blocks_of_one a ha, blocks_of_one b hb) refl
 
 -- ---- bytes taken apart
 
+-- how many whole blocks there are
 pub length-blocks : (a : List ℕ) → length (blocks a) ≡ length a / 64
 unfolding blocks
 length-blocks a = length-first_chunks (length a / 64) a
@@ -61,36 +72,45 @@ length-blocks a = length-first_chunks (length a / 64) a
     length-first_chunks zero a = refl
     length-first_chunks (suc k) a = ap suc (length-first_chunks k (drop 64 a))
 
-pub length-left_over : (a : List ℕ) → length (left_over a) ≡ length a % 64
-unfolding left_over
-length-left_over a = omega (arith, length-drop (length a / 64 * 64) a)
+-- how many bytes follow the whole blocks
+pub length-partial_block : (a : List ℕ) → length (partial_block a) ≡ length a % 64
+unfolding partial_block
+length-partial_block a = omega (arith, length-drop (length a / 64 * 64) a)
 
 -- the bytes of the whole blocks
-whole : List ℕ → List ℕ
-whole a = take (length a / 64 * 64) a
+whole_part : List ℕ → List ℕ
+whole_part a = take (length a / 64 * 64) a
 
-length-whole : (a : List ℕ) → length (whole a) ≡ length a / 64 * 64
-unfolding whole
-length-whole a = length-take-le (length a / 64 * 64) a (omega arith)
+-- how many bytes these are
+length-whole_part : (a : List ℕ) → length (whole_part a) ≡ length a / 64 * 64
+unfolding whole_part
+length-whole_part a = length-take-le (length a / 64 * 64) a (omega arith)
 
-whole_and_rest : (a : List ℕ) → whole a ++ left_over a ≡ a
-unfolding whole left_over
-whole_and_rest a = take-append-drop (length a / 64 * 64) a
+-- the whole part and the bytes after it are all
+whole_part-append : (a : List ℕ) → whole_part a ++ partial_block a ≡ a
+unfolding whole_part partial_block
+whole_part-append a = take-append-drop (length a / 64 * 64) a
+
+-- bytes with others after them, split after the whole blocks of the first
+append-whole_part : (a b : List ℕ) → a ++ b ≡ whole_part a ++ (partial_block a ++ b)
+append-whole_part a b =
+    ap (λ (x : List ℕ). x ++ b) (sym (whole_part-append a)) ∙ append_assoc (whole_part a) (partial_block a) b
 
 -- the blocks of the whole part are those of all
-blocks_of_whole : (a : List ℕ) → blocks (whole a) ≡ blocks a
-blocks_of_whole a =
-    let split = blocks_joined (length a / 64) (whole a) (left_over a) (length-whole a) in
-    let short : length (left_over a) < 64 = omega (arith, length-left_over a) in
-    sym (ap blocks (sym (whole_and_rest a)) ∙ split ∙ rw (blocks_of_short (left_over a) short) (append-nil (blocks (whole a))))
+blocks-whole_part : (a : List ℕ) → blocks (whole_part a) ≡ blocks a
+blocks-whole_part a =
+    let short : length (partial_block a) < 64 = omega (arith, length-partial_block a) in
+    let split = blocks_joined (length a / 64) (whole_part a) (partial_block a) (length-whole_part a) in
+    sym (rw (whole_part-append a, blocks_of_short (partial_block a) short, append-nil (blocks (whole_part a))) at split)
 
--- what stands before the rest does not matter to what follows it
-pub blocks-append : (a b : List ℕ) → blocks (a ++ b) ≡ blocks a ++ blocks (left_over a ++ b)
+-- of the bytes so far only those after the whole blocks matter to the blocks that follow
+pub blocks-append : (a b : List ℕ) → blocks (a ++ b) ≡ blocks a ++ blocks (partial_block a ++ b)
 blocks-append a b =
-    let e : a ++ b ≡ whole a ++ (left_over a ++ b) = ap (λ (x : List ℕ). x ++ b) (sym (whole_and_rest a)) ∙ append_assoc (whole a) (left_over a) b in
-    rw e (blocks_joined (length a / 64) (whole a) (left_over a ++ b) (length-whole a) ∙ ap (λ (bs : List (List ℕ)). bs ++ blocks (left_over a ++ b)) (blocks_of_whole a))
+    let split = blocks_joined (length a / 64) (whole_part a) (partial_block a ++ b) (length-whole_part a) in
+    rw (append-whole_part a b) (rw (blocks-whole_part a) at split)
 
-pub left_over-append : (a b : List ℕ) → left_over (a ++ b) ≡ left_over (left_over a ++ b)
-left_over-append a b =
-    let e : a ++ b ≡ whole a ++ (left_over a ++ b) = ap (λ (x : List ℕ). x ++ b) (sym (whole_and_rest a)) ∙ append_assoc (whole a) (left_over a) b in
-    ap left_over e ∙ left_over_joined (length a / 64) (whole a) (left_over a ++ b) (length-whole a)
+-- of the bytes so far only those after the whole blocks matter to what is left over in the end
+pub partial_block-append : (a b : List ℕ) → partial_block (a ++ b) ≡ partial_block (partial_block a ++ b)
+partial_block-append a b =
+    let split = left_over_joined (length a / 64) (whole_part a) (partial_block a ++ b) (length-whole_part a) in
+    rw (append-whole_part a b) split

@@ -1,9 +1,12 @@
 -- A finished state is the output of the walk through the last blocks.
 use Rattle.std.proofs.Common.{◌≡◌, ℕ, ◌+◌, ◌*◌, ◌%◌, ◌^◌, List, length, refl}
-use Rattle.ripemd_block.specs.Hashing.{with_padding, blocks, walk}
+use Rattle.ripemd_block.specs.Standard.Hashing.{with_padding, blocks, walk}
 use Rattle.ripemd_block.specs.States.{Meaning, with_tail, finish}
 
-pub finish_of_blocks : {D : Type 0} (step : List ℕ → List ℕ → List ℕ) (output : List ℕ → D) (h : Meaning) (tail : List ℕ) (bit_length : ℕ) (bs : List (List ℕ))
-    → bs ≡ blocks (with_padding tail bit_length) → bit_length ≡ 8 * (length tail + 64 * h.count) % 2 ^ 64 → output (walk step h.words bs) ≡ finish step output (with_tail h tail)
+-- the blocks are those of the tail with its padding, and the length is that of the whole message
+pub finish_of_blocks : {D : Type 0} (step : List ℕ → List ℕ → List ℕ) (output : List ℕ → D) (h : Meaning)
+    (tail : List ℕ) {bit_length : ℕ} {bs : List (List ℕ)} → bs ≡ blocks (with_padding tail bit_length)
+    → bit_length ≡ 8 * (length tail + 64 * h.count) % 2 ^ 64
+    → output (walk step h.words bs) ≡ finish step output (with_tail h tail)
 unfolding finish
-finish_of_blocks step output h tail bit_length bs blocks_are length_is = rw (blocks_are, length_is) refl
+finish_of_blocks step output h tail blocks_are length_is = rw (blocks_are, length_is) refl

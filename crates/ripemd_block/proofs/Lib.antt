@@ -3,3 +3,4 @@ pub mod Compressing
 pub mod Finishing
 pub mod Padding
 pub mod StateLaws
+pub mod Tables

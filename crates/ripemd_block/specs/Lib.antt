@@ -1,8 +1,8 @@
-pub mod Words
-pub mod Schedule
-pub mod Compression
-pub mod Hashing
+-- The standard's definitions, and those of a hash under way: what has to be believed.
+pub mod Standard
 pub mod States
-pub mod WalkLaws
+-- What the authors published, as facts of these definitions.
 pub mod Published
-pub mod Sides
+-- Words about the code's own types, and laws that the code cites: proved, not to be believed.
+pub mod Code
+pub mod Laws

@@ -1,11 +1,13 @@
 -- What the authors published of the four variants, as facts that these definitions compute to:
 -- digests, the tables of the two lines, and the constants. Then some saved bytes.
-use Rattle.std.specs.Prelude.{◌≡◌, ℕ, ◌+◌, ◌*◌, ◌/◌, ◌%◌, ◌^◌, ◌<◌, ◌≤◌, List, [], ◌∷◌, ◌++◌, replicate, drop, map, slice_index, codes}
+use Rattle.std.specs.Prelude.{◌≡◌, ℕ, ◌+◌, ◌*◌, ◌/◌, ◌%◌, ◌^◌, ◌<◌, ◌≤◌, codes}
+use Rattle.std.specs.Prelude.{List, [], ◌∷◌, ◌++◌, replicate, drop, map, slice_index}
 use Rattle.std.specs.List.{flat_map, range_with_len}
-use Rattle.ripemd_block.specs.Schedule.{Line, left_line, right_line, prime, square_root_constant, cube_root_constant}
-use Rattle.ripemd_block.specs.Compression.{ripemd128, ripemd160, ripemd256, ripemd320, compress}
-use Rattle.ripemd_block.specs.Hashing.{ripemd}
-use Rattle.ripemd_block.specs.States.{new, fed, core_bytes, hasher_bytes}
+use Rattle.ripemd_block.specs.Standard.Schedule.{Line, left_line, right_line}
+use Rattle.ripemd_block.specs.Standard.Schedule.{prime, square_root_constant, cube_root_constant}
+use Rattle.ripemd_block.specs.Standard.Compression.{ripemd128, ripemd160, ripemd256, ripemd320, compress}
+use Rattle.ripemd_block.specs.Standard.Hashing.{ripemd}
+use Rattle.ripemd_block.specs.States.{new_state, fed, core_bytes, hasher_bytes}
 
 -- ---- digests
 
@@ -94,17 +96,24 @@ pub record AreWholeRoots (i : ℕ) : Type 0 where
 
 -- the saved bytes of new cores: the start words, and the count 0
 pub record SavedCores : Type 0 where
-  pub of128 : hexadecimal (core_bytes (new ripemd128)) ≡ codes "0123456789abcdeffedcba98765432100000000000000000"
-  pub of160 : hexadecimal (core_bytes (new ripemd160)) ≡ codes "0123456789abcdeffedcba9876543210f0e1d2c30000000000000000"
-  pub of256 : hexadecimal (core_bytes (new ripemd256)) ≡ codes "0123456789abcdeffedcba98765432101032547698badcfeefcdab89674523010000000000000000"
-  pub of320 : hexadecimal (core_bytes (new ripemd320)) ≡ codes "0123456789abcdeffedcba9876543210f0e1d2c31032547698badcfeefcdab89674523010f1e2d3c0000000000000000"
+  pub of128 : hexadecimal (core_bytes (new_state ripemd128)) ≡ codes "0123456789abcdeffedcba98765432100000000000000000"
+  pub of160 : hexadecimal (core_bytes (new_state ripemd160))
+      ≡ codes "0123456789abcdeffedcba9876543210f0e1d2c30000000000000000"
+  pub of256 : hexadecimal (core_bytes (new_state ripemd256))
+      ≡ codes "0123456789abcdeffedcba98765432101032547698badcfeefcdab89674523010000000000000000"
+  pub of320 : hexadecimal (core_bytes (new_state ripemd320))
+      ≡ codes "0123456789abcdeffedcba9876543210f0e1d2c31032547698badcfeefcdab89674523010f1e2d3c0000000000000000"
 
 -- the saved bytes of a RIPEMD-160 hasher that was fed "abc": its core's, the length 3, the three
 -- bytes, and sixty zero bytes
 abbrev pub SavedHasher : Type 0
-SavedHasher = hasher_bytes (fed (compress ripemd160) (new ripemd160) (codes "abc")) ≡ core_bytes (new ripemd160) ++ 3 ∷ codes "abc" ++ replicate 60 0
+SavedHasher =
+    hasher_bytes (fed (compress ripemd160) (new_state ripemd160) (codes "abc"))
+    ≡ core_bytes (new_state ripemd160) ++ 3 ∷ codes "abc" ++ replicate 60 0
 
--- behind the words of one that was fed 65 times the byte 61 (hexadecimal): the count 1 in eight
--- bytes, the length 1, the one byte, and 62 zero bytes
+-- after the words, those of one that was fed 65 times the byte 0x61: the count 1 in eight bytes, the
+-- length 1, the one byte, and 62 zero bytes
 abbrev pub SavedBlockAndTail : Type 0
-SavedBlockAndTail = drop 20 (hasher_bytes (fed (compress ripemd160) (new ripemd160) (replicate 65 0x61))) ≡ 1 ∷ replicate 7 0 ++ 1 ∷ 0x61 ∷ replicate 62 0
+SavedBlockAndTail =
+    drop 20 (hasher_bytes (fed (compress ripemd160) (new_state ripemd160) (replicate 65 0x61)))
+    ≡ 1 ∷ replicate 7 0 ++ 1 ∷ 0x61 ∷ replicate 62 0

@@ -1,70 +1,82 @@
--- What a core or a hasher stands for while a message comes in, how it takes bytes in, how it is
--- finished, and the bytes that it is saved as.
+-- A hash under way (this repository's own): what a core or a hasher stands for while a message
+-- comes in, how it takes bytes in, how it is finished, and the bytes that it is saved as.
 use Rattle.std.specs.Prelude.{◌≡◌, ℕ, ◌+◌, ◌-◌, ◌*◌, ◌%◌, ◌^◌, ◌<◌, List, [], ◌∷◌, ◌++◌, length, replicate}
 use Rattle.std.specs.List.{All}
-use Rattle.ripemd_block.specs.Words.{word_bytes, length_bytes}
-use Rattle.ripemd_block.specs.Compression.{Variant}
-use Rattle.ripemd_block.specs.Hashing.{with_padding, blocks, left_over, walk}
+use Rattle.ripemd_block.specs.Standard.Words.{block_size, word_bytes, eight_bytes}
+use Rattle.ripemd_block.specs.Standard.Compression.{Parameters}
+use Rattle.ripemd_block.specs.Standard.Hashing.{with_padding, blocks, partial_block, walk}
 
--- a list of n words
-pub record AreWords (n : ℕ) (xs : List ℕ) : Type 0 where
-  pub count : length xs ≡ n
-  pub fit : All (λ w. w < 2 ^ 32) xs
+-- ---- the state
 
--- a state of a hash under way: the words after the whole blocks so far, how many those were modulo
--- 2 ^ 64, and the tail of bytes behind them
+-- a hash under way: the words after the whole blocks so far, how many those were modulo 2 ^ 64, and
+-- the tail of bytes after them
 pub record Meaning : Type 0 where
   pub words : List ℕ
   pub count : ℕ
   pub tail : List ℕ
 
 -- the state before the first byte, for a walk from some start words
-abbrev pub started : List ℕ → Meaning
-started start = record { words = start; count = 0; tail = [] }
+abbrev pub initial_state : List ℕ → Meaning
+initial_state start = record { words = start; count = 0; tail = [] }
 
 -- the same for a variant
-abbrev pub new : Variant → Meaning
-new v = started v.start
+abbrev pub new_state : Parameters → Meaning
+new_state v = initial_state v.start
 
--- the state after some blocks, which its tail does not touch
-abbrev pub walked : (List ℕ → List ℕ → List ℕ) → Meaning → List (List ℕ) → Meaning
-walked step h bs = record h { words = walk step h.words bs; count = (h.count + length bs) % 2 ^ 64 }
-
--- the state after some bytes: a walk through the whole blocks of the tail and the bytes, and what
--- is left of them
-unfoldable pub fed : (List ℕ → List ℕ → List ℕ) → Meaning → List ℕ → Meaning
-fed step h bytes = record (walked step h (blocks (h.tail ++ bytes))) { tail = left_over (h.tail ++ bytes) }
-
--- the digest of a state: the output of its words after the walk through its tail with the padding
-unfoldable pub finish : {D : Type 0} → (List ℕ → List ℕ → List ℕ) → (List ℕ → D) → Meaning → D
-finish step output h = output (walk step h.words (blocks (with_padding h.tail (8 * (length h.tail + 64 * h.count) % 2 ^ 64))))
-
--- a core's state with a tail behind its blocks
+-- a core's state with a tail after its blocks
 abbrev pub with_tail : Meaning → List ℕ → Meaning
 with_tail h tail = record h { tail = tail }
 
--- the tails that a buffer can hold: fewer than 64 bytes
+-- ---- taking bytes in, and the end
+
+-- the state after some blocks, which leave its tail as it is: the words walk through them, and the
+-- count grows by their number
+abbrev pub after_blocks : (List ℕ → List ℕ → List ℕ) → Meaning → List (List ℕ) → Meaning
+after_blocks step h bs = record h { words = walk step h.words bs; count = (h.count + length bs) % 2 ^ 64 }
+
+-- the state after some bytes: a walk through the whole blocks of the tail and the bytes, and what
+-- is left of them is the new tail
+unfoldable pub fed : (List ℕ → List ℕ → List ℕ) → Meaning → List ℕ → Meaning
+fed step h bytes = with_tail (after_blocks step h (blocks (h.tail ++ bytes))) (partial_block (h.tail ++ bytes))
+
+-- the digest of a state: the output of its words after the walk through its tail with the padding.
+-- The message was as long as its blocks and its tail
+unfoldable pub finish : {D : Type 0} → (List ℕ → List ℕ → List ℕ) → (List ℕ → D) → Meaning → D
+finish step output h =
+    let bit_length = 8 * (length h.tail + block_size * h.count) % 2 ^ 64 in
+    output (walk step h.words (blocks (with_padding h.tail bit_length)))
+
+-- ---- the states that can occur
+
+-- a list of n words
+pub record AreWords (n : ℕ) (xs : List ℕ) : Type 0 where
+  pub count : length xs ≡ n
+  pub fit : All (λ w. w < 2 ^ 32) xs
+
+-- the tails that a buffer can hold: fewer bytes than a block
 pub record IsTail (tail : List ℕ) : Type 0 where
-  pub short : length tail < 64
+  pub short : length tail < block_size
   pub bytes : All (λ b. b < 256) tail
 
 -- the states that a core or a hasher can be in: as many words as the variant has, a count below
 -- 2 ^ 64, and a tail
-pub record IsState (v : Variant) (h : Meaning) : Type 0 where
+pub record IsState (v : Parameters) (h : Meaning) : Type 0 where
   pub words : AreWords (length v.start) h.words
   pub count : h.count < 2 ^ 64
   pub tail : IsTail h.tail
 
 -- the states that a core can be in: it has no tail
-pub record IsCoreState (v : Variant) (h : Meaning) : Type 0 where
+pub record IsCoreState (v : Parameters) (h : Meaning) : Type 0 where
   pub state : IsState v h
   pub no_tail : h.tail ≡ []
 
+-- ---- saved bytes
+
 -- the saved bytes of a core: its words and its count
 unfoldable pub core_bytes : Meaning → List ℕ
-core_bytes h = word_bytes h.words ++ length_bytes h.count
+core_bytes h = word_bytes h.words ++ eight_bytes h.count
 
--- the saved bytes of a hasher: those of its core, the length of its tail as one byte, the tail,
--- and zero bytes until 63 bytes stand behind that byte
+-- the saved bytes of a hasher: those of its core, the length of its tail as one byte, the tail, and
+-- zero bytes until 63 bytes stand after the length
 unfoldable pub hasher_bytes : Meaning → List ℕ
 hasher_bytes h = core_bytes h ++ length h.tail ∷ h.tail ++ replicate (63 - length h.tail) 0

@@ -1,11 +1,11 @@
-//! The block cores: hash functions that take in whole blocks and leave a message's tail to a
-//! [`Buffer`], and the traits that they have.
+//! The block cores, which take in the whole blocks of a message and leave its tail to a [`Buffer`],
+//! and their traits.
 
 ghost use Rattle.std.specs.Prelude.{◌≡◌, ℕ, ◌+◌, ◌*◌, ◌%◌, ◌^◌, List, [], ◌++◌, length};
-ghost use Rattle.ripemd_block.specs.Words.{word_bytes};
-ghost use Rattle.ripemd_block.specs.Compression.{compress, ripemd160};
-ghost use Rattle.ripemd_block.specs.Hashing.{walk};
-ghost use Rattle.ripemd_block.specs.States.{Meaning, IsTail, IsCoreState, new, walked, with_tail, finish};
+ghost use Rattle.ripemd_block.specs.Standard.Words.{block_size, word_bytes};
+ghost use Rattle.ripemd_block.specs.Standard.Compression.{compress, ripemd160};
+ghost use Rattle.ripemd_block.specs.Standard.Hashing.{walk};
+ghost use Rattle.ripemd_block.specs.States.{Meaning, IsTail, IsCoreState, new_state, after_blocks, with_tail, finish};
 
 use crate::buffer::Buffer;
 use crate::c160;
@@ -14,7 +14,7 @@ use std::marker::Model;
 #[cfg(test)]
 mod tests;
 
-/// The kind of buffer that is emptied as soon as it holds a whole block.
+/// The kind of buffer that hands a block on as soon as it holds a whole one.
 #[derive(Clone, Copy, PartialEq, Eq, Debug)]
 pub struct Eager;
 
@@ -22,8 +22,7 @@ pub struct Eager;
 pub trait BlockSizeUser {
     ghost BLOCK_SIZE: { ℕ };
 
-    // Every block has 64 bytes.
-    ghost block_size_is: { BLOCK_SIZE ≡ 64 };
+    ghost block_size_is: { BLOCK_SIZE ≡ block_size };
 
     /// How many bytes a block has: 64.
     const BLOCK_SIZE: usize;
@@ -43,7 +42,7 @@ pub trait OutputSizeUser {
     const OUTPUT_SIZE: usize;
 }
 
-/// A type that says what kind of buffer stands in front of it.
+/// A type that says what kind of buffer it needs.
 pub trait BufferKindUser: BlockSizeUser {
     /// The kind of buffer.
     type BufferKind;
@@ -51,13 +50,13 @@ pub trait BufferKindUser: BlockSizeUser {
 
 /// A core that takes in whole blocks.
 pub trait UpdateCore: BlockSizeUser {
-    // The states that a core can be in.
+    // The cores that can occur.
     ghost is_core: { Self → Type 0 };
 
     // A core after some blocks.
     ghost after: { Self → List (List ℕ) → Self };
 
-    /// Takes in blocks of 64 bytes in order; the count of blocks wraps at 2^64.
+    /// Takes in blocks in order. The count of blocks is taken modulo 2^64.
     fn update_blocks(&mut self, blocks: &[[u8; 64]])
         ensures after { self.new ≡ after self.old blocks.now }
         ensures valid_old { is_core self.old }
@@ -73,12 +72,12 @@ pub trait UpdateCore: BlockSizeUser {
 
 /// A core that gives a digest.
 pub trait FixedOutputCore: UpdateCore + BufferKindUser + OutputSizeUser {
-    // The digest of a core and the tail of the message behind its blocks.
+    // The digest of a core and the tail of the message after its blocks.
     ghost digest_of: { Self → List ℕ → Self.Output };
 
-    /// Writes the digest of the message so far to `out`: of the core's blocks and the buffer's
-    /// bytes behind them, with the length in bits modulo 2^64. The core stays as it was, and the
-    /// buffer is empty afterwards.
+    /// Writes to `out` the digest of the message that the core's blocks and then the buffer's bytes
+    /// make up; its length in bits is taken modulo 2^64. The core stays as it was, so that more
+    /// blocks can follow, and the buffer is empty afterwards.
     fn finalize_fixed_core(&mut self, buffer: &mut Buffer, out: &mut Self::Output)
         ensures digest { out.new ≡ digest_of self.old buffer.old }
         ensures size { length (Self.bytes_of out.new) ≡ Self.OUTPUT_SIZE }
@@ -89,7 +88,7 @@ pub trait FixedOutputCore: UpdateCore + BufferKindUser + OutputSizeUser {
 }
 
 /// The block core of RIPEMD-160 (1996, pseudo-code): five words, and the count of the blocks that
-/// they took in, modulo 2^64. Contracts see these, and no tail.
+/// they took in, modulo 2^64. Contracts see these, with an empty tail.
 #[derive(Drop)]
 pub struct Ripemd160Core {
     words: [u32; 5],
@@ -103,7 +102,7 @@ impl Model for Ripemd160Core {
 }
 
 impl Default for Ripemd160Core {
-    ghost is_default = { λ c. c ≡ new ripemd160 };
+    ghost is_default = { λ c. c ≡ new_state ripemd160 };
 
     fn default() -> Ripemd160Core {
         Ripemd160Core {
@@ -146,7 +145,7 @@ impl BufferKindUser for Ripemd160Core {
 impl UpdateCore for Ripemd160Core {
     ghost is_core = { IsCoreState ripemd160 };
 
-    ghost after = { walked (compress ripemd160) };
+    ghost after = { after_blocks (compress ripemd160) };
 
     fn update_blocks(&mut self, blocks: &[[u8; 64]]) {
         let mut words = self.words;
@@ -155,11 +154,11 @@ impl UpdateCore for Ripemd160Core {
         self.block_count = self.block_count.wrapping_add(blocks.len() as u64);
     }
 
-    ghost use Rattle.ripemd_block.specs.WalkLaws.{walked_none, walked_joined};
+    ghost use Rattle.ripemd_block.specs.Laws.Walking.{after_no_blocks, after_joined_blocks};
 
-    ghost after_none = { walked_none (compress ripemd160) ripemd160 };
+    ghost after_none = { after_no_blocks (compress ripemd160) ripemd160 };
 
-    ghost after_joined = { λ core xs ys valid. walked_joined (compress ripemd160) core xs ys };
+    ghost after_joined = { λ core xs ys valid. after_joined_blocks (compress ripemd160) core xs ys };
 }
 
 impl FixedOutputCore for Ripemd160Core {

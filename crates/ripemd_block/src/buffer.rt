@@ -1,9 +1,9 @@
-//! The bytes of a message behind its last whole block, and their padding.
+//! The tail of a message, which is its bytes after the last whole block, and the padding.
 
 ghost use Rattle.std.specs.Prelude.{◌≡◌, ℕ, ◌+◌, ◌-◌, ◌<◌, ◌≤◌, ◌↔◌, List, [], ◌∷◌, ◌++◌, length, take, drop, replicate, SomeIff, IsSome};
 ghost use Rattle.std.specs.Option.{option_to_list};
-ghost use Rattle.ripemd_block.specs.Words.{length_bytes};
-ghost use Rattle.ripemd_block.specs.Hashing.{with_padding, blocks};
+ghost use Rattle.ripemd_block.specs.Standard.Words.{block_size, eight_bytes};
+ghost use Rattle.ripemd_block.specs.Standard.Hashing.{length_place, with_padding, blocks};
 ghost use Rattle.ripemd_block.specs.States.{IsTail};
 
 use std::marker::Model;
@@ -11,7 +11,7 @@ use std::marker::Model;
 #[cfg(test)]
 mod tests;
 
-/// Fewer than 64 bytes of a message. Contracts see the list of its bytes.
+/// The tail of a message: fewer than 64 bytes. Contracts see the list of them.
 #[derive(Drop)]
 pub struct Buffer {
     bytes: [u8; 64],
@@ -31,7 +31,7 @@ impl Model for Buffer {
 pub struct Padded {
     /// The block that begins with the tail.
     pub first: [u8; 64],
-    /// The block behind it, at a tail of 56 bytes or more.
+    /// The block after it, where the tail has 56 bytes or more.
     pub second: Option<[u8; 64]>,
 }
 
@@ -47,9 +47,9 @@ impl Default for Buffer {
 }
 
 impl Buffer {
-    /// A buffer of these bytes; `None` if they are 64 or more.
+    /// A buffer that holds these bytes; `None` exactly if there are 64 or more.
     pub fn try_new(bytes: &[u8]) -> Option<Buffer>
-        ensures { SomeIff result (length bytes.now < 64) bytes.now }
+        ensures { SomeIff result (length bytes.now < block_size) bytes.now }
     {
         let len = bytes.len();
         if len >= 64 {
@@ -63,7 +63,7 @@ impl Buffer {
     /// How many bytes it holds: 0 to 63.
     pub fn get_pos(&self) -> usize
         ensures length { result ≡ length self.now }
-        ensures small { result < 64 }
+        ensures small { result < block_size }
     {
         self.len
     }
@@ -71,24 +71,24 @@ impl Buffer {
     /// The bytes that it holds.
     pub fn get_data(&self) -> &[u8]
         ensures bytes { result.now ≡ self.now }
-        ensures small { length result.now < 64 }
+        ensures small { length result.now < block_size }
     {
         &self.bytes[..self.len]
     }
 
-    /// Ends a message whose last bytes it holds, and whose length is `bit_len` in bits (1996, with
-    /// the padding of MD4): gives the blocks of these bytes, the byte 80 (hexadecimal), the fewest
-    /// zero bytes that leave room for 8, and `bit_len` in 8 bytes, least first. The buffer is empty
+    /// The end of a message whose tail it holds and whose length is `bit_len` bits (1996, with the
+    /// padding of MD4): the one or two blocks of the tail, the byte 0x80, the fewest zero bytes that
+    /// leave room for the length, and the length in 8 bytes, least first. The buffer is empty
     /// afterwards.
     pub fn len64_padding_le(&mut self, bit_len: u64) -> Padded
         ensures value { result.first ∷ option_to_list result.second
             ≡ blocks (with_padding self.old bit_len) }
-        ensures second { IsSome result.second ↔ (56 ≤ length self.old) }
+        ensures second { IsSome result.second ↔ (length_place ≤ length self.old) }
         ensures empty { self.new ≡ [] }
         ensures valid { IsTail self.old }
     {
         let len = self.len;
-        let marked = marked(&self.bytes[..len]);
+        let marked = marked_block(&self.bytes[..len]);
         self.len = 0;
         if len < 56 {
             Padded {
@@ -104,9 +104,9 @@ impl Buffer {
     }
 }
 
-// The tail, the byte 80 (hexadecimal), and zero bytes to the end of the block.
-fn marked(tail: &[u8]) -> [u8; 64]
-    requires { length tail.now < 64 }
+// The tail, the byte 0x80, and zero bytes to the end of the block.
+fn marked_block(tail: &[u8]) -> [u8; 64]
+    requires { length tail.now < block_size }
     ensures block { result ≡ tail.now ++ 0x80 ∷ replicate (63 - length tail.now) 0 }
     ensures valid { IsTail tail.now }
 {
@@ -119,7 +119,7 @@ fn marked(tail: &[u8]) -> [u8; 64]
 
 // The block with the length of a message in place of its last 8 bytes.
 fn with_length(block: &[u8; 64], bit_len: u64) -> [u8; 64]
-    ensures { result ≡ take 56 block.now ++ length_bytes bit_len }
+    ensures { result ≡ take length_place block.now ++ eight_bytes bit_len }
 {
     let mut ended = *block;
     ended[56..].copy_from_slice(&bit_len.to_le_bytes());

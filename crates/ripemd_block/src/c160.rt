@@ -1,16 +1,16 @@
 //! The compression function of RIPEMD-160 (1996, pseudo-code).
 
 ghost use Rattle.std.specs.Prelude.{◌≡◌, ◌<◌, List, ℕ};
-ghost use Rattle.ripemd_block.specs.Words.{message_word};
-ghost use Rattle.ripemd_block.specs.Schedule.{rotation};
-ghost use Rattle.ripemd_block.specs.Compression.{step, round, compress, ripemd160};
-ghost use Rattle.ripemd_block.specs.Hashing.{walk};
+ghost use Rattle.ripemd_block.specs.Standard.Words.{message_word};
+ghost use Rattle.ripemd_block.specs.Standard.Schedule.{rotation};
+ghost use Rattle.ripemd_block.specs.Standard.Compression.{step, round, compress, ripemd160};
+ghost use Rattle.ripemd_block.specs.Standard.Hashing.{walk};
 ghost use Rattle.ripemd_block.specs.States.{AreWords};
-ghost use Rattle.ripemd_block.specs.Sides.{line_of};
+ghost use Rattle.ripemd_block.specs.Code.Sides.{line_of};
 
 use crate::textbook::{Side, message_word, rotation};
 
-// Step `i` of round `r` of a line: the registers A B C D E change places, and B becomes new.
+// Step `i` of round `r` of a line, from the registers A B C D E.
 fn step(side: Side, r: usize, i: usize, block: &[u8; 64], registers: [u32; 5]) -> [u32; 5]
     requires round { r < 5 }
     requires step { i < 16 }
@@ -41,7 +41,7 @@ fn round(side: Side, r: usize, block: &[u8; 64], start: [u32; 5]) -> [u32; 5]
     registers
 }
 
-/// Takes one block of 64 bytes into the state.
+// Takes one block into the state.
 fn compress(state: &mut [u32; 5], block: &[u8; 64])
     ensures state { state.new ≡ compress ripemd160 state.old block.now }
     ensures words { AreWords 5 state.new }
@@ -63,7 +63,7 @@ fn compress(state: &mut [u32; 5], block: &[u8; 64])
     ];
 }
 
-/// Takes blocks of 64 bytes into the state, in order.
+/// Takes blocks into the state, in order.
 pub(crate) fn walk(state: &mut [u32; 5], blocks: &[[u8; 64]])
     ensures walk { state.new ≡ walk (compress ripemd160) state.old blocks.now }
     ensures old_words { AreWords 5 state.old }

@@ -5,4 +5,5 @@
 pub mod block_api;
 pub mod buffer;
 mod c160;
-pub mod textbook;
+pub mod facts;
+mod textbook;

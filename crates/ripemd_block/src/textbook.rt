@@ -1,15 +1,9 @@
-//! The tables and functions of the 1996 paper as code, each equal to its definition in `specs/`,
-//! and what is proved of the definitions themselves: that they give what the authors published,
-//! and their laws.
+//! The tables and functions of 1996 as code, each equal to its definition in `specs/Standard/`.
 
-ghost use Rattle.std.specs.Prelude.{◌≡◌, ℕ, ◌+◌, ◌-◌, ◌*◌, ◌%◌, ◌^◌, ◌<◌, List, [], ◌++◌, length, drop};
-ghost use Rattle.ripemd_block.specs.Words.{message_word, word_bytes, length_bytes};
-ghost use Rattle.ripemd_block.specs.Schedule.{function, rotation, Line};
-ghost use Rattle.ripemd_block.specs.Compression.{Variant, compress};
-ghost use Rattle.ripemd_block.specs.Hashing.{zero_count, padded, hash, ripemd};
-ghost use Rattle.ripemd_block.specs.States.{Meaning, started, new, fed, finish};
-ghost use Rattle.ripemd_block.specs.Sides.{line_of};
-ghost use Rattle.ripemd_block.specs.Published.{DigestsOfEmpty, DigestsOfAbc, DigestsOfTwoBlocks, OrderOfLeftLine, OrderOfRightLine, ConstantsOfLines, AreWholeRoots, SavedCores, SavedHasher, SavedBlockAndTail};
+ghost use Rattle.std.specs.Prelude.{◌≡◌, ◌<◌};
+ghost use Rattle.ripemd_block.specs.Standard.Words.{message_word};
+ghost use Rattle.ripemd_block.specs.Standard.Schedule.{boolean_function, rotation, Line};
+ghost use Rattle.ripemd_block.specs.Code.Sides.{line_of};
 
 // The numbers of the message words that the left line takes, by round and step (1996, ordering of
 // the message words).
@@ -44,7 +38,7 @@ const LEFT_CONSTANTS: [u32; 5] = [0, 0x5a82_7999, 0x6ed9_eba1, 0x8f1b_bcdc, 0xa9
 
 const RIGHT_CONSTANTS: [u32; 5] = [0x50a2_8be6, 0x5c4d_d124, 0x6d70_3ef3, 0x7a6d_76e9, 0];
 
-/// One of the two lines of five rounds.
+/// One of the two lines of RIPEMD-160.
 #[derive(Clone, Copy)]
 pub(crate) enum Side {
     Left,
@@ -82,8 +76,8 @@ impl Side {
         ensures { result ≡ (line_of self).function r x y z }
     {
         match self {
-            Side::Left => function(r, x, y, z),
-            Side::Right => function(4 - r, x, y, z),
+            Side::Left => boolean_function(r, x, y, z),
+            Side::Right => boolean_function(4 - r, x, y, z),
         }
     }
 }
@@ -97,10 +91,10 @@ pub(crate) fn rotation(r: usize, j: usize) -> u32
     ROTATIONS[r][j]
 }
 
-/// Function number `j` of the five, of three words (1996, Boolean functions).
-fn function(j: usize, x: u32, y: u32, z: u32) -> u32
+// Boolean function number `j` of three words (1996, Boolean functions).
+fn boolean_function(j: usize, x: u32, y: u32, z: u32) -> u32
     requires { j < 5 }
-    ensures { result ≡ function j x y z }
+    ensures { result ≡ boolean_function j x y z }
 {
     match j {
         0 => x ^ y ^ z,
@@ -111,7 +105,7 @@ fn function(j: usize, x: u32, y: u32, z: u32) -> u32
     }
 }
 
-/// Message word `j` of a block of 64 bytes: four of its bytes, least first.
+/// Message word `j` of a block: four of its bytes, least first.
 pub(crate) fn message_word(block: &[u8; 64], j: usize) -> u32
     requires { j < 16 }
     ensures { result ≡ message_word block.now j }
@@ -123,57 +117,3 @@ pub(crate) fn message_word(block: &[u8; 64], j: usize) -> u32
         block[4 * j + 3],
     ])
 }
-
-/// The definitions give the digests that the authors published of the empty message, of "abc" and
-/// of a message of 56 bytes, for each of the four variants.
-pub fn published_digests()
-    ensures empty { DigestsOfEmpty }
-    ensures abc { DigestsOfAbc }
-    ensures two_blocks { DigestsOfTwoBlocks }
-{}
-
-/// The definitions give the published orders of the message words and the published constants, and
-/// the constants are the whole roots that they are said to be.
-pub fn published_tables()
-    ensures left { OrderOfLeftLine }
-    ensures right { OrderOfRightLine }
-    ensures constants { ConstantsOfLines }
-    ensures roots_of_two { AreWholeRoots 0 }
-    ensures roots_of_three { AreWholeRoots 1 }
-    ensures roots_of_five { AreWholeRoots 2 }
-    ensures roots_of_seven { AreWholeRoots 3 }
-{}
-
-/// The definitions give the saved bytes of new cores of the four variants, of a RIPEMD-160 hasher
-/// that was fed "abc", and of one that was fed 65 bytes.
-pub fn saved_states()
-    ensures cores { SavedCores }
-    ensures hasher { SavedHasher }
-    ensures block_and_tail { SavedBlockAndTail }
-{}
-
-/// The padding is as the 1996 paper says: the fewest zero bytes make the length 56 modulo 64, a
-/// padded message is whole blocks, and its last 8 bytes are the message's length in bits, as long
-/// as that is below 2^64.
-pub fn padding_laws()
-    ensures zeros { (n : ℕ) → (n + 1 + zero_count n) % 64 ≡ 56 }
-    ensures fewest { (n : ℕ) → zero_count n < 64 }
-    ensures whole { (message : List ℕ) → length (padded message) % 64 ≡ 0 }
-    ensures length { (message : List ℕ) → length message < 2 ^ 61
-        → drop (length (padded message) - 8) (padded message) ≡ length_bytes (8 * length message) }
-{}
-
-/// However a message comes in, its state is that of the whole message, and from there finishing
-/// gives its hash: for each start, step and output of a block function over lists of numbers, and
-/// for messages of every length. So for each of the four variants it gives the digest.
-pub fn state_laws()
-    ensures nothing { (step : List ℕ → List ℕ → List ℕ) (h : Meaning)
-        → h.count < 2 ^ 64 → length h.tail < 64 → fed step h [] ≡ h }
-    ensures joined { (step : List ℕ → List ℕ → List ℕ) (h : Meaning) (x y : List ℕ)
-        → fed step (fed step h x) y ≡ fed step h (x ++ y) }
-    ensures finished { (start : List ℕ) (step : List ℕ → List ℕ → List ℕ) (output : List ℕ → List ℕ)
-        (message : List ℕ)
-        → finish step output (fed step (started start) message) ≡ hash start step output message }
-    ensures digest { (v : Variant) (message : List ℕ)
-        → finish (compress v) word_bytes (fed (compress v) (new v) message) ≡ ripemd v message }
-{}

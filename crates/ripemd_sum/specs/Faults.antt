@@ -1,4 +1,4 @@
--- What the faults of a run say of its reader and its writer.
+-- What the errors of a run say of its reader and its writer.
 use Rattle.std.specs.Prelude.{◌≡◌, ℕ, List, true, codes, Option}
 use Rattle.ripemd_sum.specs.declared.fault.RunFault.{RunFault}
 use Rattle.ripemd_sum.specs.declared.fault.RunFault.TheVariants.{Read, TooLong, Write}
@@ -6,20 +6,22 @@ use Rattle.ripemd_sum.specs.declared.tracked.Tracked.{Tracked}
 use Rattle.ripemd_sum.specs.Track.{has_failed}
 use Rattle.ripemd_sum.specs.Runs.{GivesAll, FailsToGive, GivesTooMuch}
 
--- the line of a fault
+-- the line that the program prints for an error
 abbrev pub message_of : RunFault → List ℕ
 message_of (Read e) = codes "ripemd_sum: read error"
 message_of TooLong = codes "ripemd_sum: input too long"
 message_of (Write e) = codes "ripemd_sum: write error"
 
--- what stopped the reading: a failure or the limit
+-- what ended the reading: a read that failed, or the limit
 abbrev pub ExplainsReading : {R : Type 0} → (R → Option (List ℕ)) → Tracked R → Tracked R → ℕ → RunFault → Type 0
 ExplainsReading remaining old new limit (Read e) = FailsToGive remaining old new limit
 ExplainsReading remaining old new limit TooLong = GivesTooMuch remaining old new limit
 ExplainsReading remaining old new limit (Write e) = ⊥
 
--- what stopped a run: the reading, and then nothing was written, or the writer after all was read
-abbrev pub ExplainsRun : {R W : Type 0} → (R → Option (List ℕ)) → Tracked R → Tracked R → Tracked W → Tracked W → ℕ → RunFault → Type 0
+-- what ended a run: the reading, and then nothing was written, or the writer, after all was read
+abbrev pub ExplainsRun : {R W : Type 0} → (R → Option (List ℕ)) → Tracked R → Tracked R → Tracked W → Tracked W
+    → ℕ → RunFault → Type 0
 ExplainsRun remaining old new writer written limit (Read e) = FailsToGive remaining old new limit × (written ≡ writer)
 ExplainsRun remaining old new writer written limit TooLong = GivesTooMuch remaining old new limit × (written ≡ writer)
-ExplainsRun remaining old new writer written limit (Write e) = ((message : List ℕ) × GivesAll remaining old new limit message) × (has_failed written ≡ true)
+ExplainsRun remaining old new writer written limit (Write e) =
+    ((message : List ℕ) × GivesAll remaining old new limit message) × (has_failed written ≡ true)

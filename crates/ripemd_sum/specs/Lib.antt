@@ -1,4 +1,6 @@
+-- What the program promises: what has to be believed of a run.
 pub mod Variants
-pub mod Track
 pub mod Runs
 pub mod Faults
+-- What a `Tracked` shows.
+pub mod Track

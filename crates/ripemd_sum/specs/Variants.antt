@@ -1,13 +1,14 @@
--- The names of the hashes that the program has, and what its words ask for.
+-- The names of the hashes that the program has, and what its arguments ask for.
 use Rattle.std.specs.Prelude.{◌≡◌, ℕ, List, [], ◌∷◌, codes}
 use Rattle.ripemd_sum.specs.declared.variant.Variant.{Variant}
 use Rattle.ripemd_sum.specs.declared.variant.Variant.TheVariants.{R160}
 
+-- the name of a variant
 abbrev pub name_of : Variant → List ℕ
 name_of R160 = codes "160"
 
--- no word asks for RIPEMD-160, and one word for the variant that it names
+-- no argument asks for RIPEMD-160, and one for the variant that it names
 abbrev pub Chooses : List (List ℕ) → Variant → Type 0
 Chooses [] v = v ≡ R160
-Chooses (word ∷ []) v = word ≡ name_of v
+Chooses (name ∷ []) v = name ≡ name_of v
 Chooses _ v = ⊥

@@ -2,8 +2,8 @@
 
 ghost use Rattle.std.specs.Prelude.{◌≡◌, ℕ, List, false, ◌+◌, ◌*◌, ◌++◌, IfOk, OnOk, IfErr, length, codes};
 ghost use Rattle.hex.specs.Hex.{encode_lower};
-ghost use Rattle.ripemd_block.specs.Compression.{ripemd160};
-ghost use Rattle.ripemd_block.specs.Hashing.{ripemd};
+ghost use Rattle.ripemd_block.specs.Standard.Compression.{ripemd160};
+ghost use Rattle.ripemd_block.specs.Standard.Hashing.{ripemd};
 ghost use Rattle.ripemd_sum.specs.Track.{inner_of, has_failed, taken_of};
 ghost use Rattle.ripemd_sum.specs.Runs.{digest_line, GivesAll, Gets};
 ghost use Rattle.ripemd_sum.specs.Faults.{ExplainsReading, ExplainsRun};
@@ -18,13 +18,16 @@ use std::io::{Read, Write};
 /// Reads to the end of the reader, and writes the digest of all that it gave to the writer, as one
 /// line in lower case hexadecimal.
 ///
-/// The reader is a new one: it has not failed and has given nothing; the writer has not failed. The
-/// run takes no memory, and nothing is written before the reader has ended.
+/// The reader has not failed and has given nothing yet, and the writer has not failed. Nothing is
+/// written before the reader has ended, and no memory is taken.
 ///
-/// The answer is `Read` with the fault of the first read that fails, which is not tried again;
-/// `TooLong` exactly if a byte comes after `limit` bytes, and then at most 4,096 bytes behind the
-/// limit were taken; or `Write` with the fault of the writer, and then it is not known how much of
-/// the line went out. Whichever comes first in the stream is answered.
+/// # Errors
+///
+/// - `Read`: a read failed, with this error. It is not tried again.
+/// - `TooLong`: the reader gave more than `limit` bytes. At most 4,096 bytes more were read.
+/// - `Write`: the write failed, with this error. How much of the line went out is not known.
+///
+/// The first of these to happen is the answer.
 pub fn run<R: Read, W: Write>(
     variant: Variant,
     reader: &mut Tracked<R>,
@@ -50,7 +53,7 @@ pub fn run<R: Read, W: Write>(
     writer.write_all(&line).map_err(RunFault::Write)
 }
 
-// The RIPEMD-160 digest of all that the reader gives, read through one block.
+// The RIPEMD-160 digest of all that the reader gives, which comes in block by block.
 fn hash_input<R: Read>(reader: &mut Tracked<R>, limit: u64) -> Result<[u8; 20], RunFault>
     requires works { has_failed reader.old ≡ false }
     requires fresh { taken_of reader.old ≡ 0 }
@@ -65,7 +68,7 @@ fn hash_input<R: Read>(reader: &mut Tracked<R>, limit: u64) -> Result<[u8; 20], 
     let mut filled = 0;
     'reads: loop {
         match reader.read(&mut block[filled..]) {
-            Err(fault) => return Err(RunFault::Read(fault)),
+            Err(error) => return Err(RunFault::Read(error)),
             Ok(0) => break,
             Ok(count) => filled += count,
         }

@@ -5,22 +5,22 @@ ghost use Rattle.std.specs.Prelude.{◌≡◌};
 use std::io;
 use thiserror::Error;
 
-/// Why a run wrote no digest, or not all of its line.
+/// Why a run wrote no line, or perhaps not all of it.
 #[derive(Debug, Drop, Error)]
 #[error("{}", self.message())]
 pub enum RunFault {
-    /// A read failed with this fault.
+    /// A read failed with this error.
     Read(io::Error),
     /// The reader gave more bytes than the limit.
     TooLong,
-    /// The write of the line failed with this fault.
+    /// The write of the line failed with this error.
     Write(io::Error),
 }
 
 impl RunFault {
     ghost use Rattle.ripemd_sum.specs.Faults.{message_of};
 
-    /// The line that the program prints for it.
+    /// The line that the program prints for it, without a newline.
     pub fn message(&self) -> &'static str
         ensures { result.now ≡ message_of self.now }
     {

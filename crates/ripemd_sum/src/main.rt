@@ -14,32 +14,32 @@ use std::{env, io};
 use tracked::Tracked;
 use variant::choose;
 
-/// What the program prints, with status 2, where it does not know its arguments.
+/// What the program prints, with status 2, if it does not know its arguments.
 pub const USAGE: &str = "usage: ripemd_sum [128|160|256|320]";
 
-/// What the program prints, with status 3, where it cannot take its arguments.
+/// What the program prints, with status 3, if it cannot take its arguments.
 pub const NO_MEMORY: &str = "ripemd_sum: out of memory";
 
-/// The greatest length of the input in bytes, 2^61 - 1: the length in bits of a longer one needs
-/// more than 64 bits.
+/// The greatest length of the input, 2^61 - 1 bytes: the length in bits of a longer one would not
+/// fit into 64 bits.
 const LIMIT: u64 = u64::MAX / 8;
 
-// The words behind the program's name.
-fn words(rt: &HostRuntime) -> io::Result<Vec<String>> {
+// The arguments after the program's name.
+fn arguments(rt: &HostRuntime) -> io::Result<Vec<String>> {
     Ok(env::args(rt)?.skip(1).collect(rt.alloc())?)
 }
 
-// Prints a line to standard error; a fault in that is passed over.
+// Prints a line to standard error. There is nowhere to report it to if that fails.
 fn complain(rt: &HostRuntime, line: &str) {
     let _ = eprintln!(rt; "{line}");
 }
 
 fn main(rt: HostRuntime) -> ExitCode {
-    let Ok(words) = words(&rt) else {
+    let Ok(arguments) = arguments(&rt) else {
         complain(&rt, NO_MEMORY);
         return ExitCode::from(3);
     };
-    let Some(variant) = choose(words.as_slice()) else {
+    let Some(variant) = choose(arguments.as_slice()) else {
         complain(&rt, USAGE);
         return ExitCode::from(2);
     };

@@ -32,7 +32,7 @@ const HELLO_LINE: &str = "7f772647d88750add82d8e1a7a3e5c0902a346a3\n";
 
 const RAMP_LINE: &str = "c315823ea8fe07a2dd18de4e545255afe3af0738\n";
 
-/// What a run left behind.
+/// What a run left.
 #[derive(Drop)]
 struct Finished<R> {
     outcome: Result<(), RunFault>,
@@ -80,10 +80,10 @@ impl<R> Finished<R> {
     }
 }
 
-/// Whether it is the fault that a double makes of this kind.
-fn is_planned(alloc: Global, fault: &io::Error, kind: ErrorKind) -> Result<bool, AllocError> {
-    let text = format!(in alloc; "{fault}")?;
-    Ok(fault.kind() == kind && text.as_str() == PLANNED)
+/// Whether it is the error of this kind that a double makes.
+fn is_planned(alloc: Global, error: &io::Error, kind: ErrorKind) -> Result<bool, AllocError> {
+    let text = format!(in alloc; "{error}")?;
+    Ok(error.kind() == kind && text.as_str() == PLANNED)
 }
 
 // The line of a message is its published digest in 40 digits and a newline, by one write.
@@ -134,17 +134,17 @@ fn reads_in_any_pieces(rt: HostRuntime) {
     assert_eq!(rt; done.reader.calls, 13);
 }
 
-// Whichever read fails, the last included, which would have told the end, its fault is the answer.
+// Whichever read fails, the last included, which would have told the end, its error is the answer.
 #[test]
 fn answers_a_read_that_fails(rt: HostRuntime) -> Result<(), Fail> {
     for kind in [ErrorKind::ConnectionReset, ErrorKind::TimedOut] {
         for n in 1..=13 {
             let reader = SliceReader::new(HELLO, 1).failing_at(n, kind);
             let done = finish(reader, PageWriter::new(64), 12);
-            let Err(RunFault::Read(fault)) = &done.outcome else {
+            let Err(RunFault::Read(error)) = &done.outcome else {
                 panic!(rt; "read {n} did not end the run")
             };
-            assert!(rt; is_planned(rt.alloc(), fault, kind)?, "read {n}");
+            assert!(rt; is_planned(rt.alloc(), error, kind)?, "read {n}");
             assert!(rt; done.reader_failed, "read {n}");
             assert!(rt; done.wrote_nothing(), "read {n}");
             assert_eq!(rt; done.taken, n as u128 - 1, "read {n}");
@@ -154,16 +154,16 @@ fn answers_a_read_that_fails(rt: HostRuntime) -> Result<(), Fail> {
     Ok(())
 }
 
-// A fault and a byte behind the limit: what comes first in the stream is the answer.
+// An error, and a byte past the limit: what comes first in the stream is the answer.
 #[test]
 fn answers_what_comes_first(rt: HostRuntime) -> Result<(), Fail> {
     let kind = ErrorKind::ConnectionReset;
     let fourth = SliceReader::new(HELLO, 1).failing_at(4, kind);
     let done = finish(fourth, PageWriter::new(64), 3);
-    let Err(RunFault::Read(fault)) = &done.outcome else {
+    let Err(RunFault::Read(error)) = &done.outcome else {
         panic!(rt; "the fourth read did not end the run")
     };
-    assert!(rt; is_planned(rt.alloc(), fault, kind)?);
+    assert!(rt; is_planned(rt.alloc(), error, kind)?);
     assert!(rt; done.reader_failed && done.wrote_nothing());
 
     let fifth = SliceReader::new(HELLO, 1).failing_at(5, kind);
@@ -180,10 +180,10 @@ fn answers_an_interrupted_read(rt: HostRuntime) -> Result<(), Fail> {
     for n in [1, 6, 13] {
         let reader = SliceReader::new(HELLO, 1).failing_at(n, kind);
         let done = finish(reader, PageWriter::new(64), AMPLE);
-        let Err(RunFault::Read(fault)) = &done.outcome else {
+        let Err(RunFault::Read(error)) = &done.outcome else {
             panic!(rt; "read {n} did not end the run")
         };
-        assert!(rt; is_planned(rt.alloc(), fault, kind)?, "read {n}");
+        assert!(rt; is_planned(rt.alloc(), error, kind)?, "read {n}");
         assert_eq!(rt; done.reader.calls, n);
         assert!(rt; done.reader_failed && done.wrote_nothing(), "read {n}");
     }
@@ -205,9 +205,9 @@ fn keeps_the_limit(rt: HostRuntime) {
     }
 }
 
-// Of a reader that gives all that it is asked for, little is taken behind the limit.
+// Of a reader that gives all that it is asked for, little is taken past the limit.
 #[test]
-fn takes_little_behind_the_limit(rt: HostRuntime) {
+fn takes_little_past_the_limit(rt: HostRuntime) {
     for limit in [0, 1, 63, 64, 65, 5000] {
         let reader = RepeatingReader {
             byte: b'a',
@@ -228,17 +228,17 @@ fn writes_in_any_pieces(rt: HostRuntime) {
     assert_eq!(rt; done.writer.calls, 41);
 }
 
-// Whichever write fails, but by an interruption, its fault is the answer, and none follows it.
+// Whichever write fails, but by an interruption, its error is the answer, and no write follows it.
 #[test]
 fn answers_a_write_that_fails(rt: HostRuntime) -> Result<(), Fail> {
     for kind in [ErrorKind::BrokenPipe, ErrorKind::StorageFull] {
         for n in 1..=41 {
             let writer = PageWriter::new(1).failing_at(n, kind);
             let done = finish(SliceReader::new(HELLO, 100), writer, AMPLE);
-            let Err(RunFault::Write(fault)) = &done.outcome else {
+            let Err(RunFault::Write(error)) = &done.outcome else {
                 panic!(rt; "write {n} did not end the run")
             };
-            assert!(rt; is_planned(rt.alloc(), fault, kind)?, "write {n}");
+            assert!(rt; is_planned(rt.alloc(), error, kind)?, "write {n}");
             assert_eq!(rt; done.writer.calls, n);
             assert_eq!(rt;
                 done.writer.written(),
@@ -312,9 +312,9 @@ fn knows_the_names(rt: HostRuntime) {
     }
 }
 
-// What the words behind the program's name ask for.
+// What the program's arguments ask for.
 #[test]
-fn chooses_by_the_words(rt: HostRuntime) -> Result<(), Fail> {
+fn chooses_by_the_arguments(rt: HostRuntime) -> Result<(), Fail> {
     let cases: [(&[&str], Option<Variant>); 6] = [
         (&[], Some(Variant::R160)),
         (&["160"], Some(Variant::R160)),
@@ -324,11 +324,11 @@ fn chooses_by_the_words(rt: HostRuntime) -> Result<(), Fail> {
         (&["160", "hmac", "00"], None),
     ];
     for (texts, variant) in cases {
-        let mut words = Vec::new(rt.alloc());
+        let mut arguments = Vec::new(rt.alloc());
         for text in texts {
-            words.push(String::from_str(rt.alloc(), text)?)?;
+            arguments.push(String::from_str(rt.alloc(), text)?)?;
         }
-        assert_eq!(rt; choose(words.as_slice()), variant, "{texts:?}");
+        assert_eq!(rt; choose(arguments.as_slice()), variant, "{texts:?}");
     }
     Ok(())
 }

@@ -1,4 +1,4 @@
-//! A reader or a writer that keeps count.
+//! A reader or a writer, with what a run has to know of it.
 
 ghost use Rattle.std.specs.Prelude.{◌≡◌, ℕ, ◌+◌, ◌-◌, ◌^◌, min, false, true, OnOk, MatchResult};
 ghost use Rattle.std.specs.Io.{ReadsAtMost};
@@ -7,7 +7,7 @@ ghost use Rattle.std.specs.Io.KnownBytes.{ReadConsumes, Appends};
 use std::io;
 use std::io::{Read, Write};
 
-/// A reader or a writer, whether a call of it has failed, and how many bytes it has given.
+/// A reader or a writer, and with it whether a call has failed and how many bytes it has given.
 pub struct Tracked<T> {
     inner: T,
     failed: bool,
@@ -17,7 +17,7 @@ pub struct Tracked<T> {
 impl<T> Tracked<T> {
     ghost use Rattle.ripemd_sum.specs.Track.{inner_of, has_failed, taken_of};
 
-    /// Begins to track: it has not failed and has given no byte.
+    /// Begins with no call: it has not failed and has given nothing.
     pub fn new(inner: T) -> Tracked<T>
         ensures inner { inner_of result ≡ inner }
         ensures failed { has_failed result ≡ false }

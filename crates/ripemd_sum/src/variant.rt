@@ -12,7 +12,7 @@ pub enum Variant {
 }
 
 impl Variant {
-    /// The variant of this name: `160` is RIPEMD-160; `None` for every other text.
+    /// The variant of this name: `160` for RIPEMD-160; `None` for every other text.
     pub fn from_name(name: &str) -> Option<Variant>
         ensures { (v : Variant) → (result ≡ Some v) ↔ (name.now ≡ name_of v) }
     {
@@ -23,14 +23,14 @@ impl Variant {
     }
 }
 
-/// The variant that the words behind the program's name ask for: no word is RIPEMD-160, one word is
-/// a variant's name; `None` for every other word and for more words.
-pub fn choose(words: &[String]) -> Option<Variant>
-    ensures { (v : Variant) → (result ≡ Some v) ↔ Chooses (map string_bytes words.now) v }
+/// The variant that the program's arguments ask for: none is RIPEMD-160, one is the name of a
+/// variant; `None` for every other argument and for more of them.
+pub fn choose(arguments: &[String]) -> Option<Variant>
+    ensures { (v : Variant) → (result ≡ Some v) ↔ Chooses (map string_bytes arguments.now) v }
 {
-    match words {
+    match arguments {
         [] => Some(Variant::R160),
-        [word] => Variant::from_name(word.as_str()),
+        [name] => Variant::from_name(name.as_str()),
         _ => None,
     }
 }

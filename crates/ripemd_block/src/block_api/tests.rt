@@ -15,8 +15,8 @@ const ABC: [u8; 20] = [
     0xf1, 0x5a, 0x0b, 0xfc,
 ];
 
-// The digest that a core gives with this tail behind its blocks.
-fn finished(core: &mut Ripemd160Core, tail: &[u8]) -> Option<[u8; 20]> {
+// The digest that a core gives with this tail after its blocks.
+fn digest_with_tail(core: &mut Ripemd160Core, tail: &[u8]) -> Option<[u8; 20]> {
     let mut buffer = Buffer::try_new(tail)?;
     let mut digest = [0; 20];
     core.finalize_fixed_core(&mut buffer, &mut digest);
@@ -27,10 +27,10 @@ fn finished(core: &mut Ripemd160Core, tail: &[u8]) -> Option<[u8; 20]> {
 #[test]
 fn published_digests_of_tails(rt: HostRuntime) {
     let mut core = Ripemd160Core::default();
-    assert_eq!(rt; finished(&mut core, b""), Some(EMPTY));
+    assert_eq!(rt; digest_with_tail(&mut core, b""), Some(EMPTY));
     // The core is as it was, so it can be finished again.
-    assert_eq!(rt; finished(&mut core, b"abc"), Some(ABC));
-    assert_eq!(rt; finished(&mut core, b""), Some(EMPTY));
+    assert_eq!(rt; digest_with_tail(&mut core, b"abc"), Some(ABC));
+    assert_eq!(rt; digest_with_tail(&mut core, b""), Some(EMPTY));
 }
 
 // The authors' digest of a million times "a", which is 15,625 blocks, however they are cut.
@@ -45,14 +45,14 @@ fn million_letters(rt: HostRuntime) {
     for _ in 0..15_625 {
         one_by_one.update_blocks(&blocks[..1]);
     }
-    assert_eq!(rt; finished(&mut one_by_one, b""), Some(wanted));
+    assert_eq!(rt; digest_with_tail(&mut one_by_one, b""), Some(wanted));
     let mut many = Ripemd160Core::default();
     for _ in 0..125 {
         many.update_blocks(&blocks[..0]);
         many.update_blocks(&blocks[..100]);
         many.update_blocks(&blocks[100..]);
     }
-    assert_eq!(rt; finished(&mut many, b""), Some(wanted));
+    assert_eq!(rt; digest_with_tail(&mut many, b""), Some(wanted));
 }
 
 // States that no message of today reaches: the count of blocks and the length in bits wrap. The
@@ -66,7 +66,7 @@ fn counts_wrap(rt: HostRuntime) {
         words,
         block_count: 1 << 55,
     };
-    assert_eq!(rt; finished(&mut core, b""), Some(EMPTY));
+    assert_eq!(rt; digest_with_tail(&mut core, b""), Some(EMPTY));
     assert_eq!(rt; core.block_count, 1 << 55);
     assert_eq!(rt; core.words.as_slice(), words.as_slice());
     // The last count, with a tail.
@@ -78,7 +78,7 @@ fn counts_wrap(rt: HostRuntime) {
         0xc5, 0x3f, 0xa4, 0x7b, 0x3c, 0x78, 0x56, 0x0f, 0x9a, 0x6e, 0x4a, 0x08, 0x6a, 0x82, 0x7a,
         0x88, 0xde, 0x77, 0x9f, 0xf8,
     ];
-    assert_eq!(rt; finished(&mut core, b"a"), Some(wanted));
+    assert_eq!(rt; digest_with_tail(&mut core, b"a"), Some(wanted));
     core.update_blocks(&[[b'a'; 64]]);
     assert_eq!(rt; core.block_count, 0);
 }

@@ -26,8 +26,8 @@ fn holds_less_than_a_block(rt: HostRuntime) -> Result<(), Fail> {
     Ok(())
 }
 
-// Tails of 0 to 55 bytes end in one block, tails of 56 to 63 in two: the byte 80 (hexadecimal)
-// follows the tail, the length stands at the very end, and all between is zero.
+// Tails of 0 to 55 bytes end in one block, tails of 56 to 63 in two: 0x80 follows the tail,
+// the length is at the very end, and all between is zero.
 #[test]
 fn ends_in_one_block_or_two(rt: HostRuntime) -> Result<(), Fail> {
     let bytes = numbers();

@@ -3,10 +3,10 @@
 use std::io;
 use std::io::{ErrorKind, Read, Write};
 
-/// The text of the faults that a reader or a writer of this module makes.
+/// The text of the errors that a reader or a writer of this module makes.
 pub const PLANNED: &str = "planned by the test";
 
-/// Which call of a reader or a writer fails, the first being 1, and with which kind of fault.
+/// Which call of a reader or a writer fails, the first being 1, and with which kind of error.
 #[derive(Clone, Copy)]
 struct Failure {
     call: usize,

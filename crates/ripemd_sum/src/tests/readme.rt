@@ -1,8 +1,9 @@
-// The README's example of a caller of `ripemd_block`, as it stands there.
+// The example of ripemd_block's README, as it stands there.
 
 ghost use Rattle.std.specs.Prelude.{◌≡◌, ◌<◌, length};
-ghost use Rattle.ripemd_block.specs.Compression.{ripemd160};
-ghost use Rattle.ripemd_block.specs.Hashing.{ripemd};
+ghost use Rattle.ripemd_block.specs.Standard.Words.{block_size};
+ghost use Rattle.ripemd_block.specs.Standard.Compression.{ripemd160};
+ghost use Rattle.ripemd_block.specs.Standard.Hashing.{ripemd};
 
 use ripemd_block::block_api::{FixedOutputCore, Ripemd160Core};
 use ripemd_block::buffer::Buffer;
@@ -10,7 +11,7 @@ use ripemd_block::buffer::Buffer;
 /// The RIPEMD-160 digest of a message shorter than a block.
 #[tactic(auto, using(ripemd_block::proofs::StateLaws::finish_short))]
 pub fn digest_of_short(message: &[u8]) -> [u8; 20]
-    requires { length message.now < 64 }
+    requires { length message.now < block_size }
     ensures { result ≡ ripemd ripemd160 message.now }
 {
     let mut core = Ripemd160Core::default();

@@ -47,8 +47,8 @@ fn tracks_writes(rt: HostRuntime) {
     assert!(rt; !tracked.failed());
     assert_eq!(rt; tracked.taken(), 0);
 
-    let fault = tracked.write_all(b"def");
-    assert!(rt; matches!(fault, Err(e) if e.kind() == ErrorKind::StorageFull));
+    let outcome = tracked.write_all(b"def");
+    assert!(rt; matches!(outcome, Err(e) if e.kind() == ErrorKind::StorageFull));
     assert!(rt; tracked.failed());
     assert_eq!(rt; tracked.taken(), 0);
     let writer = tracked.into_inner();

@@ -1,15 +1,10 @@
 use Rattle.std.proofs.Common.{add-one, arith, refl}
-use Rattle.ripemd_block.specs.Compression.{lines_after}
+use Rattle.ripemd_block.specs.Standard.Compression.{lines_after}
 use Rattle.ripemd_block.proofs.Compressing.{lines_from_160, compress_160}
 use Rattle.ripemd_block.proofs.c160.compress.Goals as goal
 
 pub loop-r-init : goal.loop-r-init
-unfolding lines_after
-loop-r-init c = record {
-  lines = lines_from_160 c.args.state.now (omega arith);
-  left_length = omega arith;
-  right_length = omega arith;
-}
+loop-r-init c = lines_from_160 (omega arith)
 
 pub loop-r-preserved : goal.loop-r-preserved
 unfolding lines_after
@@ -20,6 +15,4 @@ loop-r-preserved c = record {
 }
 
 pub returns-clause-state : goal.returns-clause-state
-returns-clause-state c =
-    let i = c.loop-r.invariant in
-    compress_160 c.args.state.now c.args.block.now c.loop-r.left c.loop-r.right c.loop-r.r (omega arith) i.lines (omega arith) i.left_length i.right_length
+returns-clause-state c = compress_160 c.loop-r.invariant (omega arith) (omega arith)

@@ -1,7 +1,7 @@
 -- The state is that after the blocks so far.
 use Rattle.std.proofs.Common.{◌≡◌, take}
-use Rattle.ripemd_block.specs.Compression.{compress, ripemd160}
-use Rattle.ripemd_block.specs.Hashing.{walk}
+use Rattle.ripemd_block.specs.Standard.Compression.{compress, ripemd160}
+use Rattle.ripemd_block.specs.Standard.Hashing.{walk}
 use Rattle.ripemd_block.specs.States.{AreWords}
 use Rattle.ripemd_block.proofs.c160.walk.Given as goal
 

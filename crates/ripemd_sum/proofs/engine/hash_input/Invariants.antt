@@ -1,12 +1,16 @@
--- The reader gave a message within the limit, and the core and the block are the state of it. Each
--- turn that goes on takes a byte more.
-use Rattle.std.proofs.Common.{◌-◌}
+-- The reader gave a message within the limit, and the core and the block have read it. Each turn
+-- that goes on takes a byte more.
+use Rattle.std.proofs.Common.{◌-◌, ℕ, List}
 use Rattle.ripemd_sum.specs.Track.{taken_of}
-use Rattle.ripemd_sum.proofs.Reading.{HasRead}
+use Rattle.ripemd_sum.proofs.Reading.{GivesWithin, HasRead}
 use Rattle.ripemd_sum.proofs.engine.hash_input.Given as goal
 
 abbrev pub invariant-reads : goal.invariant-reads
-invariant-reads g l = HasRead g.R.Read.remaining l.fn.reader l.reader l.limit l.core l.block l.filled
+invariant-reads g l = record {
+  message : List ℕ;
+  gives : GivesWithin g.R.Read.remaining l.fn.reader l.reader l.limit message;
+  held : HasRead l.core l.block l.filled message;
+}
 
 abbrev pub decreases-reads : goal.decreases-reads
 decreases-reads g l = l.limit - taken_of l.reader

@@ -7,10 +7,15 @@ use Rattle.ripemd_block.proofs.buffer.Buffer.len64_padding_le.Goals.{then-len-lt
 pub returns-clause-value : goal.returns-clause-value
 returns-clause-value c =
     let tail = c.args.self.now in
-    let marked : c.marked-marked.result ≡ tail ++ 0x80 ∷ replicate (63 - length tail) 0 = rw (← c.self.view_is) c.marked-marked.ensures.block in
-    let fits : c.self.inside.len < 64 = c.self.invariant in
-    let len : length tail ≡ c.self.inside.len = rw (← c.self.view_is) (length-take-le c.self.inside.len c.self.inside.bytes (omega arith)) in
+    let own = c.self.inside in
+    let fits : own.len < 64 = c.self.invariant in
+    let len : length tail ≡ own.len = rw (← c.self.view_is) (length-take-le own.len own.bytes (omega arith)) in
+    let marked : c.marked_block-marked.result ≡ tail ++ 0x80 ∷ replicate (63 - length tail) 0 =
+    rw (← c.self.view_is) c.marked_block-marked.ensures.block in
     elim c.if-len-lt56.branch [
-      | then-len-lt56 w ↦ rw (w.result-is, w.with_length.ensures, marked) (with_padding_short tail c.args.bit_len (omega arith))
-      | else-len-lt56 w ↦ rw (w.result-is, w.with_length-else-len-lt56.ensures, marked) (with_padding_long tail c.args.bit_len (omega arith) (omega arith))
+      | then-len-lt56 w ↦
+          rw (w.result-is, w.with_length.ensures, marked) (with_padding_short tail c.args.bit_len (omega arith))
+      | else-len-lt56 w ↦
+          rw (w.result-is, w.with_length-else-len-lt56.ensures, marked)
+          (with_padding_long tail c.args.bit_len (omega arith) (omega arith))
     ]

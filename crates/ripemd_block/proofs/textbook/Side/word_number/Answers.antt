@@ -1,9 +1,9 @@
 -- The table lists the word numbers of the right line, which compute.
-use Rattle.std.proofs.Common.{◌≡◌, ℕ, List, [], arith, get_or, map, ap, ◌∙◌}
+use Rattle.std.proofs.Common.{◌≡◌, ℕ, List, [], get_or, map, ap, ◌∙◌}
 use Rattle.std.specs.List.{range_with_len}
-use Rattle.std.proofs.lemmas.List.FromFn.{get_or-map-range_with_len}
-use Rattle.ripemd_block.specs.Schedule.{right_line}
+use Rattle.ripemd_block.specs.Standard.Schedule.{right_line}
 use Rattle.ripemd_block.specs.Published.{word_order}
+use Rattle.ripemd_block.proofs.Tables.{value_at}
 use Rattle.ripemd_block.proofs.textbook.Side.word_number.Goals as goal
 
 pub returns-in-Right-clause-value : goal.returns-in-Right-clause-value
@@ -12,5 +12,6 @@ returns-in-Right-clause-value c =
     let r = c.args.r in
     let i = c.args.i in
     let row : get_or (word_order (right_line 5)) r [] ≡ map (number r) (range_with_len 0 16) =
-    get_or-map-range_with_len (λ r. map (number r) (range_with_len 0 16)) 0 5 r r [] c.requires.round (omega arith) in
-    rw c.in-Right.is (ap (λ (row : List ℕ). get_or row i 0) row ∙ get_or-map-range_with_len (number r) 0 16 i i 0 c.requires.step (omega arith))
+    value_at (λ r. map (number r) (range_with_len 0 16)) 5 r [] c.requires.round in
+    rw c.in-Right.is
+    (ap (λ (row : List ℕ). get_or row i 0) row ∙ value_at (number r) 16 i 0 c.requires.step)

@@ -1,0 +1,2 @@
+-- What the code's own types stand for.
+pub mod Sides

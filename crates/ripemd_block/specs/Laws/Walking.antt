@@ -1,0 +1,20 @@
+-- The laws of taking blocks in, which each core keeps.
+use Rattle.std.proofs.Common.{◌≡◌, ℕ, ◌+◌, ◌%◌, ◌^◌, List, [], ◌++◌, length, refl, arith, length-append}
+use Rattle.std.proofs.lemmas.List.Sums.{fold-append}
+use Rattle.ripemd_block.specs.Standard.Compression.{Parameters}
+use Rattle.ripemd_block.specs.States.{Meaning, IsCoreState, after_blocks}
+
+-- no blocks change nothing
+pub after_no_blocks : (step : List ℕ → List ℕ → List ℕ) (v : Parameters) (h : Meaning)
+    → IsCoreState v h → after_blocks step h [] ≡ h
+after_no_blocks step v h valid =
+    let count : (h.count + 0) % 2 ^ 64 ≡ h.count = omega (arith, valid.state.count) in
+    rw count refl
+
+-- some blocks and then others are both, joined
+pub after_joined_blocks : (step : List ℕ → List ℕ → List ℕ) (h : Meaning) (xs ys : List (List ℕ))
+    → after_blocks step (after_blocks step h xs) ys ≡ after_blocks step h (xs ++ ys)
+after_joined_blocks step h xs ys =
+    let count : ((h.count + length xs) % 2 ^ 64 + length ys) % 2 ^ 64 ≡ (h.count + length (xs ++ ys)) % 2 ^ 64 =
+    omega (arith, length-append xs ys) in
+    rw (count, fold-append step h.words xs ys) refl

@@ -1,0 +1,65 @@
+//! What is proved of the definitions themselves: that they give what the authors published, and
+//! their laws. The functions do nothing; their contracts are the facts.
+
+ghost use Rattle.std.specs.Prelude.{◌≡◌, ℕ, ◌+◌, ◌-◌, ◌*◌, ◌%◌, ◌^◌, ◌<◌, List, [], ◌++◌, length, drop};
+ghost use Rattle.ripemd_block.specs.Standard.Words.{block_size, word_bytes, eight_bytes};
+ghost use Rattle.ripemd_block.specs.Standard.Compression.{Parameters, compress};
+ghost use Rattle.ripemd_block.specs.Standard.Hashing.{length_place, zero_count, padded_message, hash, ripemd};
+ghost use Rattle.ripemd_block.specs.States.{Meaning, initial_state, new_state, fed, finish};
+ghost use Rattle.ripemd_block.specs.Published.{DigestsOfEmpty, DigestsOfAbc, DigestsOfTwoBlocks, OrderOfLeftLine, OrderOfRightLine, ConstantsOfLines, AreWholeRoots, SavedCores, SavedHasher, SavedBlockAndTail};
+
+/// The definitions give the digests that the authors published of the empty message, of "abc" and
+/// of a message of 56 bytes, whose padding needs a second block, for each of the four variants.
+pub fn published_digests()
+    ensures empty { DigestsOfEmpty }
+    ensures abc { DigestsOfAbc }
+    ensures two_blocks { DigestsOfTwoBlocks }
+{}
+
+/// The definitions give the published orders of the message words and the published constants, and
+/// each constant is the greatest whole number that is not above its root.
+pub fn published_tables()
+    ensures left { OrderOfLeftLine }
+    ensures right { OrderOfRightLine }
+    ensures constants { ConstantsOfLines }
+    ensures roots_of_two { AreWholeRoots 0 }
+    ensures roots_of_three { AreWholeRoots 1 }
+    ensures roots_of_five { AreWholeRoots 2 }
+    ensures roots_of_seven { AreWholeRoots 3 }
+{}
+
+/// The definitions give the saved bytes of new cores of the four variants, of a RIPEMD-160 hasher
+/// that was fed "abc", and of one that was fed 65 bytes.
+pub fn saved_states()
+    ensures cores { SavedCores }
+    ensures hasher { SavedHasher }
+    ensures block_and_tail { SavedBlockAndTail }
+{}
+
+/// The padding's zero bytes are the fewest after which the length has its place at the end of a
+/// block, a padded message is whole blocks, and its last 8 bytes are the message's length in bits,
+/// as long as that is below 2^64.
+pub fn padding_laws()
+    ensures zeros { (n : ℕ) → (n + 1 + zero_count n) % block_size ≡ length_place }
+    ensures fewest { (n : ℕ) → zero_count n < block_size }
+    ensures whole { (message : List ℕ) → length (padded_message message) % block_size ≡ 0 }
+    ensures length { (message : List ℕ) → length message < 2 ^ 61
+        → drop (length (padded_message message) - 8) (padded_message message)
+        ≡ eight_bytes (8 * length message) }
+{}
+
+/// However a message is cut, its state is that of the whole message, and finishing that state gives
+/// its hash: for every start, step and output of a block function over lists of numbers, and for
+/// messages of every length. So for each of the four variants it gives the digest.
+pub fn state_laws()
+    ensures nothing { (step : List ℕ → List ℕ → List ℕ) (h : Meaning)
+        → h.count < 2 ^ 64 → length h.tail < block_size → fed step h [] ≡ h }
+    ensures joined { (step : List ℕ → List ℕ → List ℕ) (h : Meaning) (x y : List ℕ)
+        → fed step (fed step h x) y ≡ fed step h (x ++ y) }
+    ensures finished { (start : List ℕ) (step : List ℕ → List ℕ → List ℕ) (output : List ℕ → List ℕ)
+        (message : List ℕ)
+        → finish step output (fed step (initial_state start) message)
+        ≡ hash start step output message }
+    ensures digest { (v : Parameters) (message : List ℕ)
+        → finish (compress v) word_bytes (fed (compress v) (new_state v) message) ≡ ripemd v message }
+{}
