@@ -1,6 +1,10 @@
+pub mod Absorbing
 pub mod BlockLaws
-pub mod Compressing
+pub mod Factoring
 pub mod Finishing
-pub mod Padding
+pub mod LastBlocks
+pub mod PaddedBlocks
+pub mod Rotating
 pub mod StateLaws
+pub mod Stepping
 pub mod Tables

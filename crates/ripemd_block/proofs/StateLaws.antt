@@ -49,7 +49,7 @@ module _ (step : List ℕ → List ℕ → List ℕ) (h : Meaning) where
 -- ---- the end
 
 -- the padding of a whole message follows what is left after its whole blocks
-with_padding_rest : (m : List ℕ) (n : ℕ)
+pub with_padding_rest : (m : List ℕ) (n : ℕ)
     → blocks (with_padding m n) ≡ blocks m ++ blocks (with_padding (partial_block m) n)
 unfolding with_padding
 with_padding_rest m n =

@@ -1,75 +1,58 @@
-//! The compression function of RIPEMD-160 (1996, pseudo-code).
+//! The compression function of RIPEMD-160 (1996, pseudo-code): both lines start from the whole
+//! state, and nothing is exchanged between them.
 
-ghost use Rattle.std.specs.Prelude.{◌≡◌, ◌<◌, List, ℕ};
-ghost use Rattle.ripemd_block.specs.Standard.Words.{message_word};
-ghost use Rattle.ripemd_block.specs.Standard.Schedule.{rotation};
-ghost use Rattle.ripemd_block.specs.Standard.Compression.{step, round, compress, ripemd160};
-ghost use Rattle.ripemd_block.specs.Standard.Hashing.{walk};
+ghost use Rattle.std.specs.Prelude.{◌≡◌};
+ghost use Rattle.ripemd_block.specs.Standard.Compression.{lines_from, joint_state};
+ghost use Rattle.ripemd_block.specs.Standard.Compression.{compress, ripemd160};
 ghost use Rattle.ripemd_block.specs.States.{AreWords};
-ghost use Rattle.ripemd_block.specs.Code.Sides.{line_of};
+ghost use Rattle.ripemd_block.specs.Code.Lines.{five_lefts, five_rights, five_lines};
 
-use crate::textbook::{Side, message_word, rotation};
+use crate::five_registers::round;
+use crate::message::message_words;
+use crate::pair::Pair;
 
-// Step `i` of round `r` of a line, from the registers A B C D E.
-fn step(side: Side, r: usize, i: usize, block: &[u8; 64], registers: [u32; 5]) -> [u32; 5]
-    requires round { r < 5 }
-    requires step { i < 16 }
-    ensures { let line = line_of side in let j = line.word_number r i in
-        result ≡ step (line.function r) (message_word block.now j) (line.constant r) (rotation r j)
-        registers }
+// Where the lines start.
+#[inline(always)]
+fn lines_from(state: [u32; 5]) -> [Pair; 5]
+    ensures { five_lines result ≡ lines_from ripemd160 state }
 {
-    let [a, b, c, d, e] = registers;
-    let j = side.word_number(r, i);
-    let sum = a
-        .wrapping_add(side.function(r, b, c, d))
-        .wrapping_add(message_word(block, j))
-        .wrapping_add(side.constant(r));
-    let t = sum.rotate_left(rotation(r, j)).wrapping_add(e);
-    [e, t, b, c.rotate_left(10), d]
+    let [a, b, c, d, e] = state;
+    [
+        Pair::of(a, a),
+        Pair::of(b, b),
+        Pair::of(c, c),
+        Pair::of(d, d),
+        Pair::of(e, e),
+    ]
 }
 
-// Round `r` of a line: sixteen steps.
-fn round(side: Side, r: usize, block: &[u8; 64], start: [u32; 5]) -> [u32; 5]
-    requires { r < 5 }
-    ensures { result ≡ round (line_of side) block.now r start }
+// The state that takes the registers of both lines in.
+#[inline(always)]
+fn joint_state(state: [u32; 5], lines: [Pair; 5]) -> [u32; 5]
+    ensures { result ≡ joint_state state (five_lefts lines) (five_rights lines) }
 {
-    let mut registers = start;
-    for i in 0..16 {
-        let next = step(side, r, i, block, registers);
-        registers = next;
-    }
-    registers
+    let [a, b, c, d, e] = lines;
+    [
+        state[1].wrapping_add(c.left()).wrapping_add(d.right()),
+        state[2].wrapping_add(d.left()).wrapping_add(e.right()),
+        state[3].wrapping_add(e.left()).wrapping_add(a.right()),
+        state[4].wrapping_add(a.left()).wrapping_add(b.right()),
+        state[0].wrapping_add(b.left()).wrapping_add(c.right()),
+    ]
 }
 
-// Takes one block into the state.
-fn compress(state: &mut [u32; 5], block: &[u8; 64])
+/// Takes one block into the state.
+pub(crate) fn compress(state: &mut [u32; 5], block: &[u8; 64])
     ensures state { state.new ≡ compress ripemd160 state.old block.now }
-    ensures words { AreWords 5 state.new }
-{
-    let mut left = *state;
-    let mut right = *state;
-    for r in 0..5 {
-        let next_left = round(Side::Left, r, block, left);
-        let next_right = round(Side::Right, r, block, right);
-        left = next_left;
-        right = next_right;
-    }
-    *state = [
-        state[1].wrapping_add(left[2]).wrapping_add(right[3]),
-        state[2].wrapping_add(left[3]).wrapping_add(right[4]),
-        state[3].wrapping_add(left[4]).wrapping_add(right[0]),
-        state[4].wrapping_add(left[0]).wrapping_add(right[1]),
-        state[0].wrapping_add(left[1]).wrapping_add(right[2]),
-    ];
-}
-
-/// Takes blocks into the state, in order.
-pub(crate) fn walk(state: &mut [u32; 5], blocks: &[[u8; 64]])
-    ensures walk { state.new ≡ walk (compress ripemd160) state.old blocks.now }
     ensures old_words { AreWords 5 state.old }
     ensures new_words { AreWords 5 state.new }
 {
-    for block in blocks {
-        compress(state, block);
-    }
+    let words = message_words(block);
+    let lines = lines_from(*state);
+    let lines = round(0, &words, lines);
+    let lines = round(1, &words, lines);
+    let lines = round(2, &words, lines);
+    let lines = round(3, &words, lines);
+    let lines = round(4, &words, lines);
+    *state = joint_state(*state, lines);
 }

@@ -2,10 +2,14 @@
 //! their laws. The functions do nothing; their contracts are the facts.
 
 ghost use Rattle.std.specs.Prelude.{◌≡◌, ℕ, ◌+◌, ◌-◌, ◌*◌, ◌%◌, ◌^◌, ◌<◌, List, [], ◌++◌, length, drop};
+ghost use Rattle.std.specs.Prelude.{slice_index_or};
 ghost use Rattle.ripemd_block.specs.Standard.Words.{block_size, word_bytes, eight_bytes};
 ghost use Rattle.ripemd_block.specs.Standard.Compression.{Parameters, compress};
-ghost use Rattle.ripemd_block.specs.Standard.Hashing.{length_place, zero_count, padded_message, hash, ripemd};
-ghost use Rattle.ripemd_block.specs.States.{Meaning, initial_state, new_state, fed, finish};
+ghost use Rattle.ripemd_block.specs.Standard.Compression.{ripemd128, ripemd160, ripemd256, ripemd320};
+ghost use Rattle.ripemd_block.specs.Standard.Hashing.{length_place, zero_count, padded_message};
+ghost use Rattle.ripemd_block.specs.Standard.Hashing.{blocks, hash, ripemd};
+ghost use Rattle.ripemd_block.specs.States.{Meaning, AreWords};
+ghost use Rattle.ripemd_block.specs.States.{initial_state, new_state, fed, finish};
 ghost use Rattle.ripemd_block.specs.Published.{DigestsOfEmpty, DigestsOfAbc, DigestsOfTwoBlocks, OrderOfLeftLine, OrderOfRightLine, ConstantsOfLines, AreWholeRoots, SavedCores, SavedHasher, SavedBlockAndTail};
 
 /// The definitions give the digests that the authors published of the empty message, of "abc" and
@@ -36,9 +40,18 @@ pub fn saved_states()
     ensures block_and_tail { SavedBlockAndTail }
 {}
 
+/// The start words of each variant are words, as many as its state has.
+pub fn start_words()
+    ensures of128 { AreWords 4 ripemd128.start }
+    ensures of160 { AreWords 5 ripemd160.start }
+    ensures of256 { AreWords 8 ripemd256.start }
+    ensures of320 { AreWords 10 ripemd320.start }
+{}
+
 /// The padding's zero bytes are the fewest after which the length has its place at the end of a
 /// block, a padded message is whole blocks, and its last 8 bytes are the message's length in bits,
-/// as long as that is below 2^64.
+/// as long as that is below 2^64. Different messages have different padded messages, and those of
+/// different lengths below 2^61 bytes differ in the last block.
 pub fn padding_laws()
     ensures zeros { (n : ℕ) → (n + 1 + zero_count n) % block_size ≡ length_place }
     ensures fewest { (n : ℕ) → zero_count n < block_size }
@@ -46,6 +59,11 @@ pub fn padding_laws()
     ensures length { (message : List ℕ) → length message < 2 ^ 61
         → drop (length (padded_message message) - 8) (padded_message message)
         ≡ eight_bytes (8 * length message) }
+    ensures one_message { (a b : List ℕ) → padded_message a ≡ padded_message b → a ≡ b }
+    ensures one_length { (a b : List ℕ) → length a < 2 ^ 61 → length b < 2 ^ 61
+        → slice_index_or (blocks (padded_message a)) (length (blocks (padded_message a)) - 1) []
+        ≡ slice_index_or (blocks (padded_message b)) (length (blocks (padded_message b)) - 1) []
+        → length a ≡ length b }
 {}
 
 /// However a message is cut, its state is that of the whole message, and finishing that state gives

@@ -1,4 +1,4 @@
-use Rattle.ripemd_block.proofs.Padding.{marked_block}
+use Rattle.ripemd_block.proofs.LastBlocks.{marked_block}
 use Rattle.ripemd_block.proofs.buffer.marked_block.Goals as goal
 
 pub returns-clause-block : goal.returns-clause-block

@@ -1,5 +1,5 @@
 use Rattle.std.proofs.Common.{arith, ap, ◌∙◌, ◌++◌, List, ℕ, take}
-use Rattle.ripemd_block.proofs.Padding.{put_mid_end}
+use Rattle.ripemd_block.proofs.LastBlocks.{put_mid_end}
 use Rattle.ripemd_block.proofs.buffer.with_length.Goals as goal
 
 pub returns : goal.returns

@@ -1,0 +1,68 @@
+-- Bytes that come in behind a tail: the first of them fill a block, or all stay behind the tail.
+use Rattle.std.proofs.Common.{◌≡◌, ℕ, ◌+◌, ◌-◌, ◌<◌, ◌≤◌, sym, ap, ◌∙◌, arith}
+use Rattle.std.proofs.Common.{List, ◌++◌, length, take, drop, length-append}
+use Rattle.std.proofs.lemmas.List.{append_assoc, append-nil, length-drop, length-take-le}
+use Rattle.std.proofs.lemmas.List.{take-append-drop, take_at, take_all, drop_all}
+use Rattle.ripemd_block.specs.Standard.Hashing.{blocks, partial_block}
+use Rattle.ripemd_block.proofs.BlockLaws.{blocks_joined, left_over_joined, blocks_of_short, left_over_of_short}
+
+-- ---- bytes put behind the first of a block
+
+-- the first and those behind them
+pub take_put : (len : ℕ) (block bytes rest : List ℕ) → len ≤ length block
+    → take (len + length bytes) (take len block ++ bytes ++ rest) ≡ take len block ++ bytes
+take_put len block bytes rest fits =
+    let size : length (take len block ++ bytes) ≡ len + length bytes =
+    omega (arith, length-append (take len block) bytes, length-take-le len block fits) in
+    take_at (take len block ++ bytes) rest (len + length bytes) size
+
+-- as many as there is room for leave nothing of the block as it was
+pub filled_block : (len room : ℕ) (block bytes : List ℕ) → length block ≡ len + room → room ≤ length bytes
+    → take len block ++ take room bytes ++ drop (len + length (take room bytes)) block
+    ≡ take len block ++ take room bytes
+filled_block len room block bytes size enough =
+    rw (drop_all (len + length (take room bytes)) block (omega (arith, length-take-le room bytes enough)))
+    (append-nil (take len block ++ take room bytes))
+
+-- the bytes from a place on, as a slice of code has them
+pub slice_from : (place : ℕ) (bytes : List ℕ) → take (length bytes - place) (drop place bytes) ≡ drop place bytes
+slice_from place bytes = take_all (length bytes - place) (drop place bytes) (omega (arith, length-drop place bytes))
+
+-- ---- a tail that the bytes don't fill
+
+module _ (tail bytes : List ℕ) where
+  short : length tail + length bytes < 64 → length (tail ++ bytes) < 64
+  short h = omega (arith, length-append tail bytes)
+
+  -- there is no whole block, as there is none of the bytes alone
+  pub blocks_unfilled : length tail + length bytes < 64 → blocks bytes ≡ blocks (tail ++ bytes)
+  blocks_unfilled h = blocks_of_short bytes (omega arith) ∙ sym (blocks_of_short (tail ++ bytes) (short h))
+
+  -- all of them are left over
+  pub left_over_unfilled : length tail + length bytes < 64
+      → tail ++ partial_block bytes ≡ partial_block (tail ++ bytes)
+  left_over_unfilled h =
+      rw (left_over_of_short bytes (omega arith)) (sym (left_over_of_short (tail ++ bytes) (short h)))
+
+-- ---- a tail that the first bytes fill
+
+module _ (tail bytes : List ℕ) (room : ℕ) where
+  split : tail ++ bytes ≡ (tail ++ take room bytes) ++ drop room bytes
+  split =
+      ap (λ (x : List ℕ). tail ++ x) (sym (take-append-drop room bytes))
+      ∙ sym (append_assoc tail (take room bytes) (drop room bytes))
+
+  size : length tail + room ≡ 64 → room ≤ length bytes → length (tail ++ take room bytes) ≡ 64
+  size full enough = omega (arith, length-append tail (take room bytes), length-take-le room bytes enough)
+
+  -- the filled block comes before those of the other bytes
+  pub blocks_filled : length tail + room ≡ 64 → room ≤ length bytes
+      → blocks (tail ++ bytes) ≡ blocks (tail ++ take room bytes) ++ blocks (drop room bytes)
+  blocks_filled full enough =
+      rw split (blocks_joined 1 (tail ++ take room bytes) (drop room bytes) (size full enough))
+
+  -- what is left over is what the other bytes leave over
+  pub left_over_filled : length tail + room ≡ 64 → room ≤ length bytes
+      → partial_block (tail ++ bytes) ≡ partial_block (drop room bytes)
+  left_over_filled full enough =
+      rw split (left_over_joined 1 (tail ++ take room bytes) (drop room bytes) (size full enough))

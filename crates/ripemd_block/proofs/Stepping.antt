@@ -1,0 +1,66 @@
+-- A line, step by step and round by round, of any variant.
+use Rattle.std.proofs.Common.{◌≡◌, ℕ, zero, suc, ◌<◌, ◌+◌, ◌^◌, add-one, ap, ◌∙◌, arith}
+use Rattle.std.proofs.Common.{List, [], ◌∷◌, get_or, slice_get}
+use Rattle.std.specs.List.{All}
+use Rattle.ripemd_block.specs.Standard.Words.{message_word}
+use Rattle.ripemd_block.specs.Standard.Schedule.{Line, left_line, right_line, rotation}
+use Rattle.ripemd_block.specs.Standard.Compression.{Parameters, Lines, step, registers_after, round}
+use Rattle.ripemd_block.specs.Standard.Compression.{word_sums, exchange, lines_after, lines_from, compress}
+use Rattle.ripemd_block.specs.Code.Lines.{message_words}
+use Rattle.ripemd_block.proofs.Tables.{value_at}
+
+-- the message word at a place of all sixteen
+pub message_word_at : {words : List ℕ} (block : List ℕ) (j d : ℕ) → words ≡ message_words block → j < 16
+    → get_or words j d ≡ message_word block j
+unfolding message_words
+message_word_at block j d all h = rw all (value_at (message_word block) 16 j d h)
+
+-- one more step of a line, where j is the number of its message word x, k the constant and s the rotation
+pub one_more_step : (line : Line) (block : List ℕ) (r n : ℕ) (start before after : List ℕ) (j x k s : ℕ)
+    → j ≡ line.word_number r n
+    → x ≡ message_word block j
+    → k ≡ line.constant r
+    → s ≡ rotation r j
+    → before ≡ registers_after line block r n start
+    → after ≡ step (line.function r) x k s before
+    → after ≡ registers_after line block r (n + 1) start
+unfolding registers_after
+one_more_step line block r n start before after j x k s number word constant amount so_far made =
+    rw (add-one, ← so_far, ← number, ← word, ← constant, ← amount) made
+
+-- before the first round
+pub no_rounds : {start from : Lines} (v : Parameters) (block : List ℕ) → start ≡ from
+    → start ≡ lines_after v block 0 from
+unfolding lines_after
+no_rounds v block same = same
+
+-- one more round of both lines, with the exchange after it
+pub one_more_round : {before : Lines} {left right : List ℕ} (v : Parameters) (block : List ℕ) (from : Lines) (n : ℕ)
+    → before ≡ lines_after v block n from
+    → left ≡ round left_line block n before.left
+    → right ≡ round (right_line v.rounds) block n before.right
+    → exchange (slice_get v.exchanges n) (record { left = left; right = right })
+    ≡ lines_after v block (suc n) from
+unfolding lines_after
+one_more_round {before = before} {right = right} v block from n so_far made_left made_right =
+    let exchanged : List ℕ → List ℕ → Lines =
+    λ l r. exchange (slice_get v.exchanges n) (record { left = l; right = r }) in
+    let after : Lines → Lines =
+    λ l. exchanged (round left_line block n l.left) (round (right_line v.rounds) block n l.right) in
+    ap (λ (l : List ℕ). exchanged l right) made_left
+    ∙ ap (λ (r : List ℕ). exchanged (round left_line block n before.left) r) made_right
+    ∙ ap after so_far
+
+-- the state after a block, from the lines after all rounds
+pub compress_from : (v : Parameters) (state block : List ℕ) (end : Lines)
+    → end ≡ lines_after v block v.rounds (lines_from v state)
+    → v.combination state end.left end.right ≡ compress v state block
+unfolding compress
+compress_from v state block end lines = ap (λ (l : Lines). v.combination state l.left l.right) lines
+
+-- word by word sums are words
+pub word_sums_fit : (xs ys : List ℕ) → All (λ w. w < 2 ^ 32) (word_sums xs ys)
+word_sums_fit (x ∷ xs) (y ∷ ys) zero d within = omega arith
+word_sums_fit (x ∷ xs) (y ∷ ys) (suc k) d within = word_sums_fit xs ys k d (omega arith)
+word_sums_fit (x ∷ xs) [] k d within = absurd (omega arith)
+word_sums_fit [] ys k d within = absurd (omega arith)

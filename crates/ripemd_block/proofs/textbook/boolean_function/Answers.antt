@@ -1,5 +1,0 @@
-use Rattle.std.proofs.Common.{refl}
-use Rattle.ripemd_block.proofs.textbook.boolean_function.Goals as goal
-
-pub returns-in-2 : goal.returns-in-2
-returns-in-2 c = rw c.in-2.is refl

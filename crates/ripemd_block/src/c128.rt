@@ -1,0 +1,55 @@
+//! The compression function of RIPEMD-128 (1996, pseudo-code): both lines start from the whole
+//! state, and nothing is exchanged between them.
+
+ghost use Rattle.std.specs.Prelude.{◌≡◌};
+ghost use Rattle.ripemd_block.specs.Standard.Compression.{lines_from, joint_state};
+ghost use Rattle.ripemd_block.specs.Standard.Compression.{compress, ripemd128};
+ghost use Rattle.ripemd_block.specs.States.{AreWords};
+ghost use Rattle.ripemd_block.specs.Code.Lines.{four_lefts, four_rights, four_lines};
+
+use crate::four_registers::round;
+use crate::message::message_words;
+use crate::pair::Pair;
+
+// Where the lines start.
+#[inline(always)]
+fn lines_from(state: [u32; 4]) -> [Pair; 4]
+    ensures { four_lines result ≡ lines_from ripemd128 state }
+{
+    let [a, b, c, d] = state;
+    [
+        Pair::of(a, a),
+        Pair::of(b, b),
+        Pair::of(c, c),
+        Pair::of(d, d),
+    ]
+}
+
+// The state that takes the registers of both lines in.
+#[inline(always)]
+fn joint_state(state: [u32; 4], lines: [Pair; 4]) -> [u32; 4]
+    ensures { result ≡ joint_state state (four_lefts lines) (four_rights lines) }
+{
+    let [a, b, c, d] = lines;
+    [
+        state[1].wrapping_add(c.left()).wrapping_add(d.right()),
+        state[2].wrapping_add(d.left()).wrapping_add(a.right()),
+        state[3].wrapping_add(a.left()).wrapping_add(b.right()),
+        state[0].wrapping_add(b.left()).wrapping_add(c.right()),
+    ]
+}
+
+/// Takes one block into the state.
+pub(crate) fn compress(state: &mut [u32; 4], block: &[u8; 64])
+    ensures state { state.new ≡ compress ripemd128 state.old block.now }
+    ensures old_words { AreWords 4 state.old }
+    ensures new_words { AreWords 4 state.new }
+{
+    let words = message_words(block);
+    let lines = lines_from(*state);
+    let lines = round(0, &words, lines);
+    let lines = round(1, &words, lines);
+    let lines = round(2, &words, lines);
+    let lines = round(3, &words, lines);
+    *state = joint_state(*state, lines);
+}

@@ -1,0 +1,122 @@
+//! The lines of RIPEMD-128 and RIPEMD-256, which have four registers and run four rounds, side by
+//! side.
+
+ghost use Rattle.std.specs.Prelude.{◌≡◌, ◌<◌, ◌≤◌, ◌+◌, ◌-◌, ℕ, List, Some};
+ghost use Rattle.ripemd_block.specs.Standard.Schedule.{boolean_function, left_line, right_line};
+ghost use Rattle.ripemd_block.specs.Standard.Compression.{step, registers_after, round, exchange};
+ghost use Rattle.ripemd_block.specs.Code.Lines.{four_lefts, four_rights, four_lines, message_words};
+
+use crate::message::words_of_step;
+use crate::pair::{DoubledWord, Pair};
+use crate::textbook::{constants_of_four_rounds, left_number, right_number, rotation};
+
+// The Boolean functions of round `r`: number `r` of the left words, and number `3 - r` of the right
+// ones, all in the form `(x & m) ^ n`, so that little waits for `x`, the newest of them.
+#[inline(always)]
+fn functions(r: usize, x: Pair, y: Pair, z: Pair) -> Pair
+    requires { r < 4 }
+    ensures left { result.left ≡ boolean_function r x.left y.left z.left }
+    ensures right { result.right ≡ boolean_function (3 - r) x.right y.right z.right }
+{
+    let none = Pair::of(0, 0);
+    let ones = Pair::of(0xffff_ffff, 0xffff_ffff);
+    match r {
+        0 => x
+            .and(Pair::select(ones, z))
+            .xor(Pair::select(y.xor(z), y.and(z.not()))),
+        1 => x
+            .and(Pair::select(y.xor(z), y))
+            .xor(z.xor(Pair::select(none, y.not()))),
+        2 => x
+            .and(Pair::select(y, y.xor(z)))
+            .xor(z.xor(Pair::select(y.not(), none))),
+        _ => x
+            .and(Pair::select(z, ones))
+            .xor(Pair::select(y.and(z.not()), y.xor(z))),
+    }
+}
+
+// A step of both lines in round `r`, from the registers A B C D, with the message words `x`, the
+// constants `k` and the rotations by `left` and by `right` bits.
+#[inline(always)]
+fn step(r: usize, x: Pair, k: Pair, left: u32, right: u32, registers: [Pair; 4]) -> [Pair; 4]
+    requires round { r < 4 }
+    requires left { (0 < left) × (left < 32) }
+    requires right { (0 < right) × (right < 32) }
+    ensures left { four_lefts result
+        ≡ step (boolean_function r) x.left k.left left (four_lefts registers) }
+    ensures right { four_rights result
+        ≡ step (boolean_function (3 - r)) x.right k.right right (four_rights registers) }
+{
+    let [a, b, c, d] = registers;
+    let sum = a.add(functions(r, b, c, d)).add(x).add(k);
+    let t = sum.rotate(left, right);
+    [d, t, b, c]
+}
+
+// Step `i` of round `r`.
+#[inline(always)]
+fn step_at(r: usize, i: usize, words: &[DoubledWord; 16], registers: [Pair; 4]) -> [Pair; 4]
+    requires round { r < 4 }
+    requires step { i < 16 }
+    ensures left { (block start : List ℕ) → words.now ≡ message_words block
+        → four_lefts registers ≡ registers_after left_line block r i start
+        → four_lefts result ≡ registers_after left_line block r (i + 1) start }
+    ensures right { (block start : List ℕ) → words.now ≡ message_words block
+        → four_rights registers ≡ registers_after (right_line 4) block r i start
+        → four_rights result ≡ registers_after (right_line 4) block r (i + 1) start }
+{
+    let left = left_number(r, i);
+    let right = right_number(r, i);
+    let x = words_of_step(words, left, right);
+    let k = constants_of_four_rounds(r);
+    let left_amount = rotation(r, left);
+    let right_amount = rotation(r, right);
+    step(r, x, k, left_amount, right_amount, registers)
+}
+
+// Four steps of round `r`, from step `from` on.
+#[inline(always)]
+fn four_steps(r: usize, from: usize, words: &[DoubledWord; 16], start: [Pair; 4]) -> [Pair; 4]
+    requires round { r < 4 }
+    requires steps { from + 4 ≤ 16 }
+    ensures left { (block first : List ℕ) → words.now ≡ message_words block
+        → four_lefts start ≡ registers_after left_line block r from first
+        → four_lefts result ≡ registers_after left_line block r (from + 4) first }
+    ensures right { (block first : List ℕ) → words.now ≡ message_words block
+        → four_rights start ≡ registers_after (right_line 4) block r from first
+        → four_rights result ≡ registers_after (right_line 4) block r (from + 4) first }
+{
+    let mut registers = start;
+    for i in 0..4 {
+        let next = step_at(r, from + i, words, registers);
+        registers = next;
+    }
+    registers
+}
+
+/// Round `r` of both lines: sixteen steps. Fours of them are what the compiler unrolls.
+#[inline(always)]
+pub(crate) fn round(r: usize, words: &[DoubledWord; 16], registers: [Pair; 4]) -> [Pair; 4]
+    requires { r < 4 }
+    ensures left { (block : List ℕ) → words.now ≡ message_words block
+        → four_lefts result ≡ round left_line block r (four_lefts registers) }
+    ensures right { (block : List ℕ) → words.now ≡ message_words block
+        → four_rights result ≡ round (right_line 4) block r (four_rights registers) }
+{
+    let registers = four_steps(r, 0, words, registers);
+    let registers = four_steps(r, 4, words, registers);
+    let registers = four_steps(r, 8, words, registers);
+    four_steps(r, 12, words, registers)
+}
+
+/// The lines with register `j` exchanged between them.
+#[inline(always)]
+pub(crate) fn exchange(j: usize, registers: [Pair; 4]) -> [Pair; 4]
+    requires { j < 4 }
+    ensures { four_lines result ≡ exchange (Some j) (four_lines registers) }
+{
+    let mut registers = registers;
+    registers[j] = registers[j].swap();
+    registers
+}
