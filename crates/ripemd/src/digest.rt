@@ -1,0 +1,157 @@
+//! The trait of the hashers, and those of the cores below them.
+
+ghost use Rattle.std.specs.Prelude.{◌≡◌, ℕ, ◌≤◌, List, [], length};
+ghost use Rattle.ripemd_block.specs.Standard.Hashing.{hash};
+ghost use Rattle.ripemd_block.specs.States.{Meaning, initial_state, fed, finish};
+
+pub use ripemd_block::block_api::{
+    AlgorithmName, BlockFunction, BlockSizeUser, BufferKindUser, FixedOutputCore, HashMarker,
+    HashMeaning, OutputSizeUser, Reset, SerializableState, UpdateCore,
+};
+
+/// A hash function that takes a message in piece by piece and gives its digest at the end (1996).
+/// Its calls have the names of the Rust crate `digest`, and none of them takes memory or fails.
+///
+/// How a message is cut into pieces makes no difference. Its length in bits is taken modulo 2^64,
+/// as MD4 does, and so is the count of its blocks.
+pub trait Digest: OutputSizeUser + HashMeaning + Drop {
+    // The words that it starts from.
+    ghost start: { List ℕ };
+
+    // The words after a block.
+    ghost step: { List ℕ → List ℕ → List ℕ };
+
+    // The digest of the words.
+    ghost output: { List ℕ → List ℕ };
+
+    /// A hasher of the empty message.
+    fn new() -> Self
+        ensures meaning { Self.meaning result ≡ initial_state start }
+        ensures valid { Self.is_valid (Self.meaning result) };
+
+    /// Takes bytes in, after those of the message so far.
+    fn update(&mut self, bytes: &[u8])
+        ensures fed { Self.meaning self.new ≡ fed step (Self.meaning self.old) bytes.now }
+        ensures valid_old { Self.is_valid (Self.meaning self.old) }
+        ensures valid_new { Self.is_valid (Self.meaning self.new) };
+
+    /// Gives the digest of the message so far, and leaves the hasher as `new()` makes it.
+    fn finalize_reset(&mut self) -> Self::Output
+        ensures digest { Self.bytes_of result ≡ finish step output (Self.meaning self.old) }
+        ensures size { length (Self.bytes_of result) ≡ Self.OUTPUT_SIZE }
+        ensures reset { Self.meaning self.new ≡ initial_state start }
+        ensures valid_old { Self.is_valid (Self.meaning self.old) }
+        ensures valid_new { Self.is_valid (Self.meaning self.new) };
+
+    /// Forgets the message so far, and leaves the hasher as `new()` makes it.
+    fn reset(&mut self)
+        ensures meaning { Self.meaning self.new ≡ initial_state start }
+        ensures valid { Self.is_valid (Self.meaning self.new) };
+
+    /// A second hasher of the same message. From then on each goes its own way.
+    fn duplicate(&self) -> Self
+        ensures same { result ≡ self.now };
+
+    /// The bytes of a digest: as many as `output_size()` says, and at most 64.
+    fn output_bytes(out: &Self::Output) -> &[u8]
+        ensures bytes { result.now ≡ Self.bytes_of out.now }
+        ensures size { length result.now ≡ Self.OUTPUT_SIZE }
+        ensures most { length result.now ≤ 64 };
+
+    /// A hasher of the message `prefix`.
+    final fn new_with_prefix(prefix: &[u8]) -> Self
+    where
+        Self: Sized,
+        ensures fed { Self.meaning result ≡ fed Self.step (initial_state Self.start) prefix.now }
+        ensures valid { Self.is_valid (Self.meaning result) }
+    {
+        let mut hasher = Self::new();
+        hasher.update(prefix);
+        hasher
+    }
+
+    /// The hasher after `bytes` are taken in, so that calls can stand in a row.
+    final fn chain_update(self, bytes: &[u8]) -> Self
+    where
+        Self: Sized,
+        ensures fed { Self.meaning result ≡ fed Self.step (Self.meaning self) bytes.now }
+        ensures valid { Self.is_valid (Self.meaning result) }
+    {
+        let mut hasher = self;
+        hasher.update(bytes);
+        hasher
+    }
+
+    /// Gives the digest of the message, and ends the hasher.
+    final fn finalize(self) -> Self::Output
+    where
+        Self: Sized,
+        ensures digest { Self.bytes_of result ≡ finish Self.step Self.output (Self.meaning self) }
+        ensures size { length (Self.bytes_of result) ≡ Self.OUTPUT_SIZE }
+    {
+        let mut hasher = self;
+        hasher.finalize_reset()
+    }
+
+    /// Writes the digest of the message to `out`, and ends the hasher.
+    final fn finalize_into(self, out: &mut Self::Output)
+    where
+        Self: Sized,
+        ensures digest { Self.bytes_of out.new
+            ≡ finish Self.step Self.output (Self.meaning self) }
+        ensures size { length (Self.bytes_of out.new) ≡ Self.OUTPUT_SIZE }
+    {
+        *out = self.finalize();
+    }
+
+    /// Writes the digest of the message so far to `out`, and leaves the hasher as `new()` makes it.
+    final fn finalize_into_reset(&mut self, out: &mut Self::Output)
+    where
+        Self: Sized,
+        ensures digest { Self.bytes_of out.new
+            ≡ finish Self.step Self.output (Self.meaning self.old) }
+        ensures size { length (Self.bytes_of out.new) ≡ Self.OUTPUT_SIZE }
+        ensures reset { Self.meaning self.new ≡ initial_state Self.start }
+        ensures valid_old { Self.is_valid (Self.meaning self.old) }
+        ensures valid_new { Self.is_valid (Self.meaning self.new) }
+    {
+        *out = self.finalize_reset();
+    }
+
+    /// How many bytes a digest has.
+    final fn output_size() -> usize
+    where
+        Self: Sized,
+        ensures { result ≡ Self.OUTPUT_SIZE }
+    {
+        Self::OUTPUT_SIZE
+    }
+
+    /// The digest of a message that is there as a whole.
+    #[tactic(auto, using(crate::specs::Laws::finish_fed))]
+    final fn digest(message: &[u8]) -> Self::Output
+    where
+        Self: Sized,
+        ensures digest { Self.bytes_of result
+            ≡ hash Self.start Self.step Self.output message.now }
+        ensures size { length (Self.bytes_of result) ≡ Self.OUTPUT_SIZE }
+    {
+        let mut hasher = Self::new();
+        hasher.update(message);
+        hasher.finalize()
+    }
+
+    // No bytes change nothing.
+    ghost fed_nothing: { (h : Meaning) → Self.is_valid h → fed step h [] ≡ h };
+}
+
+/// A hash function whose digest is the output of a walk of its block function.
+pub trait BlockDigest: Digest {
+    /// The block function.
+    type Core: BlockFunction<Digest = Self::Output>;
+
+    // The digest of a message is the block function's hash of it.
+    ghost digest_is: { (message : List ℕ) (digest : Self.Output)
+        → Self.bytes_of digest ≡ hash Self.start Self.step Self.output message
+        → digest ≡ hash Self.Core.start_of Self.Core.step_of Self.Core.output_of message };
+}

@@ -1,0 +1,157 @@
+//! Lists of commands over numbered hashers: what each of their digests is, whatever the commands.
+
+ghost use Rattle.std.specs.Prelude.{◌≡◌, [], ◌∷◌, ◌++◌, map, IfOk, IfErr, OnOk, MatchResult};
+ghost use Rattle.ripemd.specs.Replay.{Machine, Does, Gives, Explains, Stops};
+ghost use Rattle.ripemd.specs.Held.{Holds};
+
+use crate::digest::Digest;
+use ripemd_block::block_api::SerializableState;
+use std::alloc::Global;
+use thiserror::Error;
+
+#[cfg(test)]
+mod tests;
+
+/// A command to numbered hashers and numbered saved states. Both are numbered from 0, in the order
+/// in which they are made.
+#[derive(Clone, Copy, Debug)]
+pub enum Command<'a> {
+    /// Makes the next hasher, of the empty message.
+    New,
+    /// Feeds bytes to a hasher.
+    Update { hasher: usize, bytes: &'a [u8] },
+    /// Makes a hasher as new.
+    Reset { hasher: usize },
+    /// Adds the digest of a hasher to the answer, and makes the hasher as new.
+    Finish { hasher: usize },
+    /// Makes the next hasher as a copy of this one.
+    Fork { hasher: usize },
+    /// Makes the next saved state, of this hasher.
+    Save { hasher: usize },
+    /// Makes the next hasher from a saved state.
+    Load { saved: usize },
+    /// Makes the next hasher from a state that was saved elsewhere as these bytes.
+    Import { bytes: &'a [u8] },
+}
+
+/// Why a list of commands has no answer; `at` is the place of the first bad one, counted from 0.
+#[derive(PartialEq, Eq, Debug, Drop, Error)]
+pub enum ReplayError {
+    /// The command names a hasher that is not there.
+    #[error("command {at}: no hasher {hasher}")]
+    NoHasher { at: usize, hasher: usize },
+    /// The command names a saved state that is not there.
+    #[error("command {at}: no saved state {saved}")]
+    NoSaved { at: usize, saved: usize },
+    /// No state is saved as the bytes of the command, which is an import.
+    #[error("command {at}: bad state")]
+    BadState { at: usize },
+    /// Memory was refused, before any command that is bad.
+    #[error("out of memory")]
+    OutOfMemory,
+}
+
+/// Runs commands in order, from no hashers and no saved states, and gives the digests of the
+/// hashers that were finished, in that order.
+///
+/// Each digest is the hash of the bytes that its hasher was fed since it was new: by `New`, `Reset`
+/// or `Finish`. A fork has the bytes of the hasher that it was copied from, and a loaded hasher
+/// those that the saved one had. Where the bytes follow a state handed in by `Import`, the digest
+/// is that of this state, fed these bytes.
+///
+/// # Errors
+///
+/// `NoHasher`, `NoSaved` or `BadState` at the first bad command, before which all others ran. A
+/// command is found to be bad before it asks for memory. `OutOfMemory` if memory is refused to a
+/// command before that one. An empty list, and a list whose first command is bad, ask for none.
+pub fn replay<D: Digest + SerializableState>(
+    alloc: Global,
+    commands: &[Command],
+) -> Result<Vec<D::Output>, ReplayError>
+    ensures digests { IfOk result (λ digests. Gives D.start D.step D.output D.is_valid D.state_bytes
+        commands.now (map D.bytes_of digests.items)) }
+    ensures error { IfErr result
+        (Stops D.start D.step D.output D.is_valid D.state_bytes commands.now) }
+{
+    let mut hashers: Vec<D> = Vec::new(alloc);
+    let mut arrays: Vec<D::Saved> = Vec::new(alloc);
+    let mut digests: Vec<D::Output> = Vec::new(alloc);
+    for (at, command) in commands.iter().enumerate() {
+        match apply(&mut hashers, &mut arrays, &mut digests, at, command) {
+            Ok(()) => {}
+            Err(error) => return Err(error),
+        }
+    }
+    Ok(digests)
+}
+
+// Runs the command at place `at`: what the vectors hold is what the machine has afterwards.
+fn apply<D: Digest + SerializableState>(
+    hashers: &mut Vec<D>,
+    arrays: &mut Vec<D::Saved>,
+    digests: &mut Vec<D::Output>,
+    at: usize,
+    command: &Command,
+) -> Result<(), ReplayError>
+    requires { (m : Machine)
+        × Holds D.step D.is_valid D.state_bytes D.meaning D.saved_bytes D.bytes_of
+        hashers.old.items arrays.old.items digests.old.items m }
+    ensures { (m : Machine)
+        → Holds D.step D.is_valid D.state_bytes D.meaning D.saved_bytes D.bytes_of
+        hashers.old.items arrays.old.items digests.old.items m
+        → MatchResult result
+        (λ _. (n : Machine)
+        × Does D.start D.step D.output D.is_valid D.state_bytes command.now m n
+        × Holds D.step D.is_valid D.state_bytes D.meaning D.saved_bytes D.bytes_of
+        hashers.new.items arrays.new.items digests.new.items n)
+        (Explains D.start D.step D.output D.is_valid D.state_bytes m at command.now) }
+{
+    match *command {
+        Command::New => add(hashers, D::new()),
+        Command::Update { hasher, bytes } if hasher < hashers.len() => {
+            hashers[hasher].update(bytes);
+            Ok(())
+        }
+        Command::Reset { hasher } if hasher < hashers.len() => {
+            hashers[hasher].reset();
+            Ok(())
+        }
+        Command::Finish { hasher } if hasher < hashers.len() => {
+            let digest = hashers[hasher].finalize_reset();
+            add(digests, digest)
+        }
+        Command::Fork { hasher } if hasher < hashers.len() => {
+            let copy = hashers[hasher].duplicate();
+            add(hashers, copy)
+        }
+        Command::Save { hasher } if hasher < hashers.len() => {
+            let array = hashers[hasher].serialize();
+            add(arrays, array)
+        }
+        Command::Load { saved } if saved < arrays.len() => {
+            let loaded = D::deserialize(&arrays[saved]).unwrap();
+            add(hashers, loaded)
+        }
+        Command::Import { bytes } => match D::load_slice(bytes) {
+            Ok(imported) => add(hashers, imported),
+            Err(_) => Err(ReplayError::BadState { at }),
+        },
+        Command::Update { hasher, .. }
+        | Command::Reset { hasher }
+        | Command::Finish { hasher }
+        | Command::Fork { hasher }
+        | Command::Save { hasher } => Err(ReplayError::NoHasher { at, hasher }),
+        Command::Load { saved } => Err(ReplayError::NoSaved { at, saved }),
+    }
+}
+
+// Adds a value at the end.
+fn add<T: Drop>(all: &mut Vec<T>, value: T) -> Result<(), ReplayError>
+    ensures ok { OnOk result (all.new.items ≡ all.old.items ++ value ∷ []) }
+    ensures err { IfErr result (λ e. e ≡ ReplayError.OutOfMemory) }
+{
+    match all.push(value) {
+        Ok(()) => Ok(()),
+        Err(_) => Err(ReplayError::OutOfMemory),
+    }
+}
