@@ -1,0 +1,4 @@
+pub mod MacReduction
+pub mod Outer
+pub mod Tags
+pub mod Toy

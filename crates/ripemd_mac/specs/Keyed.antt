@@ -1,0 +1,44 @@
+-- HMAC, the hash of a text under a key, by any hash function (RFC 2104), and a computation of it under way.
+use Rattle.std.specs.Prelude.{◌≡◌, ℕ, ◌-◌, nat_le, if◌then◌else◌, List, ◌++◌, length, map, replicate}
+use Rattle.std.specs.Int.Bits.{bit_xor}
+use Rattle.ripemd.specs.Standard.Hashing.{hash}
+use Rattle.ripemd.specs.States.{Meaning, initial_state, fed}
+
+-- ---- the tag
+
+-- at most 64 bytes, and after them zeros to 64
+abbrev pub filled : List ℕ → List ℕ
+filled bytes = bytes ++ replicate (64 - length bytes) 0
+
+-- the key as a block: the key itself, or its hash if it is longer than 64 bytes, filled with zeros
+unfoldable pub key_block : (List ℕ → List ℕ) → List ℕ → List ℕ
+key_block hash key = filled (if nat_le (length key) 64 then key else hash key)
+
+-- bytes with each combined with a mask, by exclusive or
+abbrev pub masked : ℕ → List ℕ → List ℕ
+masked mask bytes = map (λ b. bit_xor b mask) bytes
+
+-- the two messages that are hashed: a masked key block, and then the text or the first hash
+unfoldable pub inner_message : (List ℕ → List ℕ) → List ℕ → List ℕ → List ℕ
+inner_message hash key text = masked 0x36 (key_block hash key) ++ text
+
+unfoldable pub outer_message : (List ℕ → List ℕ) → List ℕ → List ℕ → List ℕ
+outer_message hash key text = masked 0x5c (key_block hash key) ++ hash (inner_message hash key text)
+
+-- the tag of a text under a key
+unfoldable pub hmac : (List ℕ → List ℕ) → List ℕ → List ℕ → List ℕ
+hmac hash key text = hash (outer_message hash key text)
+
+-- ---- a tag under way
+
+-- two hashes under way
+pub record KeyedState : Type 0 where
+  pub inner : Meaning
+  pub outer : Meaning
+
+-- they stand for a key and a text: the one has taken in the inner message, and the other the masked key
+-- of the outer one
+pub record StandsFor (start : List ℕ) (step : List ℕ → List ℕ → List ℕ) (output : List ℕ → List ℕ)
+    (key text : List ℕ) (state : KeyedState) : Type 0 where
+  pub inner : state.inner ≡ fed step (initial_state start) (inner_message (hash start step output) key text)
+  pub outer : state.outer ≡ fed step (initial_state start) (masked 0x5c (key_block (hash start step output) key))

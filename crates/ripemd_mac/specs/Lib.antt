@@ -1,0 +1,6 @@
+-- What the tag of a text under a key is.
+pub mod Keyed
+-- To what collisions two texts with one tag lead.
+pub mod MacCollisions
+-- The hash function of the tests.
+pub mod Toy

@@ -1,0 +1,12 @@
+//! HMAC (RFC 2104) over any hash function that `ripemd`'s traits describe, and the reduction of its
+//! collisions to those of the block function.
+#![tactic(auto)]
+
+pub mod keyed;
+pub mod reduction;
+
+pub use keyed::Hmac;
+pub use reduction::{MacCollision, mac_collision};
+
+#[cfg(test)]
+mod tests;
