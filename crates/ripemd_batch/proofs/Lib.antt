@@ -1,0 +1,5 @@
+pub mod Blocks
+pub mod EightLanes
+pub mod Factored
+pub mod Placing
+pub mod Walking

@@ -1,0 +1,21 @@
+use Rattle.std.proofs.Common.{◌≤◌, length, arith}
+use Rattle.std.proofs.lemmas.List.{take_all}
+use Rattle.ripemd_block.specs.Standard.Compression.{compress}
+use Rattle.ripemd_batch.specs.Lanes.{blocks_of}
+use Rattle.ripemd_batch.proofs.Walking.{walk_on}
+use Rattle.ripemd_batch.proofs.digests.after_all.Goals as goal
+
+pub loop-i-preserved : goal.loop-i-preserved
+loop-i-preserved g c j h =
+    let s = g.S.EightStates in
+    walk_on (compress s.parameters) s.parameters.start (blocks_of c.args.blocks.now j) c.loop-i.i
+    (s.words_of j c.loop-i.states) (s.words_of j c.advanced-next.result)
+    (c.loop-i.invariant j h) (c.advanced-next.ensures.taken j h) (c.advanced-next.ensures.kept j h)
+
+pub returns : goal.returns
+returns g c j h =
+    let bs = blocks_of c.args.blocks.now j in
+    let count = c.block_counts-counts.ensures j h in
+    let top = c.most-most.ensures j h in
+    let all : length bs ≤ c.loop-i.i = omega (arith, count, top) in
+    rw (take_all c.loop-i.i bs all) at (c.loop-i.invariant j h)

@@ -1,0 +1,63 @@
+-- Eight messages side by side: a vector has a word of each.
+use Rattle.std.specs.Prelude.{ℕ, ◌<◌, ◌≡◌, List, [], ◌∷◌, map, slice_index, slice_index_or}
+use Rattle.std.specs.Borrow.{Bor}
+use Rattle.ripemd_block.specs.Standard.Words.{message_word}
+use Rattle.ripemd_block.specs.Standard.Schedule.{Line, left_line, right_line}
+use Rattle.ripemd_block.specs.Standard.Compression.{Lines}
+use Rattle.ripemd_batch.specs.declared.textbook.Side.{Side}
+use Rattle.ripemd_batch.specs.declared.textbook.Side.TheVariants.{Left, Right}
+
+-- ---- the lanes of vectors
+
+-- the word of message j in vector i
+abbrev pub lane_at : List (List ℕ) → ℕ → ℕ → ℕ
+lane_at v i j = slice_index (slice_index_or v i []) j
+
+-- the words of message j in four vectors, in five, in eight and in ten
+abbrev pub four_words : ℕ → List (List ℕ) → List ℕ
+four_words j v = lane_at v 0 j ∷ lane_at v 1 j ∷ lane_at v 2 j ∷ lane_at v 3 j ∷ []
+
+abbrev pub five_words : ℕ → List (List ℕ) → List ℕ
+five_words j v = lane_at v 0 j ∷ lane_at v 1 j ∷ lane_at v 2 j ∷ lane_at v 3 j ∷ lane_at v 4 j ∷ []
+
+abbrev pub eight_words : ℕ → List (List ℕ) → List ℕ
+eight_words j v =
+    lane_at v 0 j ∷ lane_at v 1 j ∷ lane_at v 2 j ∷ lane_at v 3 j
+    ∷ lane_at v 4 j ∷ lane_at v 5 j ∷ lane_at v 6 j ∷ lane_at v 7 j ∷ []
+
+abbrev pub ten_words : ℕ → List (List ℕ) → List ℕ
+ten_words j v =
+    lane_at v 0 j ∷ lane_at v 1 j ∷ lane_at v 2 j ∷ lane_at v 3 j ∷ lane_at v 4 j
+    ∷ lane_at v 5 j ∷ lane_at v 6 j ∷ lane_at v 7 j ∷ lane_at v 8 j ∷ lane_at v 9 j ∷ []
+
+-- word i of message j is that of the block
+abbrev pub HasWords : List (List ℕ) → ℕ → List ℕ → Type 0
+HasWords words j block = (i : ℕ) → i < 16 → lane_at words i j ≡ message_word block i
+
+-- ---- the two lines
+
+-- the line of a variant with this many rounds
+abbrev pub line_of : ℕ → Side → Line
+line_of rounds Left = left_line
+line_of rounds Right = right_line rounds
+
+-- both lines of message j, of four registers and of five
+abbrev pub four_lines : ℕ → List (List ℕ) → List (List ℕ) → Lines
+four_lines j left right = record { left = four_words j left; right = four_words j right }
+
+abbrev pub five_lines : ℕ → List (List ℕ) → List (List ℕ) → Lines
+five_lines j left right = record { left = five_words j left; right = five_words j right }
+
+-- ---- lists of messages
+
+-- what some references point at, in order
+abbrev pub targets : List (Bor (List ℕ)) → List (List ℕ)
+targets refs = map (λ r. r.now) refs
+
+-- list j of some lists, that of message j
+abbrev pub of_message : List (List ℕ) → ℕ → List ℕ
+of_message xs j = slice_index_or xs j []
+
+-- the blocks of message j, of the blocks of each
+abbrev pub blocks_of : List (List (List ℕ)) → ℕ → List (List ℕ)
+blocks_of blocks j = slice_index_or blocks j []

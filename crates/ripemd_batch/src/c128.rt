@@ -1,0 +1,43 @@
+//! The compression function of RIPEMD-128 (1996, pseudo-code), of eight messages: both lines start
+//! from the whole state, and nothing is exchanged between them.
+
+ghost use Rattle.std.specs.Prelude.{◌≡◌, ◌<◌, ℕ};
+ghost use Rattle.ripemd_block.specs.Standard.Compression.{joint_state, compress, ripemd128};
+ghost use Rattle.ripemd_batch.specs.Lanes.{four_words, of_message, targets};
+
+use crate::eight::Eight;
+use crate::four_registers::{FourLines, round};
+use crate::message::message_words;
+
+// The states that take the registers of both lines in.
+#[inline(always)]
+fn joint_state(state: [Eight; 4], lines: FourLines) -> [Eight; 4]
+    ensures { (j : ℕ) → j < 8 → four_words j result
+        ≡ joint_state (four_words j state) (four_words j lines.left) (four_words j lines.right) }
+{
+    let left = lines.left;
+    let right = lines.right;
+    [
+        state[1].add(left[2]).add(right[3]),
+        state[2].add(left[3]).add(right[0]),
+        state[3].add(left[0]).add(right[1]),
+        state[0].add(left[1]).add(right[2]),
+    ]
+}
+
+/// The states after one more block of each message.
+pub(crate) fn compress(state: [Eight; 4], blocks: &[&[u8; 64]; 8]) -> [Eight; 4]
+    ensures { (j : ℕ) → j < 8 → four_words j result
+        ≡ compress ripemd128 (four_words j state) (of_message (targets blocks.now) j) }
+{
+    let words = message_words(blocks);
+    let lines = FourLines {
+        left: state,
+        right: state,
+    };
+    let lines = round::<0>(&words, lines);
+    let lines = round::<1>(&words, lines);
+    let lines = round::<2>(&words, lines);
+    let lines = round::<3>(&words, lines);
+    joint_state(state, lines)
+}

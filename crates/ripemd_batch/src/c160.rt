@@ -1,0 +1,45 @@
+//! The compression function of RIPEMD-160 (1996, pseudo-code), of eight messages: both lines start
+//! from the whole state, and nothing is exchanged between them.
+
+ghost use Rattle.std.specs.Prelude.{◌≡◌, ◌<◌, ℕ};
+ghost use Rattle.ripemd_block.specs.Standard.Compression.{joint_state, compress, ripemd160};
+ghost use Rattle.ripemd_batch.specs.Lanes.{five_words, of_message, targets};
+
+use crate::eight::Eight;
+use crate::five_registers::{FiveLines, round};
+use crate::message::message_words;
+
+// The states that take the registers of both lines in.
+#[inline(always)]
+fn joint_state(state: [Eight; 5], lines: FiveLines) -> [Eight; 5]
+    ensures { (j : ℕ) → j < 8 → five_words j result
+        ≡ joint_state (five_words j state) (five_words j lines.left) (five_words j lines.right) }
+{
+    let left = lines.left;
+    let right = lines.right;
+    [
+        state[1].add(left[2]).add(right[3]),
+        state[2].add(left[3]).add(right[4]),
+        state[3].add(left[4]).add(right[0]),
+        state[4].add(left[0]).add(right[1]),
+        state[0].add(left[1]).add(right[2]),
+    ]
+}
+
+/// The states after one more block of each message.
+pub(crate) fn compress(state: [Eight; 5], blocks: &[&[u8; 64]; 8]) -> [Eight; 5]
+    ensures { (j : ℕ) → j < 8 → five_words j result
+        ≡ compress ripemd160 (five_words j state) (of_message (targets blocks.now) j) }
+{
+    let words = message_words(blocks);
+    let lines = FiveLines {
+        left: state,
+        right: state,
+    };
+    let lines = round::<0>(&words, lines);
+    let lines = round::<1>(&words, lines);
+    let lines = round::<2>(&words, lines);
+    let lines = round::<3>(&words, lines);
+    let lines = round::<4>(&words, lines);
+    joint_state(state, lines)
+}

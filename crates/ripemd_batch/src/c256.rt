@@ -1,0 +1,59 @@
+//! The compression function of RIPEMD-256 (1996, extension to 256 bits), of eight messages: each
+//! line starts from its half of the state, and after each round the lines exchange a register.
+
+ghost use Rattle.std.specs.Prelude.{◌≡◌, ◌<◌, ℕ};
+ghost use Rattle.ripemd_block.specs.Standard.Compression.{lines_from, double_state};
+ghost use Rattle.ripemd_block.specs.Standard.Compression.{compress, ripemd256};
+ghost use Rattle.ripemd_batch.specs.Lanes.{four_words, four_lines, eight_words};
+ghost use Rattle.ripemd_batch.specs.Lanes.{of_message, targets};
+
+use crate::eight::Eight;
+use crate::four_registers::{FourLines, exchange, round};
+use crate::message::message_words;
+
+// Where the lines start.
+#[inline(always)]
+fn lines_from(state: [Eight; 8]) -> FourLines
+    ensures { (j : ℕ) → j < 8 → four_lines j result.left result.right
+        ≡ lines_from ripemd256 (eight_words j state) }
+{
+    FourLines {
+        left: [state[0], state[1], state[2], state[3]],
+        right: [state[4], state[5], state[6], state[7]],
+    }
+}
+
+// The states that take the registers of both lines in.
+#[inline(always)]
+fn double_state(state: [Eight; 8], lines: FourLines) -> [Eight; 8]
+    ensures { (j : ℕ) → j < 8 → eight_words j result
+        ≡ double_state (eight_words j state) (four_words j lines.left) (four_words j lines.right) }
+{
+    let left = lines.left;
+    let right = lines.right;
+    [
+        state[0].add(left[0]),
+        state[1].add(left[1]),
+        state[2].add(left[2]),
+        state[3].add(left[3]),
+        state[4].add(right[0]),
+        state[5].add(right[1]),
+        state[6].add(right[2]),
+        state[7].add(right[3]),
+    ]
+}
+
+/// The states after one more block of each message. The registers that are exchanged are A, B, C
+/// and D in turn.
+pub(crate) fn compress(state: [Eight; 8], blocks: &[&[u8; 64]; 8]) -> [Eight; 8]
+    ensures { (j : ℕ) → j < 8 → eight_words j result
+        ≡ compress ripemd256 (eight_words j state) (of_message (targets blocks.now) j) }
+{
+    let words = message_words(blocks);
+    let lines = lines_from(state);
+    let lines = exchange(0, round::<0>(&words, lines));
+    let lines = exchange(1, round::<1>(&words, lines));
+    let lines = exchange(2, round::<2>(&words, lines));
+    let lines = exchange(3, round::<3>(&words, lines));
+    double_state(state, lines)
+}

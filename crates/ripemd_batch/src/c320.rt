@@ -1,0 +1,61 @@
+//! The compression function of RIPEMD-320 (1996, extension to 320 bits), of eight messages: each
+//! line starts from its half of the state, and after each round the lines exchange a register.
+
+ghost use Rattle.std.specs.Prelude.{◌≡◌, ◌<◌, ℕ};
+ghost use Rattle.ripemd_block.specs.Standard.Compression.{lines_from, double_state};
+ghost use Rattle.ripemd_block.specs.Standard.Compression.{compress, ripemd320};
+ghost use Rattle.ripemd_batch.specs.Lanes.{five_words, five_lines, ten_words, of_message, targets};
+
+use crate::eight::Eight;
+use crate::five_registers::{FiveLines, exchange, round};
+use crate::message::message_words;
+
+// Where the lines start.
+#[inline(always)]
+fn lines_from(state: [Eight; 10]) -> FiveLines
+    ensures { (j : ℕ) → j < 8 → five_lines j result.left result.right
+        ≡ lines_from ripemd320 (ten_words j state) }
+{
+    FiveLines {
+        left: [state[0], state[1], state[2], state[3], state[4]],
+        right: [state[5], state[6], state[7], state[8], state[9]],
+    }
+}
+
+// The states that take the registers of both lines in.
+#[inline(always)]
+fn double_state(state: [Eight; 10], lines: FiveLines) -> [Eight; 10]
+    ensures { (j : ℕ) → j < 8 → ten_words j result
+        ≡ double_state (ten_words j state) (five_words j lines.left) (five_words j lines.right) }
+{
+    let left = lines.left;
+    let right = lines.right;
+    [
+        state[0].add(left[0]),
+        state[1].add(left[1]),
+        state[2].add(left[2]),
+        state[3].add(left[3]),
+        state[4].add(left[4]),
+        state[5].add(right[0]),
+        state[6].add(right[1]),
+        state[7].add(right[2]),
+        state[8].add(right[3]),
+        state[9].add(right[4]),
+    ]
+}
+
+/// The states after one more block of each message. The registers that are exchanged are B, D, A,
+/// C and E in turn.
+pub(crate) fn compress(state: [Eight; 10], blocks: &[&[u8; 64]; 8]) -> [Eight; 10]
+    ensures { (j : ℕ) → j < 8 → ten_words j result
+        ≡ compress ripemd320 (ten_words j state) (of_message (targets blocks.now) j) }
+{
+    let words = message_words(blocks);
+    let lines = lines_from(state);
+    let lines = exchange(1, round::<0>(&words, lines));
+    let lines = exchange(3, round::<1>(&words, lines));
+    let lines = exchange(0, round::<2>(&words, lines));
+    let lines = exchange(2, round::<3>(&words, lines));
+    let lines = exchange(4, round::<4>(&words, lines));
+    double_state(state, lines)
+}

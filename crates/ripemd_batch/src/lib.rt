@@ -1,0 +1,20 @@
+//! Digests of many messages: eight at once, one in each lane of a vector.
+#![tactic(auto)]
+
+mod c128;
+mod c160;
+mod c256;
+mod c320;
+pub mod digests;
+mod eight;
+mod five_registers;
+mod four_registers;
+mod message;
+mod padded;
+mod states;
+mod textbook;
+
+pub use digests::{BatchDigest, digest_each};
+
+#[cfg(test)]
+mod tests;

@@ -1,0 +1,270 @@
+//! The states of eight messages, and what differs between the variants: how many words a state has,
+//! which these are at the start, and what a block does to them.
+
+ghost use Rattle.std.specs.Prelude.{◌≡◌, ℕ, ◌*◌, ◌<◌, List, [], length, slice_index};
+ghost use Rattle.ripemd_block.specs.Standard.Words.{word_bytes};
+ghost use Rattle.ripemd_block.specs.Standard.Compression.{Parameters, compress};
+ghost use Rattle.ripemd_block.specs.Standard.Compression.{ripemd128, ripemd160};
+ghost use Rattle.ripemd_block.specs.Standard.Compression.{ripemd256, ripemd320};
+ghost use Rattle.ripemd_batch.specs.Lanes.{four_words, five_words, eight_words};
+ghost use Rattle.ripemd_batch.specs.Lanes.{ten_words, of_message, targets};
+
+use crate::eight::Eight;
+use crate::{c128, c160, c256, c320};
+
+// The states of eight messages: each variant has its own number of words. Not exported, so that no
+// other crate can call it.
+pub trait EightStates: Copy {
+    // A digest.
+    type Output;
+
+    // Its bytes.
+    ghost bytes: { Self.Output → List ℕ };
+
+    // The variant.
+    ghost parameters: { Parameters };
+
+    // The words of message `j`.
+    ghost words_of: { ℕ → Self → List ℕ };
+
+    // The start words of each message.
+    fn start() -> Self
+        ensures { (j : ℕ) → j < 8 → words_of j result ≡ parameters.start };
+
+    // The states after one more block of each message.
+    fn compress(self, blocks: &[&[u8; 64]; 8]) -> Self
+        ensures { (j : ℕ) → j < 8 → words_of j result
+            ≡ compress parameters (words_of j self) (of_message (targets blocks.now) j) };
+
+    // The new states of the messages whose word in `live` has all bits set, and the old ones of
+    // those where it is 0.
+    fn select(live: Eight, new: Self, old: Self) -> Self
+        ensures taken { (j : ℕ) → j < 8 → slice_index live j ≡ 0xffff_ffff
+            → words_of j result ≡ words_of j new }
+        ensures kept { (j : ℕ) → j < 8 → slice_index live j ≡ 0
+            → words_of j result ≡ words_of j old };
+
+    // The digest of message `j`, which is the bytes of its state.
+    fn digest_of(&self, j: usize) -> Self::Output
+        requires { j < 8 }
+        ensures { bytes result ≡ word_bytes (words_of j self.now) };
+}
+
+impl EightStates for [Eight; 4] {
+    type Output = [u8; 16];
+
+    ghost bytes = { λ bytes. bytes };
+
+    ghost parameters = { ripemd128 };
+
+    ghost words_of = { four_words };
+
+    fn start() -> [Eight; 4] {
+        [
+            Eight::splat(0x6745_2301),
+            Eight::splat(0xefcd_ab89),
+            Eight::splat(0x98ba_dcfe),
+            Eight::splat(0x1032_5476),
+        ]
+    }
+
+    fn compress(self, blocks: &[&[u8; 64]; 8]) -> [Eight; 4] {
+        c128::compress(self, blocks)
+    }
+
+    fn select(live: Eight, new: [Eight; 4], old: [Eight; 4]) -> [Eight; 4] {
+        [
+            Eight::select(live, new[0], old[0]),
+            Eight::select(live, new[1], old[1]),
+            Eight::select(live, new[2], old[2]),
+            Eight::select(live, new[3], old[3]),
+        ]
+    }
+
+    fn digest_of(&self, j: usize) -> [u8; 16] {
+        let words = [
+            self[0].word(j),
+            self[1].word(j),
+            self[2].word(j),
+            self[3].word(j),
+        ];
+        let mut digest = [0; 16];
+        write_words(&words, &mut digest);
+        digest
+    }
+}
+
+impl EightStates for [Eight; 5] {
+    type Output = [u8; 20];
+
+    ghost bytes = { λ bytes. bytes };
+
+    ghost parameters = { ripemd160 };
+
+    ghost words_of = { five_words };
+
+    fn start() -> [Eight; 5] {
+        [
+            Eight::splat(0x6745_2301),
+            Eight::splat(0xefcd_ab89),
+            Eight::splat(0x98ba_dcfe),
+            Eight::splat(0x1032_5476),
+            Eight::splat(0xc3d2_e1f0),
+        ]
+    }
+
+    fn compress(self, blocks: &[&[u8; 64]; 8]) -> [Eight; 5] {
+        c160::compress(self, blocks)
+    }
+
+    fn select(live: Eight, new: [Eight; 5], old: [Eight; 5]) -> [Eight; 5] {
+        [
+            Eight::select(live, new[0], old[0]),
+            Eight::select(live, new[1], old[1]),
+            Eight::select(live, new[2], old[2]),
+            Eight::select(live, new[3], old[3]),
+            Eight::select(live, new[4], old[4]),
+        ]
+    }
+
+    fn digest_of(&self, j: usize) -> [u8; 20] {
+        let words = [
+            self[0].word(j),
+            self[1].word(j),
+            self[2].word(j),
+            self[3].word(j),
+            self[4].word(j),
+        ];
+        let mut digest = [0; 20];
+        write_words(&words, &mut digest);
+        digest
+    }
+}
+
+impl EightStates for [Eight; 8] {
+    type Output = [u8; 32];
+
+    ghost bytes = { λ bytes. bytes };
+
+    ghost parameters = { ripemd256 };
+
+    ghost words_of = { eight_words };
+
+    fn start() -> [Eight; 8] {
+        [
+            Eight::splat(0x6745_2301),
+            Eight::splat(0xefcd_ab89),
+            Eight::splat(0x98ba_dcfe),
+            Eight::splat(0x1032_5476),
+            Eight::splat(0x7654_3210),
+            Eight::splat(0xfedc_ba98),
+            Eight::splat(0x89ab_cdef),
+            Eight::splat(0x0123_4567),
+        ]
+    }
+
+    fn compress(self, blocks: &[&[u8; 64]; 8]) -> [Eight; 8] {
+        c256::compress(self, blocks)
+    }
+
+    fn select(live: Eight, new: [Eight; 8], old: [Eight; 8]) -> [Eight; 8] {
+        [
+            Eight::select(live, new[0], old[0]),
+            Eight::select(live, new[1], old[1]),
+            Eight::select(live, new[2], old[2]),
+            Eight::select(live, new[3], old[3]),
+            Eight::select(live, new[4], old[4]),
+            Eight::select(live, new[5], old[5]),
+            Eight::select(live, new[6], old[6]),
+            Eight::select(live, new[7], old[7]),
+        ]
+    }
+
+    fn digest_of(&self, j: usize) -> [u8; 32] {
+        let words = [
+            self[0].word(j),
+            self[1].word(j),
+            self[2].word(j),
+            self[3].word(j),
+            self[4].word(j),
+            self[5].word(j),
+            self[6].word(j),
+            self[7].word(j),
+        ];
+        let mut digest = [0; 32];
+        write_words(&words, &mut digest);
+        digest
+    }
+}
+
+impl EightStates for [Eight; 10] {
+    type Output = [u8; 40];
+
+    ghost bytes = { λ bytes. bytes };
+
+    ghost parameters = { ripemd320 };
+
+    ghost words_of = { ten_words };
+
+    fn start() -> [Eight; 10] {
+        [
+            Eight::splat(0x6745_2301),
+            Eight::splat(0xefcd_ab89),
+            Eight::splat(0x98ba_dcfe),
+            Eight::splat(0x1032_5476),
+            Eight::splat(0xc3d2_e1f0),
+            Eight::splat(0x7654_3210),
+            Eight::splat(0xfedc_ba98),
+            Eight::splat(0x89ab_cdef),
+            Eight::splat(0x0123_4567),
+            Eight::splat(0x3c2d_1e0f),
+        ]
+    }
+
+    fn compress(self, blocks: &[&[u8; 64]; 8]) -> [Eight; 10] {
+        c320::compress(self, blocks)
+    }
+
+    fn select(live: Eight, new: [Eight; 10], old: [Eight; 10]) -> [Eight; 10] {
+        [
+            Eight::select(live, new[0], old[0]),
+            Eight::select(live, new[1], old[1]),
+            Eight::select(live, new[2], old[2]),
+            Eight::select(live, new[3], old[3]),
+            Eight::select(live, new[4], old[4]),
+            Eight::select(live, new[5], old[5]),
+            Eight::select(live, new[6], old[6]),
+            Eight::select(live, new[7], old[7]),
+            Eight::select(live, new[8], old[8]),
+            Eight::select(live, new[9], old[9]),
+        ]
+    }
+
+    fn digest_of(&self, j: usize) -> [u8; 40] {
+        let words = [
+            self[0].word(j),
+            self[1].word(j),
+            self[2].word(j),
+            self[3].word(j),
+            self[4].word(j),
+            self[5].word(j),
+            self[6].word(j),
+            self[7].word(j),
+            self[8].word(j),
+            self[9].word(j),
+        ];
+        let mut digest = [0; 40];
+        write_words(&words, &mut digest);
+        digest
+    }
+}
+
+// Writes the bytes of words in order, four for each, least first.
+fn write_words(words: &[u32], out: &mut [u8])
+    requires { length out.old ≡ 4 * length words.now }
+    ensures { out.new ≡ word_bytes words.now }
+{
+    for (i, word) in words.iter().enumerate() {
+        out[4 * i..4 * i + 4].copy_from_slice(&word.to_le_bytes());
+    }
+}

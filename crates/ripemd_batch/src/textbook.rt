@@ -1,0 +1,117 @@
+//! The tables of 1996 as code, each entry equal to its definition, and the Boolean functions of
+//! eight messages.
+
+ghost use Rattle.std.specs.Prelude.{◌≡◌, ◌<◌, ℕ, slice_index};
+ghost use Rattle.ripemd_block.specs.Standard.Schedule.{boolean_function, rotation};
+ghost use Rattle.ripemd_batch.specs.Lanes.{line_of};
+
+use crate::eight::Eight;
+
+// The numbers of the message words that the left line takes, by round and step (1996, ordering of
+// the message words).
+static LEFT_ORDER: [[usize; 16]; 5] = [
+    [0, 1, 2, 3, 4, 5, 6, 7, 8, 9, 10, 11, 12, 13, 14, 15],
+    [7, 4, 13, 1, 10, 6, 15, 3, 12, 0, 9, 5, 2, 14, 11, 8],
+    [3, 10, 14, 4, 9, 15, 8, 1, 2, 7, 0, 6, 13, 11, 5, 12],
+    [1, 9, 11, 10, 0, 8, 12, 4, 13, 3, 7, 15, 14, 5, 6, 2],
+    [4, 0, 5, 9, 7, 12, 2, 10, 14, 1, 3, 8, 11, 6, 15, 13],
+];
+
+// The numbers of the message words that the right line takes, by round and step.
+static RIGHT_ORDER: [[usize; 16]; 5] = [
+    [5, 14, 7, 0, 9, 2, 11, 4, 13, 6, 15, 8, 1, 10, 3, 12],
+    [6, 11, 3, 7, 0, 13, 5, 10, 14, 15, 8, 12, 4, 9, 1, 2],
+    [15, 5, 1, 3, 7, 14, 6, 9, 11, 8, 12, 2, 10, 0, 4, 13],
+    [8, 6, 4, 1, 3, 11, 15, 0, 5, 12, 2, 13, 9, 7, 10, 14],
+    [12, 15, 10, 4, 1, 5, 8, 7, 6, 2, 13, 14, 0, 3, 9, 11],
+];
+
+// The amounts of the rotations, by round and message word (1996, shifts).
+static ROTATIONS: [[u32; 16]; 5] = [
+    [11, 14, 15, 12, 5, 8, 7, 9, 11, 13, 14, 15, 6, 7, 9, 8],
+    [12, 13, 11, 15, 6, 9, 9, 7, 12, 15, 11, 13, 7, 8, 7, 7],
+    [13, 15, 14, 11, 7, 7, 6, 8, 13, 14, 13, 12, 5, 5, 6, 9],
+    [14, 11, 12, 14, 8, 6, 5, 5, 15, 12, 15, 14, 9, 9, 8, 6],
+    [15, 12, 13, 13, 9, 5, 8, 6, 14, 11, 12, 11, 8, 6, 5, 5],
+];
+
+// The constants of the left line's rounds (1996, constants).
+static LEFT_CONSTANTS: [u32; 5] = [0, 0x5a82_7999, 0x6ed9_eba1, 0x8f1b_bcdc, 0xa953_fd4e];
+
+// The constants of the right line's rounds, of which the last has none.
+static RIGHT_CONSTANTS_OF_FIVE: [u32; 5] = [0x50a2_8be6, 0x5c4d_d124, 0x6d70_3ef3, 0x7a6d_76e9, 0];
+
+static RIGHT_CONSTANTS_OF_FOUR: [u32; 4] = [0x50a2_8be6, 0x5c4d_d124, 0x6d70_3ef3, 0];
+
+/// One of the two lines.
+#[derive(Clone, Copy)]
+pub(crate) enum Side {
+    Left,
+    Right,
+}
+
+/// The number of the message word that step `i` of round `r` of a line takes, of however many
+/// rounds.
+#[inline(always)]
+pub(crate) fn word_number(side: Side, r: usize, i: usize) -> usize
+    requires round { r < 5 }
+    requires step { i < 16 }
+    ensures value { (rounds : ℕ) → result ≡ (line_of rounds side).word_number r i }
+    ensures small { result < 16 }
+{
+    match side {
+        Side::Left => LEFT_ORDER[r][i],
+        Side::Right => RIGHT_ORDER[r][i],
+    }
+}
+
+/// By how many bits a step of round `r` that takes message word `k` rotates.
+#[inline(always)]
+pub(crate) fn rotation(r: usize, k: usize) -> u32
+    requires round { r < 5 }
+    requires word { k < 16 }
+    ensures value { result ≡ rotation r k }
+    ensures range { (0 < result) × (result < 32) }
+{
+    ROTATIONS[r][k]
+}
+
+/// The constant of round `r` of four.
+#[inline(always)]
+pub(crate) fn constant_of_four_rounds(side: Side, r: usize) -> u32
+    requires { r < 4 }
+    ensures { result ≡ (line_of 4 side).constant r }
+{
+    match side {
+        Side::Left => LEFT_CONSTANTS[r],
+        Side::Right => RIGHT_CONSTANTS_OF_FOUR[r],
+    }
+}
+
+/// The constant of round `r` of five.
+#[inline(always)]
+pub(crate) fn constant_of_five_rounds(side: Side, r: usize) -> u32
+    requires { r < 5 }
+    ensures { result ≡ (line_of 5 side).constant r }
+{
+    match side {
+        Side::Left => LEFT_CONSTANTS[r],
+        Side::Right => RIGHT_CONSTANTS_OF_FIVE[r],
+    }
+}
+
+/// Boolean function number `k` of the words of each message, factored (1996, functions).
+#[inline(always)]
+pub(crate) fn boolean_function(k: usize, x: Eight, y: Eight, z: Eight) -> Eight
+    requires { k < 5 }
+    ensures { (j : ℕ) → j < 8 → slice_index result j
+        ≡ boolean_function k (slice_index x j) (slice_index y j) (slice_index z j) }
+{
+    match k {
+        0 => x.xor(y.xor(z)),
+        1 => x.and(y.xor(z)).xor(z),
+        2 => x.or(y.not()).xor(z),
+        3 => z.and(x.xor(y)).xor(y),
+        _ => x.xor(y.or(z.not())),
+    }
+}
