@@ -1,5 +1,7 @@
 -- What the errors of a run say of its reader and its writer.
 use Rattle.std.specs.Prelude.{◌≡◌, ℕ, List, true, codes, Option}
+use Rattle.ripemd_sum.specs.declared.fault.ReadFault.{ReadFault}
+use Rattle.ripemd_sum.specs.declared.fault.ReadFault.TheVariants as reading
 use Rattle.ripemd_sum.specs.declared.fault.RunFault.{RunFault}
 use Rattle.ripemd_sum.specs.declared.fault.RunFault.TheVariants.{Read, TooLong, Write}
 use Rattle.ripemd_sum.specs.declared.tracked.Tracked.{Tracked}
@@ -13,10 +15,14 @@ message_of TooLong = codes "ripemd_sum: input too long"
 message_of (Write e) = codes "ripemd_sum: write error"
 
 -- what ended the reading: a read that failed, or the limit
-abbrev pub ExplainsReading : {R : Type 0} → (R → Option (List ℕ)) → Tracked R → Tracked R → ℕ → RunFault → Type 0
-ExplainsReading remaining old new limit (Read e) = FailsToGive remaining old new limit
-ExplainsReading remaining old new limit TooLong = GivesTooMuch remaining old new limit
-ExplainsReading remaining old new limit (Write e) = ⊥
+abbrev pub ExplainsReading : {R : Type 0} → (R → Option (List ℕ)) → Tracked R → Tracked R → ℕ → ReadFault → Type 0
+ExplainsReading remaining old new limit (reading.Read e) = FailsToGive remaining old new limit
+ExplainsReading remaining old new limit reading.TooLong = GivesTooMuch remaining old new limit
+
+-- the error of a run whose reading ended with an error
+abbrev pub of_reading : ReadFault → RunFault
+of_reading (reading.Read e) = Read e
+of_reading reading.TooLong = TooLong
 
 -- what ended a run: the reading, and then nothing was written, or the writer, after all was read
 abbrev pub ExplainsRun : {R W : Type 0} → (R → Option (List ℕ)) → Tracked R → Tracked R → Tracked W → Tracked W

@@ -2,20 +2,28 @@
 use Rattle.std.specs.Prelude.{◌≡◌, ℕ, ◌+◌, ◌<◌, ◌≤◌, true, false, List, ◌++◌, length, codes, Option}
 use Rattle.std.specs.Io.KnownBytes.{Appends, Consumes, IsAtEnd}
 use Rattle.hex.specs.Hex.{encode_lower}
-use Rattle.ripemd_block.specs.Standard.Compression.{Parameters, ripemd160}
-use Rattle.ripemd_block.specs.Standard.Hashing.{ripemd}
+use Rattle.ripemd.specs.Standard.Compression.{Parameters, ripemd128, ripemd160, ripemd256, ripemd320}
+use Rattle.ripemd.specs.Standard.Hashing.{ripemd}
+use Rattle.ripemd_mac.specs.Keyed.{hmac}
 use Rattle.ripemd_sum.specs.declared.tracked.Tracked.{Tracked}
 use Rattle.ripemd_sum.specs.declared.variant.Variant.{Variant}
-use Rattle.ripemd_sum.specs.declared.variant.Variant.TheVariants.{R160}
+use Rattle.ripemd_sum.specs.declared.variant.Variant.TheVariants.{R128, R160, R256, R320}
 use Rattle.ripemd_sum.specs.Track.{inner_of, has_failed, taken_of}
 
 -- the variant of the definitions that a variant of the program names
 abbrev pub parameters_of : Variant → Parameters
+parameters_of R128 = ripemd128
 parameters_of R160 = ripemd160
+parameters_of R256 = ripemd256
+parameters_of R320 = ripemd320
 
 -- the line of a message: its digest in lower case hexadecimal, and a newline
 abbrev pub digest_line : Variant → List ℕ → List ℕ
 digest_line v message = encode_lower (ripemd (parameters_of v) message) ++ codes "\n"
+
+-- the line of a message under a key: its tag in lower case hexadecimal, and a newline
+abbrev pub tag_line : Variant → List ℕ → List ℕ → List ℕ
+tag_line v key message = encode_lower (hmac (ripemd (parameters_of v)) key message) ++ codes "\n"
 
 -- between two of its states a reader gave these bytes, and they were counted
 pub record Gives {R : Type 0} (remaining : R → Option (List ℕ)) (old new : Tracked R) (bytes : List ℕ) : Type 0 where

@@ -1,19 +1,28 @@
 //! The run of the program, over any reader and any writer.
 
-ghost use Rattle.std.specs.Prelude.{◌≡◌, ℕ, List, false, ◌+◌, ◌*◌, ◌++◌, IfOk, OnOk, IfErr, length, codes};
+ghost use Rattle.std.specs.Prelude.{◌≡◌, ◌+◌, ◌*◌, ◌≤◌, ◌++◌, ℕ, List, [], false, length, codes};
+ghost use Rattle.std.specs.Prelude.{IfOk, OnOk, IfErr};
 ghost use Rattle.hex.specs.Hex.{encode_lower};
-ghost use Rattle.ripemd_block.specs.Standard.Compression.{ripemd160};
-ghost use Rattle.ripemd_block.specs.Standard.Hashing.{ripemd};
+ghost use Rattle.ripemd.specs.Standard.Hashing.{hash};
+ghost use Rattle.ripemd_mac.specs.Keyed.{hmac};
 ghost use Rattle.ripemd_sum.specs.Track.{inner_of, has_failed, taken_of};
-ghost use Rattle.ripemd_sum.specs.Runs.{digest_line, GivesAll, Gets};
+ghost use Rattle.ripemd_sum.specs.Runs.{digest_line, tag_line, GivesAll, Gets};
 ghost use Rattle.ripemd_sum.specs.Faults.{ExplainsReading, ExplainsRun};
 
-use crate::fault::RunFault;
+use crate::fault::{ReadFault, RunFault};
+use crate::summing::{Plain, Summing};
 use crate::tracked::Tracked;
 use crate::variant::Variant;
-use ripemd_block::block_api::{FixedOutputCore, Ripemd160Core, UpdateCore};
-use ripemd_block::buffer::Buffer;
+use ripemd::digest::{BlockDigest, OutputSizeUser};
+use ripemd::{Digest, Ripemd128, Ripemd160, Ripemd256, Ripemd320};
+use ripemd_mac::Hmac;
 use std::io::{Read, Write};
+
+/// How many bytes a read asks for at most.
+const CHUNK_SIZE: usize = 4096;
+
+/// The length of the longest line: 40 bytes in hexadecimal, and a newline.
+const LONGEST_LINE: usize = 81;
 
 /// Reads to the end of the reader, and writes the digest of all that it gave to the writer, as one
 /// line in lower case hexadecimal.
@@ -43,47 +52,161 @@ pub fn run<R: Read, W: Write>(
     ensures fault { IfErr result
         (ExplainsRun R.remaining reader.old reader.new writer.old writer.new limit) }
 {
-    let mut line = [0; 41];
     match variant {
-        Variant::R160 => {
-            let digest = hash_input(reader, limit)?;
-            fill_line(&digest, &mut line);
-        }
+        Variant::R128 => run_digest::<Ripemd128, R, W>(reader, writer, limit),
+        Variant::R160 => run_digest::<Ripemd160, R, W>(reader, writer, limit),
+        Variant::R256 => run_digest::<Ripemd256, R, W>(reader, writer, limit),
+        Variant::R320 => run_digest::<Ripemd320, R, W>(reader, writer, limit),
     }
-    writer.write_all(&line).map_err(RunFault::Write)
 }
 
-// The RIPEMD-160 digest of all that the reader gives, which comes in block by block.
-fn hash_input<R: Read>(reader: &mut Tracked<R>, limit: u64) -> Result<[u8; 20], RunFault>
+// The run for one hash function, whose line is not too long.
+fn run_digest<D: Digest, R: Read, W: Write>(
+    reader: &mut Tracked<R>,
+    writer: &mut Tracked<W>,
+    limit: u64,
+) -> Result<(), RunFault>
+    requires fits { 2 * D.OUTPUT_SIZE + 1 ≤ 81 }
+    requires reader_works { has_failed reader.old ≡ false }
+    requires reader_fresh { taken_of reader.old ≡ 0 }
+    requires writer_works { has_failed writer.old ≡ false }
+    ensures ok { OnOk result ((message : List ℕ)
+        × GivesAll R.remaining reader.old reader.new limit message
+        × Gets W.contents writer.old writer.new
+        (encode_lower (hash D.start D.step D.output message) ++ codes "\n")) }
+    ensures fault { IfErr result
+        (ExplainsRun R.remaining reader.old reader.new writer.old writer.new limit) }
+{
+    write_sum::<Plain<D>, R, W>(Plain::new(), reader, writer, limit)
+}
+
+/// Reads to the end of the reader, and writes the tag of all that it gave under a key to the
+/// writer, as one line in lower case hexadecimal.
+///
+/// The tag is HMAC's (RFC 2104), and the key has any length. All else is as `run` says, the errors
+/// too.
+pub fn run_mac<R: Read, W: Write>(
+    variant: Variant,
+    key: &[u8],
+    reader: &mut Tracked<R>,
+    writer: &mut Tracked<W>,
+    limit: u64,
+) -> Result<(), RunFault>
+    requires reader_works { has_failed reader.old ≡ false }
+    requires reader_fresh { taken_of reader.old ≡ 0 }
+    requires writer_works { has_failed writer.old ≡ false }
+    ensures ok { OnOk result ((message : List ℕ)
+        × GivesAll R.remaining reader.old reader.new limit message
+        × Gets W.contents writer.old writer.new (tag_line variant key.now message)) }
+    ensures fault { IfErr result
+        (ExplainsRun R.remaining reader.old reader.new writer.old writer.new limit) }
+{
+    match variant {
+        Variant::R128 => run_tag::<Ripemd128, R, W>(key, reader, writer, limit),
+        Variant::R160 => run_tag::<Ripemd160, R, W>(key, reader, writer, limit),
+        Variant::R256 => run_tag::<Ripemd256, R, W>(key, reader, writer, limit),
+        Variant::R320 => run_tag::<Ripemd320, R, W>(key, reader, writer, limit),
+    }
+}
+
+// The same for one hash function, whose line is not too long.
+fn run_tag<D: BlockDigest, R: Read, W: Write>(
+    key: &[u8],
+    reader: &mut Tracked<R>,
+    writer: &mut Tracked<W>,
+    limit: u64,
+) -> Result<(), RunFault>
+    requires fits { 2 * D.OUTPUT_SIZE + 1 ≤ 81 }
+    requires reader_works { has_failed reader.old ≡ false }
+    requires reader_fresh { taken_of reader.old ≡ 0 }
+    requires writer_works { has_failed writer.old ≡ false }
+    ensures ok { OnOk result ((message : List ℕ)
+        × GivesAll R.remaining reader.old reader.new limit message
+        × Gets W.contents writer.old writer.new
+        (encode_lower (hmac (hash D.start D.step D.output) key.now message) ++ codes "\n")) }
+    ensures fault { IfErr result
+        (ExplainsRun R.remaining reader.old reader.new writer.old writer.new limit) }
+{
+    write_sum::<Hmac<D>, R, W>(Hmac::new(key), reader, writer, limit)
+}
+
+// The run for one digest or tag under way, whose line is not too long.
+fn write_sum<S: Summing, R: Read, W: Write>(
+    summing: S,
+    reader: &mut Tracked<R>,
+    writer: &mut Tracked<W>,
+    limit: u64,
+) -> Result<(), RunFault>
+    requires fits { 2 * S.Hash.OUTPUT_SIZE + 1 ≤ 81 }
+    requires reader_works { has_failed reader.old ≡ false }
+    requires reader_fresh { taken_of reader.old ≡ 0 }
+    requires writer_works { has_failed writer.old ≡ false }
+    ensures ok { OnOk result ((message : List ℕ)
+        × GivesAll R.remaining reader.old reader.new limit message
+        × ((key : List ℕ) → S.stands_for summing key [] → Gets W.contents writer.old writer.new
+        (encode_lower (S.sum_of key message) ++ codes "\n"))) }
+    ensures fault { IfErr result
+        (ExplainsRun R.remaining reader.old reader.new writer.old writer.new limit) }
+{
+    let digest = read_sum::<S, R>(summing, reader, limit)?;
+    let bytes = S::Hash::output_bytes(&digest);
+    let mut page = [0; LONGEST_LINE];
+    let line = &mut page[..2 * bytes.len() + 1];
+    fill_line(bytes, line);
+    writer.write_all(line).map_err(RunFault::Write)
+}
+
+/// Reads to the end of the reader, and gives the digest of all that it gave.
+///
+/// The reader has not failed and has given nothing yet. It is read through an array of 4,096
+/// bytes, and no memory is taken.
+///
+/// # Errors
+///
+/// - `Read`: a read failed, with this error. It is not tried again.
+/// - `TooLong`: the reader gave more than `limit` bytes. At most 4,096 bytes more were read.
+///
+/// The first of these to happen is the answer.
+pub fn hash_reader<D: Digest, R: Read>(
+    reader: &mut Tracked<R>,
+    limit: u64,
+) -> Result<D::Output, ReadFault>
     requires works { has_failed reader.old ≡ false }
     requires fresh { taken_of reader.old ≡ 0 }
     ensures ok { IfOk result (λ digest. (message : List ℕ)
         × GivesAll R.remaining reader.old reader.new limit message
-        × (digest ≡ ripemd ripemd160 message)) }
+        × (D.bytes_of digest ≡ hash D.start D.step D.output message)) }
     ensures fault { IfErr result (ExplainsReading R.remaining reader.old reader.new limit) }
-    ensures size { IfOk result (λ digest. length digest ≡ 20) }
 {
-    let mut core = Ripemd160Core::default();
-    let mut block = [0; 64];
-    let mut filled = 0;
+    read_sum::<Plain<D>, R>(Plain::new(), reader, limit)
+}
+
+// The sum of all that the reader gives, to its end.
+fn read_sum<S: Summing, R: Read>(
+    summing: S,
+    reader: &mut Tracked<R>,
+    limit: u64,
+) -> Result<<S::Hash as OutputSizeUser>::Output, ReadFault>
+    requires works { has_failed reader.old ≡ false }
+    requires fresh { taken_of reader.old ≡ 0 }
+    ensures ok { IfOk result (λ sum. (message : List ℕ)
+        × GivesAll R.remaining reader.old reader.new limit message
+        × ((key : List ℕ) → S.stands_for summing key []
+        → S.Hash.bytes_of sum ≡ S.sum_of key message)) }
+    ensures fault { IfErr result (ExplainsReading R.remaining reader.old reader.new limit) }
+{
+    let mut summing = summing;
+    let mut chunk = [0; CHUNK_SIZE];
     'reads: loop {
-        match reader.read(&mut block[filled..]) {
-            Err(error) => return Err(RunFault::Read(error)),
-            Ok(0) => break,
-            Ok(count) => filled += count,
+        match reader.read(&mut chunk) {
+            Err(error) => return Err(ReadFault::Read(error)),
+            Ok(0) => return Ok(summing.give()),
+            Ok(count) => summing.take_in(&chunk[..count]),
         }
         if reader.taken() > limit as u128 {
-            return Err(RunFault::TooLong);
-        }
-        if filled == 64 {
-            core.update_blocks(&[block]);
-            filled = 0;
+            return Err(ReadFault::TooLong);
         }
     }
-    let mut tail = Buffer::try_new(&block[..filled]).unwrap();
-    let mut digest = [0; 20];
-    core.finalize_fixed_core(&mut tail, &mut digest);
-    Ok(digest)
 }
 
 // The digest in lower case hexadecimal, and a newline.

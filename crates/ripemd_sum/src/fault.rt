@@ -1,9 +1,21 @@
 //! Why a run of the program fails.
 
 ghost use Rattle.std.specs.Prelude.{◌≡◌};
+ghost use Rattle.ripemd_sum.specs.Faults.{of_reading};
 
 use std::io;
 use thiserror::Error;
+
+/// Why there is no digest of what a reader gives.
+#[derive(Debug, Drop, Error)]
+pub enum ReadFault {
+    /// A read failed with this error.
+    #[error("read error")]
+    Read(io::Error),
+    /// The reader gave more bytes than the limit.
+    #[error("input too long")]
+    TooLong,
+}
 
 /// Why a run wrote no line, or perhaps not all of it.
 #[derive(Debug, Drop, Error)]
@@ -28,6 +40,17 @@ impl RunFault {
             RunFault::Read(_) => "ripemd_sum: read error",
             RunFault::TooLong => "ripemd_sum: input too long",
             RunFault::Write(_) => "ripemd_sum: write error",
+        }
+    }
+}
+
+impl From<ReadFault> for RunFault {
+    ghost from_gives = { λ fault run_fault. run_fault ≡ of_reading fault };
+
+    fn from(fault: ReadFault) -> RunFault {
+        match fault {
+            ReadFault::Read(error) => RunFault::Read(error),
+            ReadFault::TooLong => RunFault::TooLong,
         }
     }
 }

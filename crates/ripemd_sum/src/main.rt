@@ -1,14 +1,23 @@
-//! `ripemd_sum` reads standard input to its end and writes the RIPEMD digest of it, as one line.
+//! `ripemd_sum` reads standard input to its end and writes the RIPEMD digest of it, or its tag
+//! under a key, as one line.
 #![tactic(auto)]
 
 mod engine;
 mod fault;
+mod key;
+mod summing;
 #[cfg(test)]
 mod tests;
 mod tracked;
 mod variant;
 
-use engine::run;
+ghost use Rattle.std.specs.Prelude.{◌≡◌, IfNone, false};
+ghost use Rattle.ripemd_sum.specs.Track.{has_failed, taken_of};
+
+use engine::{run, run_mac};
+use fault::RunFault;
+use key::choose_mac;
+use std::io::{Read, Write};
 use std::process::ExitCode;
 use std::{env, io};
 use tracked::Tracked;
@@ -24,6 +33,9 @@ pub const NO_MEMORY: &str = "ripemd_sum: out of memory";
 /// fit into 64 bits.
 const LIMIT: u64 = u64::MAX / 8;
 
+/// The same with a key, whose block of 64 bytes is hashed in front of the input.
+const MAC_LIMIT: u64 = LIMIT - 64;
+
 // The arguments after the program's name.
 fn arguments(rt: &HostRuntime) -> io::Result<Vec<String>> {
     Ok(env::args(rt)?.skip(1).collect(rt.alloc())?)
@@ -34,25 +46,45 @@ fn complain(rt: &HostRuntime, line: &str) {
     let _ = eprintln!(rt; "{line}");
 }
 
+// Does what the arguments ask for. It is `None` if they are not known, and then nothing is read.
+fn perform<R: Read, W: Write>(
+    arguments: &[String],
+    reader: &mut Tracked<R>,
+    writer: &mut Tracked<W>,
+) -> Option<Result<(), RunFault>>
+    requires reader_works { has_failed reader.old ≡ false }
+    requires reader_fresh { taken_of reader.old ≡ 0 }
+    requires writer_works { has_failed writer.old ≡ false }
+    ensures { IfNone result ((reader.new ≡ reader.old) × (writer.new ≡ writer.old)) }
+{
+    if arguments.len() < 3 {
+        let variant = choose(arguments)?;
+        return Some(run(variant, reader, writer, LIMIT));
+    }
+    let mut key = [0; 64];
+    let (variant, length) = choose_mac(arguments, &mut key)?;
+    Some(run_mac(variant, &key[..length], reader, writer, MAC_LIMIT))
+}
+
 fn main(rt: HostRuntime) -> ExitCode {
     let Ok(arguments) = arguments(&rt) else {
         complain(&rt, NO_MEMORY);
         return ExitCode::from(3);
     };
-    let Some(variant) = choose(arguments.as_slice()) else {
-        complain(&rt, USAGE);
-        return ExitCode::from(2);
-    };
     let mut reader = Tracked::new(rt.stdin().lock());
     let mut writer = Tracked::new(rt.stdout());
-    let outcome = run(variant, &mut reader, &mut writer, LIMIT);
+    let outcome = perform(arguments.as_slice(), &mut reader, &mut writer);
     let _ = reader.into_inner();
     let _ = writer.into_inner();
     match outcome {
-        Ok(()) => ExitCode::SUCCESS,
-        Err(fault) => {
+        Some(Ok(())) => ExitCode::SUCCESS,
+        Some(Err(fault)) => {
             complain(&rt, fault.message());
             ExitCode::from(1)
+        }
+        None => {
+            complain(&rt, USAGE);
+            ExitCode::from(2)
         }
     }
 }

@@ -52,26 +52,27 @@ impl Read for SliceReader<'_> {
     }
 }
 
-/// Gives one byte again and again, as many as it is asked for, until none is left.
+/// Gives one byte again and again, at most `step` at a call, until none is left.
 #[derive(Drop)]
 pub struct RepeatingReader {
     pub byte: u8,
     pub left: usize,
+    pub step: usize,
 }
 
 impl Read for RepeatingReader {
     fn read(&mut self, buf: &mut [u8]) -> io::Result<usize> {
-        let count = buf.len().min(self.left);
+        let count = buf.len().min(self.left).min(self.step);
         buf[..count].fill(self.byte);
         self.left -= count;
         Ok(count)
     }
 }
 
-/// Keeps what it takes, at most `step` bytes at a call and 64 in all, and counts its calls.
+/// Keeps what it takes, at most `step` bytes at a call and 100 in all, and counts its calls.
 #[derive(Drop)]
 pub struct PageWriter {
-    page: [u8; 64],
+    page: [u8; 100],
     len: usize,
     step: usize,
     failure: Option<Failure>,
@@ -81,7 +82,7 @@ pub struct PageWriter {
 impl PageWriter {
     pub fn new(step: usize) -> Self {
         PageWriter {
-            page: [0; 64],
+            page: [0; 100],
             len: 0,
             step,
             failure: None,
@@ -99,14 +100,14 @@ impl PageWriter {
 
     /// What it took.
     pub fn written(&self) -> &[u8] {
-        &self.page[..self.len.min(64)]
+        &self.page[..self.len.min(100)]
     }
 }
 
 impl Write for PageWriter {
     fn write(&mut self, buf: &[u8]) -> io::Result<usize> {
         begin_call(&mut self.calls, self.failure)?;
-        let free = &mut self.page[self.len.min(64)..];
+        let free = &mut self.page[self.len.min(100)..];
         let count = buf.len().min(free.len()).min(self.step);
         free[..count].copy_from_slice(&buf[..count]);
         self.len = self.len.saturating_add(count);

@@ -1,0 +1,22 @@
+-- The texts of keys, and what the program's arguments ask for with one.
+use Rattle.std.specs.Prelude.{◌≡◌, ℕ, ◌*◌, ◌≤◌, List, [], ◌∷◌, length, codes, Ok}
+use Rattle.std.specs.List.{AllPass}
+use Rattle.hex.specs.Hex.{decode_of, is_hex_digit}
+use Rattle.ripemd_sum.specs.declared.variant.Variant.{Variant}
+use Rattle.ripemd_sum.specs.Variants.{name_of}
+
+-- two hexadecimal digits, of either case, for each of so many bytes, at most 64
+pub record IsKeyText (text : List ℕ) (count : ℕ) : Type 0 where
+  pub twice : length text ≡ 2 * count
+  pub most : count ≤ 64
+  pub digits : AllPass is_hex_digit text
+
+-- the arguments for a tag: the name of its variant, `hmac`, and the text of a key of so many bytes
+abbrev pub ChoosesMac : List (List ℕ) → Variant → ℕ → Type 0
+ChoosesMac (name ∷ word ∷ text ∷ []) v count = (name ≡ name_of v) × (word ≡ codes "hmac") × IsKeyText text count
+ChoosesMac _ v count = ⊥
+
+-- the third of these arguments stands for this key
+abbrev pub HasKey : List (List ℕ) → List ℕ → Type 0
+HasKey (name ∷ word ∷ text ∷ []) key = decode_of text ≡ Ok key
+HasKey _ key = ⊥
