@@ -1,0 +1,28 @@
+// The callers of ripemd_batch's pages, as they stand there.
+
+ghost use Rattle.std.specs.Prelude.{◌≡◌, ◌↔◌, length, map, IsTrue};
+ghost use Rattle.ripemd.specs.Standard.Compression.{ripemd160};
+ghost use Rattle.ripemd.specs.Standard.Hashing.{ripemd};
+ghost use Rattle.ripemd_batch.specs.Lanes.{targets};
+
+use ripemd::Ripemd160;
+use ripemd_batch::digest_each;
+
+/// Writes the RIPEMD-160 digest of each record to its place.
+#[tactic(auto, using(ripemd_batch::specs::Laws::own_bytes))]
+pub fn digests_of(records: &[&[u8]], digests: &mut [[u8; 20]])
+    requires { length digests.old ≡ length records.now }
+    ensures { digests.new ≡ map (ripemd ripemd160) (targets records.now) }
+{
+    digest_each::<Ripemd160>(records, digests);
+}
+
+/// Whether the records are those that these RIPEMD-160 digests were made of, one for each. The
+/// digests of the records are written to `found`.
+pub fn have_digests(records: &[&[u8]], wanted: &[[u8; 20]], found: &mut [[u8; 20]]) -> bool
+    requires { length found.old ≡ length records.now }
+    ensures { IsTrue result ↔ (map (ripemd ripemd160) (targets records.now) ≡ wanted.now) }
+{
+    digests_of(records, found);
+    *found == *wanted
+}

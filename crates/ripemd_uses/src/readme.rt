@@ -1,0 +1,18 @@
+// The example of ripemd's README, as it stands there.
+
+ghost use Rattle.std.specs.Prelude.{◌≡◌, ◌++◌};
+ghost use Rattle.ripemd.specs.Standard.Compression.{ripemd160};
+ghost use Rattle.ripemd.specs.Standard.Hashing.{ripemd};
+
+use ripemd::{Digest, Ripemd160};
+
+/// The RIPEMD-160 digest of a message that comes in two pieces.
+#[tactic(auto, using(ripemd::specs::Laws::fed_twice, ripemd::specs::Laws::finish_fed))]
+pub fn digest_of_two(first: &[u8], second: &[u8]) -> [u8; 20]
+    ensures { result ≡ ripemd ripemd160 (first.now ++ second.now) }
+{
+    let mut hasher = Ripemd160::new();
+    hasher.update(first);
+    hasher.update(second);
+    hasher.finalize()
+}

@@ -1,0 +1,133 @@
+use crate::batch;
+use crate::block::digest_of_short;
+use crate::calling::{
+    collision_of_160, digest_of, digest_of_reader, digest_of_three, digests_of, has_digest,
+    has_digest_by, places_of_collision, prefixed_digest, prefixed_digest_160,
+};
+use crate::commands::digests_of_ends;
+use crate::readme::digest_of_two;
+use crate::tags::{has_tag, has_tag_by, tag_of_two};
+use ripemd::Ripemd128;
+use std::io;
+use std::io::Read;
+
+// The authors' digests of "abc" by RIPEMD-160 and RIPEMD-128.
+const ABC: [u8; 20] = [
+    0x8e, 0xb2, 0x08, 0xf7, 0xe0, 0x5d, 0x98, 0x7a, 0x9b, 0x04, 0x4a, 0x8e, 0x98, 0xc6, 0xb0, 0x87,
+    0xf1, 0x5a, 0x0b, 0xfc,
+];
+
+const ABC_128: [u8; 16] = [
+    0xc1, 0x4a, 0x12, 0x19, 0x9c, 0x66, 0xe4, 0xba, 0x84, 0x63, 0x6b, 0x0f, 0x69, 0x14, 0x4c, 0x77,
+];
+
+#[test]
+fn digests(rt: HostRuntime) {
+    assert_eq!(rt; digest_of_short(b"abc"), ABC);
+    assert_eq!(rt; digest_of(b"abc"), ABC);
+    let (by_128, by_160, _, _) = digests_of(b"abc");
+    assert_eq!(rt; by_128, ABC_128);
+    assert_eq!(rt; by_160, ABC);
+    assert_eq!(rt; digest_of_two(b"a", b"bc"), ABC);
+    assert_eq!(rt; digest_of_three(b"a", b"", b"bc"), ABC);
+    assert_eq!(rt; prefixed_digest_160(b"ab", b"c"), ABC);
+    assert_eq!(rt; prefixed_digest::<Ripemd128>(b"ab", b"c"), ABC_128);
+}
+
+#[test]
+fn commands(rt: HostRuntime) {
+    match digests_of_ends(rt.alloc(), b"a", b"bc", b"bc") {
+        Ok(digests) => assert_eq!(rt; digests.as_slice(), [ABC, ABC].as_slice()),
+        Err(_) => assert!(rt; false, "memory was refused"),
+    }
+}
+
+#[test]
+fn comparisons(rt: HostRuntime) {
+    assert!(rt; has_digest(b"abc", &ABC));
+    assert!(rt; !has_digest(b"abd", &ABC));
+    assert!(rt; has_digest_by::<Ripemd128>(b"abc", &ABC_128));
+    assert!(rt; !has_digest_by::<Ripemd128>(b"abc", &ABC_128[..15]));
+    assert!(rt; !has_digest_by::<Ripemd128>(b"abc", &ABC));
+}
+
+// A reader that gives "abc" a byte at a time, and fails after as many bytes as it is told.
+#[derive(Drop)]
+struct Letters {
+    given: u8,
+    failing: u8,
+}
+
+impl Read for Letters {
+    fn read(&mut self, buffer: &mut [u8]) -> io::Result<usize> {
+        if self.given == self.failing {
+            return Err(io::ErrorKind::Other.into());
+        }
+        if self.given >= 3 || buffer.is_empty() {
+            return Ok(0);
+        }
+        buffer[0] = b'a' + self.given;
+        self.given += 1;
+        Ok(1)
+    }
+}
+
+// The digest of such a reader within a limit, and `None` where that is not `Ok`.
+fn digest_within(failing: u8, limit: u64) -> Option<Option<[u8; 20]>> {
+    let mut reader = Letters { given: 0, failing };
+    digest_of_reader(&mut reader, limit).ok()
+}
+
+#[test]
+fn readers(rt: HostRuntime) {
+    assert_eq!(rt; digest_within(9, 3), Some(Some(ABC)));
+    assert_eq!(rt; digest_within(9, 2), Some(None));
+    assert_eq!(rt; digest_within(2, 3), None);
+    assert_eq!(rt; digest_within(3, 3), None);
+    let mut memory: &[u8] = b"abc";
+    assert_eq!(rt; digest_of_reader(&mut memory, 3).ok(), Some(Some(ABC)));
+}
+
+// The block function of the page reads the first byte of each block alone.
+#[test]
+fn collisions(rt: HostRuntime) {
+    assert!(rt; collision_of_160(b"abc", b"abd").is_none());
+    assert!(rt; collision_of_160(b"abc", b"abc").is_none());
+    assert_eq!(rt; places_of_collision(b"abc", b"axx"), Some((0, 0)));
+    assert_eq!(rt; places_of_collision(b"abc", b"xbc"), None);
+    let mut a = [0; 65];
+    a[0] = 1;
+    a[64] = 2;
+    let mut b = [0; 65];
+    b[0] = 2;
+    b[64] = 1;
+    assert_eq!(rt; places_of_collision(&a, &b), Some((1, 1)));
+}
+
+// What RFC 2286 publishes.
+#[test]
+fn tags(rt: HostRuntime) {
+    let tag = [
+        0x24, 0xcb, 0x4b, 0xd6, 0x7d, 0x20, 0xfc, 0x1a, 0x5d, 0x2e, 0xd7, 0x73, 0x2d, 0xcc, 0x39,
+        0x37, 0x7f, 0x0a, 0x56, 0x68,
+    ];
+    let tag_128 = [
+        0xfb, 0xf6, 0x1f, 0x94, 0x92, 0xaa, 0x4b, 0xbf, 0x81, 0xc1, 0x72, 0xe8, 0x4e, 0x07, 0x34,
+        0xdb,
+    ];
+    let key = [0x0b; 20];
+    assert_eq!(rt; tag_of_two(&key, b"Hi", b" There"), tag);
+    assert!(rt; has_tag(&key, b"Hi There", &tag));
+    assert!(rt; !has_tag(&key, b"Hi There", &tag[..19]));
+    assert!(rt; !has_tag(&key, b"Hi there", &tag));
+    assert!(rt; has_tag_by::<Ripemd128>(&key[..16], b"Hi There", &tag_128));
+}
+
+// Records, of which one has not the digest that is wanted.
+#[test]
+fn records(rt: HostRuntime) {
+    let mut found = [[0; 20]; 2];
+    assert!(rt; batch::have_digests(&[b"abc", b"abc"], &[ABC, ABC], &mut found));
+    assert!(rt; !batch::have_digests(&[b"abc", b"abd"], &[ABC, ABC], &mut found));
+    assert!(rt; !batch::have_digests(&[b"abc", b"abc"], &[ABC], &mut found));
+}
