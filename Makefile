@@ -4,6 +4,8 @@
 #   make check         the gate: every proof, every wrong body and every test from nothing, and then
 #                      the built program on its cases
 #   make quick         the proofs and tests, without the wrong bodies and over what earlier runs kept
+#   make bench         the program's speed on 256 MiB in memory, beside the library's and that of other
+#                      programs, as a table
 #   make install       copies the program, built, to PREFIX/bin (PREFIX=/usr/local; DESTDIR goes in
 #                      front)
 #   make clean         removes what was built
@@ -16,7 +18,7 @@ CPU =
 
 PROGRAM = crates/ripemd_sum/out/ripemd_sum
 
-.PHONY: all check quick install clean
+.PHONY: all check quick bench install clean
 
 # `rt run` proves, builds and then runs the program, here on no input.
 all:
@@ -27,6 +29,10 @@ check:
 
 quick:
 	tests/check rt all test
+
+bench: all
+	@cd crates/ripemd_bench && rt run $(if $(CPU),--cpu $(CPU)) </dev/null >/dev/null
+	@tests/bench
 
 install: all
 	install -D -m 755 $(PROGRAM) $(DESTDIR)$(PREFIX)/bin/ripemd_sum
