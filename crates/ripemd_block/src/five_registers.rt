@@ -8,7 +8,7 @@ ghost use Rattle.ripemd_block.specs.Code.Lines.{five_lefts, five_rights, five_li
 
 use crate::message::words_of_step;
 use crate::pair::{DoubledWord, Pair};
-use crate::textbook::{constants_of_five_rounds, left_number, right_number, rotation};
+use crate::textbook::{left_constant, left_number, right_constant_of_five, right_number, rotation};
 
 // The Boolean functions of round `r`: number `r` of the left words, and number `4 - r` of the right
 // ones, factored so that little waits for `x`, the newest of them.
@@ -29,6 +29,16 @@ fn functions(r: usize, x: Pair, y: Pair, z: Pair) -> Pair
             .xor(Pair::select(y.and(z.not()), z)),
         _ => x.xor(Pair::select(y.or(z.not()), y.xor(z))),
     }
+}
+
+// The constants of round `r`.
+#[inline(always)]
+fn constants(r: usize) -> Pair
+    requires { r < 5 }
+    ensures left { result.left ≡ left_line.constant r }
+    ensures right { result.right ≡ (right_line 5).constant r }
+{
+    Pair::of(left_constant(r), right_constant_of_five(r))
 }
 
 // A step of both lines in round `r`, from the registers A B C D E, with the message words `x`, the
@@ -64,7 +74,7 @@ fn step_at(r: usize, i: usize, words: &[DoubledWord; 16], registers: [Pair; 5]) 
     let left = left_number(r, i);
     let right = right_number(r, i);
     let x = words_of_step(words, left, right);
-    let k = constants_of_five_rounds(r);
+    let k = constants(r);
     let left_amount = rotation(r, left);
     let right_amount = rotation(r, right);
     step(r, x, k, left_amount, right_amount, registers)

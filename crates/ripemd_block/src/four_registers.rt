@@ -8,7 +8,7 @@ ghost use Rattle.ripemd_block.specs.Code.Lines.{four_lefts, four_rights, four_li
 
 use crate::message::words_of_step;
 use crate::pair::{DoubledWord, Pair};
-use crate::textbook::{constants_of_four_rounds, left_number, right_number, rotation};
+use crate::textbook::{left_constant, left_number, right_constant_of_four, right_number, rotation};
 
 // The Boolean functions of round `r`: number `r` of the left words, and number `3 - r` of the right
 // ones, all in the form `(x & m) ^ n`, so that little waits for `x`, the newest of them.
@@ -34,6 +34,16 @@ fn functions(r: usize, x: Pair, y: Pair, z: Pair) -> Pair
             .and(Pair::select(z, ones))
             .xor(Pair::select(y.and(z.not()), y.xor(z))),
     }
+}
+
+// The constants of round `r`.
+#[inline(always)]
+fn constants(r: usize) -> Pair
+    requires { r < 4 }
+    ensures left { result.left ≡ left_line.constant r }
+    ensures right { result.right ≡ (right_line 4).constant r }
+{
+    Pair::of(left_constant(r), right_constant_of_four(r))
 }
 
 // A step of both lines in round `r`, from the registers A B C D, with the message words `x`, the
@@ -69,7 +79,7 @@ fn step_at(r: usize, i: usize, words: &[DoubledWord; 16], registers: [Pair; 4]) 
     let left = left_number(r, i);
     let right = right_number(r, i);
     let x = words_of_step(words, left, right);
-    let k = constants_of_four_rounds(r);
+    let k = constants(r);
     let left_amount = rotation(r, left);
     let right_amount = rotation(r, right);
     step(r, x, k, left_amount, right_amount, registers)

@@ -17,5 +17,5 @@ pub mod padding;
 mod pair;
 #[cfg(test)]
 mod tests_by_tables;
-mod textbook;
+pub mod textbook;
 mod variants;

@@ -4,7 +4,8 @@
 ghost use Rattle.std.specs.Prelude.{◌<◌, ◌≤◌};
 
 use crate::textbook::{
-    constants_of_five_rounds, constants_of_four_rounds, left_number, right_number, rotation,
+    left_constant, left_number, right_constant_of_five, right_constant_of_four, right_number,
+    rotation,
 };
 use crate::{c128, c160, c256, c320};
 
@@ -57,28 +58,21 @@ fn lines_after(size: usize, exchanges: &[usize], start: Lines, block: &[u8; 64])
     let mut left = start.left;
     let mut right = start.right;
     for r in 0..size {
-        let constants = if size < 5 {
-            constants_of_four_rounds(r)
+        let right_constant = if size < 5 {
+            right_constant_of_four(r)
         } else {
-            constants_of_five_rounds(r)
+            right_constant_of_five(r)
         };
         for i in 0..16 {
             let j = left_number(r, i);
             let x = message_word(block, j);
-            let next = step(size, r, x, constants.left(), rotation(r, j), left);
+            let next = step(size, r, x, left_constant(r), rotation(r, j), left);
             left = next;
         }
         for i in 0..16 {
             let j = right_number(r, i);
             let x = message_word(block, j);
-            let next = step(
-                size,
-                size - 1 - r,
-                x,
-                constants.right(),
-                rotation(r, j),
-                right,
-            );
+            let next = step(size, size - 1 - r, x, right_constant, rotation(r, j), right);
             right = next;
         }
         if r < exchanges.len() {

@@ -3,8 +3,6 @@
 ghost use Rattle.std.specs.Prelude.{◌≡◌, ◌<◌, ℕ};
 ghost use Rattle.ripemd_block.specs.Standard.Schedule.{left_line, right_line, rotation};
 
-use crate::pair::Pair;
-
 // The numbers of the message words that the left line takes, by round and step (1996, ordering of
 // the message words).
 static LEFT_ORDER: [[usize; 16]; 5] = [
@@ -43,7 +41,7 @@ static RIGHT_CONSTANTS_OF_FOUR: [u32; 4] = [0x50a2_8be6, 0x5c4d_d124, 0x6d70_3ef
 
 /// The number of the message word that step `i` of round `r` of the left line takes.
 #[inline(always)]
-pub(crate) fn left_number(r: usize, i: usize) -> usize
+pub fn left_number(r: usize, i: usize) -> usize
     requires round { r < 5 }
     requires step { i < 16 }
     ensures value { result ≡ left_line.word_number r i }
@@ -55,7 +53,7 @@ pub(crate) fn left_number(r: usize, i: usize) -> usize
 /// The number of the message word that step `i` of round `r` of the right line takes, of however
 /// many rounds.
 #[inline(always)]
-pub(crate) fn right_number(r: usize, i: usize) -> usize
+pub fn right_number(r: usize, i: usize) -> usize
     requires round { r < 5 }
     requires step { i < 16 }
     ensures value { (rounds : ℕ) → result ≡ (right_line rounds).word_number r i }
@@ -66,7 +64,7 @@ pub(crate) fn right_number(r: usize, i: usize) -> usize
 
 /// By how many bits a step of round `r` that takes message word `j` rotates.
 #[inline(always)]
-pub(crate) fn rotation(r: usize, j: usize) -> u32
+pub fn rotation(r: usize, j: usize) -> u32
     requires round { r < 5 }
     requires word { j < 16 }
     ensures value { result ≡ rotation r j }
@@ -75,22 +73,29 @@ pub(crate) fn rotation(r: usize, j: usize) -> u32
     ROTATIONS[r][j]
 }
 
-/// The constants of round `r` of four.
+/// The constant of round `r` of the left line.
 #[inline(always)]
-pub(crate) fn constants_of_four_rounds(r: usize) -> Pair
-    requires { r < 4 }
-    ensures left { result.left ≡ left_line.constant r }
-    ensures right { result.right ≡ (right_line 4).constant r }
+pub fn left_constant(r: usize) -> u32
+    requires { r < 5 }
+    ensures { result ≡ left_line.constant r }
 {
-    Pair::of(LEFT_CONSTANTS[r], RIGHT_CONSTANTS_OF_FOUR[r])
+    LEFT_CONSTANTS[r]
 }
 
-/// The constants of round `r` of five.
+/// The constant of round `r` of the right line, of four rounds.
 #[inline(always)]
-pub(crate) fn constants_of_five_rounds(r: usize) -> Pair
-    requires { r < 5 }
-    ensures left { result.left ≡ left_line.constant r }
-    ensures right { result.right ≡ (right_line 5).constant r }
+pub fn right_constant_of_four(r: usize) -> u32
+    requires { r < 4 }
+    ensures { result ≡ (right_line 4).constant r }
 {
-    Pair::of(LEFT_CONSTANTS[r], RIGHT_CONSTANTS_OF_FIVE[r])
+    RIGHT_CONSTANTS_OF_FOUR[r]
+}
+
+/// The constant of round `r` of the right line, of five rounds.
+#[inline(always)]
+pub fn right_constant_of_five(r: usize) -> u32
+    requires { r < 5 }
+    ensures { result ≡ (right_line 5).constant r }
+{
+    RIGHT_CONSTANTS_OF_FIVE[r]
 }

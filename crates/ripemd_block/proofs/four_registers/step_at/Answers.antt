@@ -8,7 +8,7 @@ returns-clause-left c block start all before =
     let number = c.left_number-left.ensures.value in
     let word = c.words_of_step-x.ensures.left block all in
     one_more_step left_line block c.args.r c.args.i start (four_lefts c.args.registers) (four_lefts c.step.result)
-    _ _ _ _ number word c.constants_of_four_rounds-k.ensures.left c.rotation-left_amount.ensures.value
+    _ _ _ _ number word c.constants-k.ensures.left c.rotation-left_amount.ensures.value
     before c.step.ensures.left
 
 pub returns-clause-right : goal.returns-clause-right
@@ -17,5 +17,5 @@ returns-clause-right c block start all before =
     let word = c.words_of_step-x.ensures.right block all in
     one_more_step (right_line 4) block c.args.r c.args.i start (four_rights c.args.registers)
     (four_rights c.step.result)
-    _ _ _ _ number word c.constants_of_four_rounds-k.ensures.right c.rotation-right_amount.ensures.value
+    _ _ _ _ number word c.constants-k.ensures.right c.rotation-right_amount.ensures.value
     before c.step.ensures.right
