@@ -1,14 +1,14 @@
 -- The laws of a hash under way, for callers of the hashers: name them in `using(..)`.
-use Rattle.std.specs.Prelude.{◌≡◌, ℕ, List, [], ◌++◌}
-use Rattle.ripemd_block.specs.Standard.Compression.{Parameters}
+use Rattle.std.specs.Prelude.{◌≡◌, ℕ, ◌^◌, ◌<◌, List, [], ◌++◌, length}
+use Rattle.ripemd_block.specs.Standard.Words.{block_size}
 use Rattle.ripemd_block.specs.Standard.Hashing.{hash}
-use Rattle.ripemd_block.specs.States.{Meaning, IsState, initial_state, fed, finish}
+use Rattle.ripemd_block.specs.States.{Meaning, initial_state, fed, finish}
 use Rattle.ripemd_block.proofs.StateLaws as laws
 
 -- no bytes change nothing
-pub fed_nothing : (step : List ℕ → List ℕ → List ℕ) (v : Parameters) (h : Meaning)
-    → IsState v h → fed step h [] ≡ h
-fed_nothing step v h valid = laws.fed_nothing step h valid.count valid.tail.short
+pub fed_nothing : (step : List ℕ → List ℕ → List ℕ) (h : Meaning)
+    → h.count < 2 ^ 64 → length h.tail < block_size → fed step h [] ≡ h
+fed_nothing = laws.fed_nothing
 
 -- some bytes and then others are both, joined
 pub fed_twice : (step : List ℕ → List ℕ → List ℕ) (h : Meaning) (x y : List ℕ)

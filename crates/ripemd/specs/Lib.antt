@@ -6,6 +6,8 @@ pub mod Replay
 pub mod Collisions
 -- Words about the code's own vectors: proved, not to be believed.
 pub mod Held
+-- Block functions of a caller's own, as those over lists.
+pub mod Listed
 -- Laws for callers: proved, not to be believed.
 pub mod Laws
 -- The same, for loops of reads.

@@ -22,7 +22,7 @@ pub saved_first : {v : Parameters} {h : Meaning} {bytes : List ℕ} → bytes �
     → IsState v h → IsSavedAfter v [] bytes
 unfolding SavesAs
 saved_first {v} {h} saved new valid =
-    let same : fed (compress v) (new_state v) [] ≡ h = rw (← new) (fed_nothing (compress v) v h valid) in
+    let same : fed (compress v) (new_state v) [] ≡ h = rw (← new) (fed_nothing (compress v) h valid.count valid.tail.short) in
     record { is = (rw same valid, ap hasher_bytes same ∙ sym saved) }
 
 -- the hasher that was loaded was fed the message

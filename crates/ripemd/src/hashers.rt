@@ -1,6 +1,6 @@
 //! The hashers of the four variants.
 
-ghost use Rattle.std.specs.Prelude.{◌≡◌, ℕ, List, ⊤};
+ghost use Rattle.std.specs.Prelude.{◌≡◌, ⊤};
 ghost use Rattle.ripemd_block.specs.Standard.Words.{word_bytes};
 ghost use Rattle.ripemd_block.specs.Standard.Compression.{compress};
 ghost use Rattle.ripemd_block.specs.States.{Meaning, IsState, new_state, with_tail};
@@ -171,7 +171,8 @@ impl<V: VariantParts> Digest for RipemdHasher<V> {
 
     ghost use Rattle.ripemd.specs.Laws.{fed_nothing};
 
-    ghost fed_nothing = { fed_nothing (compress V.parameters) V.parameters };
+    ghost fed_nothing = { λ h valid.
+        fed_nothing (compress V.parameters) h valid.count valid.tail.short };
 }
 
 impl<V: VariantParts> BlockDigest for RipemdHasher<V> {

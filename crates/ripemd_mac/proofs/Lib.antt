@@ -1,4 +1,3 @@
 pub mod MacReduction
 pub mod Outer
 pub mod Tags
-pub mod Toy

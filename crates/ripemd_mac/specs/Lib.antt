@@ -2,5 +2,5 @@
 pub mod Keyed
 -- To what collisions two texts with one tag lead.
 pub mod MacCollisions
--- The hash function of the tests.
-pub mod Toy
+-- The block function of the tests.
+pub mod Sums

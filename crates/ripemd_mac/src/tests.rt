@@ -7,6 +7,7 @@ use ripemd::digest::BlockDigest;
 use ripemd::witness::{BlockFunction, check_collision};
 use ripemd::{Digest, Ripemd128, Ripemd160, Ripemd256, Ripemd320};
 use std::alloc::{AllocError, Global};
+use std::process::Abort;
 use std::test::Fail;
 use toys::{Sums, SumsCore};
 
@@ -388,4 +389,64 @@ fn no_collision_of_sums(rt: HostRuntime) -> Result<(), Fail> {
     assert_eq!(rt; shape_of(rt.alloc(), &[1], &[2])?, None);
     assert_eq!(rt; shape_of(rt.alloc(), &[1, 2], &[1, 2])?, None);
     Ok(())
+}
+
+// ---- refused growths
+
+// Asks for the shape of the collision of two texts, where memory may be refused, and prints whether
+// it was. An answer has to be the wanted one; after a refusal the same texts then give it.
+// `tests/growths` reads what is printed.
+fn try_growths<R: Abort + Print>(
+    rt: &R,
+    alloc: Global,
+    name: &str,
+    texts: (&[u8], &[u8]),
+    wanted: Option<Shape>,
+)
+    requires a_short { length texts.0.now < 2 ^ 61 - 64 }
+    requires b_short { length texts.1.now < 2 ^ 61 - 64 }
+{
+    let (a, b) = texts;
+    let outcome = match shape_of(alloc, a, b) {
+        Err(_) => {
+            assert!(rt; shape_of(alloc, a, b).ok() == Some(wanted), "{name}");
+            "refused"
+        }
+        Ok(found) => {
+            assert!(rt; found == wanted, "{name}");
+            "answered"
+        }
+    };
+    let _ = println!(rt; "growths of {name}: {outcome}");
+}
+
+#[test]
+fn growths_of_inner_messages(rt: HostRuntime) {
+    let wanted = Shape {
+        is_inner: true,
+        places: (1, 1),
+        states: ([128, 54], [128, 54]),
+        step: [21, 54],
+    };
+    try_growths(&rt, rt.alloc(), "inner", (&[1, 2], &[2, 1]), Some(wanted));
+}
+
+// Outer messages, equal texts, and texts whose tags differ ask for no memory.
+#[test]
+fn growths_of_none(rt: HostRuntime) {
+    let alloc = rt.alloc();
+    let mut first = [0; 64];
+    first[0] = 2;
+    let mut second = [0; 64];
+    second[63] = 1;
+    let wanted = Shape {
+        is_inner: false,
+        places: (1, 1),
+        states: ([0, 92], [0, 92]),
+        step: [206, 92],
+    };
+    assert!(rt; shape_of(alloc, &first, &second).ok() == Some(Some(wanted)));
+    assert!(rt; shape_of(alloc, &first, &first).ok() == Some(None));
+    assert!(rt; shape_of(alloc, &[1], &[2]).ok() == Some(None));
+    let _ = println!(rt; "growths of none: answered");
 }

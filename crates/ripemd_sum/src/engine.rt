@@ -5,7 +5,7 @@ ghost use Rattle.std.specs.Prelude.{IfOk, OnOk, IfErr};
 ghost use Rattle.hex.specs.Hex.{encode_lower};
 ghost use Rattle.ripemd.specs.Standard.Hashing.{hash};
 ghost use Rattle.ripemd_mac.specs.Keyed.{hmac};
-ghost use Rattle.ripemd_sum.specs.Track.{inner_of, has_failed, taken_of};
+ghost use Rattle.ripemd_sum.specs.Track.{has_failed, taken_of};
 ghost use Rattle.ripemd_sum.specs.Runs.{digest_line, tag_line, GivesAll, Gets};
 ghost use Rattle.ripemd_sum.specs.Faults.{ExplainsReading, ExplainsRun};
 
