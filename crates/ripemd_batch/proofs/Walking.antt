@@ -18,9 +18,8 @@ walk_on step start bs i before after so_far more no_more = go (cases_lt i (lengt
 
 -- the bytes of the words after a walk through the blocks of a message are its hash
 pub hash_from : (first start : List ℕ) (by step : List ℕ → List ℕ → List ℕ) (bytes output : List ℕ → List ℕ)
-    (message : List ℕ) (bs : List (List ℕ)) → first ≡ start → by ≡ step → bytes ≡ output
-    → bs ≡ blocks (padded_message message)
-    → bytes (walk by first bs) ≡ hash start step output message
+    (message words : List ℕ) → words ≡ walk by first (blocks (padded_message message))
+    → first ≡ start → by ≡ step → bytes ≡ output → bytes words ≡ hash start step output message
 unfolding hash
-hash_from first start by step bytes output message bs same_start same_step same_output of_message =
-    rw (same_start, same_step, same_output, of_message) refl
+hash_from first start by step bytes output message words after same_start same_step same_output =
+    rw (after, same_start, same_step, same_output) refl

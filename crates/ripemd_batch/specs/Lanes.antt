@@ -4,8 +4,8 @@ use Rattle.std.specs.Borrow.{Bor}
 use Rattle.ripemd_block.specs.Standard.Words.{message_word}
 use Rattle.ripemd_block.specs.Standard.Schedule.{Line, left_line, right_line}
 use Rattle.ripemd_block.specs.Standard.Compression.{Lines}
-use Rattle.ripemd_batch.specs.declared.textbook.Side.{Side}
-use Rattle.ripemd_batch.specs.declared.textbook.Side.TheVariants.{Left, Right}
+use Rattle.ripemd_batch.specs.declared.steps.Side.{Side}
+use Rattle.ripemd_batch.specs.declared.steps.Side.TheVariants.{Left, Right}
 
 -- ---- the lanes of vectors
 

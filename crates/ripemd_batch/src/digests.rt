@@ -133,11 +133,14 @@ fn fills_lanes(messages: &[&[u8]], at: usize, count: usize) -> bool
 {
     let mut most = 0;
     let mut sum: usize = 0;
-    for j in 0..count {
-        let blocks = block_count(messages[at + j]);
-        sum = sum.wrapping_add(blocks);
-        if most < blocks {
-            most = blocks;
+    // Eight turns, which the compiler writes out.
+    for j in 0..8 {
+        if j < count {
+            let blocks = block_count(messages[at + j]);
+            sum = sum.wrapping_add(blocks);
+            if most < blocks {
+                most = blocks;
+            }
         }
     }
     sum / 4 >= most
@@ -181,11 +184,13 @@ fn digest_at_once<D: BatchDigest>(
         → take (at + count) (map D.bytes_of digests.new)
         ≡ take (at + count) (map (hash D.start D.step D.output) (targets messages.now)) }
 {
-    let blocks = blocks_of_eight(messages, at);
-    let states: D::States = after_all(&blocks);
-    for j in 0..count {
-        let digest = states.digest_of(j);
-        digests[at + j] = digest;
+    let states: D::States = after_messages(messages, at);
+    // Eight turns, so that the compiler knows the lane of each.
+    for j in 0..8 {
+        if j < count {
+            let digest = states.digest_of(j);
+            digests[at + j] = digest;
+        }
     }
 }
 
@@ -198,35 +203,45 @@ fn message_at<'a>(messages: &[&'a [u8]], i: usize) -> &'a [u8]
     messages[i]
 }
 
-// The blocks of message `i`, or of an empty one behind the last.
-fn blocks_of<'a>(messages: &[&'a [u8]], i: usize) -> MessageBlocks<'a>
-    ensures { i < length messages.now
-        → result ≡ blocks (padded_message (of_message (targets messages.now) i)) }
+// Message `i`, or an empty one behind the last.
+#[inline(always)]
+fn message_or_empty<'a>(messages: &[&'a [u8]], i: usize) -> &'a [u8]
+    ensures { i < length messages.now → result.now ≡ of_message (targets messages.now) i }
 {
     if i < messages.len() {
-        MessageBlocks::of(message_at(messages, i))
+        message_at(messages, i)
     } else {
-        MessageBlocks::of(&[])
+        &[]
     }
 }
 
-// The blocks of eight messages from `at` on.
-fn blocks_of_eight<'a>(messages: &[&'a [u8]], at: usize) -> [MessageBlocks<'a>; 8]
+// The states of the eight messages from `at` on after their last blocks. Each message has two
+// blocks here, in which its padding is made.
+fn after_messages<S: EightStates>(messages: &[&[u8]], at: usize) -> S
     requires { at < length messages.now }
     ensures { (j : ℕ) → j < 8 → at + j < length messages.now
-        → blocks_of result j
-        ≡ blocks (padded_message (of_message (targets messages.now) (at + j))) }
+        → S.words_of j result ≡ walk (compress S.parameters) S.parameters.start
+        (blocks (padded_message (of_message (targets messages.now) (at + j)))) }
 {
-    [
-        blocks_of(messages, at),
-        blocks_of(messages, at + 1),
-        blocks_of(messages, at + 2),
-        blocks_of(messages, at + 3),
-        blocks_of(messages, at + 4),
-        blocks_of(messages, at + 5),
-        blocks_of(messages, at + 6),
-        blocks_of(messages, at + 7),
-    ]
+    let mut zeros_0 = [[0; 64]; 2];
+    let mut zeros_1 = [[0; 64]; 2];
+    let mut zeros_2 = [[0; 64]; 2];
+    let mut zeros_3 = [[0; 64]; 2];
+    let mut zeros_4 = [[0; 64]; 2];
+    let mut zeros_5 = [[0; 64]; 2];
+    let mut zeros_6 = [[0; 64]; 2];
+    let mut zeros_7 = [[0; 64]; 2];
+    let blocks = [
+        MessageBlocks::of(message_or_empty(messages, at), &mut zeros_0),
+        MessageBlocks::of(message_or_empty(messages, at + 1), &mut zeros_1),
+        MessageBlocks::of(message_or_empty(messages, at + 2), &mut zeros_2),
+        MessageBlocks::of(message_or_empty(messages, at + 3), &mut zeros_3),
+        MessageBlocks::of(message_or_empty(messages, at + 4), &mut zeros_4),
+        MessageBlocks::of(message_or_empty(messages, at + 5), &mut zeros_5),
+        MessageBlocks::of(message_or_empty(messages, at + 6), &mut zeros_6),
+        MessageBlocks::of(message_or_empty(messages, at + 7), &mut zeros_7),
+    ];
+    after_all(&blocks)
 }
 
 // The states of eight messages after their last blocks.

@@ -1,9 +1,10 @@
 //! Eight words, one of each message.
 
-ghost use Rattle.std.specs.Prelude.{◌≡◌, ◌<◌, ◌^◌, ℕ, slice_index, bit_xor, bit_and, bit_or};
+ghost use Rattle.std.specs.Prelude.{◌≡◌, ◌<◌, ◌^◌, ℕ, ◌++◌, slice_index, bit_xor, bit_and, bit_or};
 ghost use Rattle.std.specs.Int.{w32, bit_not};
 ghost use Rattle.ripemd_block.specs.Standard.Words.{◌⊞◌, rol};
 
+use crate::four::Four;
 use std::marker::Model;
 use std::simd::prelude::*;
 
@@ -34,6 +35,16 @@ impl Eight {
     {
         Eight {
             lanes: u32x8::from_array(words),
+        }
+    }
+
+    /// The words of four messages, and those of the four behind them.
+    #[inline(always)]
+    pub(crate) fn joined(low: Four, high: Four) -> Self
+        ensures { result ≡ low ++ high }
+    {
+        Eight {
+            lanes: low.lanes().shuffle(high.lanes(), [0, 1, 2, 3, 4, 5, 6, 7]),
         }
     }
 
@@ -106,7 +117,9 @@ impl Eight {
     /// The other bits of each word.
     #[inline(always)]
     pub fn not(self) -> Self
-        ensures { (j : ℕ) → j < 8 → slice_index result j ≡ bit_not w32 (slice_index self j) }
+        ensures value { (j : ℕ) → j < 8
+            → slice_index result j ≡ bit_not w32 (slice_index self j) }
+        ensures words { (j : ℕ) → j < 8 → slice_index self j < 2 ^ 32 }
     {
         Eight { lanes: !self.lanes }
     }

@@ -7,7 +7,8 @@ ghost use Rattle.ripemd_block.specs.Standard.Compression.{step, registers_after,
 ghost use Rattle.ripemd_batch.specs.Lanes.{line_of, five_words, five_lines, HasWords};
 
 use crate::eight::Eight;
-use crate::textbook::{Side, boolean_function, constant_of_five_rounds, rotation, word_number};
+use crate::steps::{Side, boolean_function, constant_of_five_rounds, word_number};
+use ripemd_block::textbook::rotation;
 
 /// The registers of both lines.
 #[derive(Clone, Copy)]
@@ -40,7 +41,8 @@ fn step(side: Side, r: usize, x: Eight, k: u32, s: u32, registers: [Eight; 5]) -
 {
     let [a, b, c, d, e] = registers;
     let f = function(side, r, b, c, d);
-    let sum = a.add(f).add(x).add(Eight::splat(k));
+    // The constant is added to `f` itself, so that a complement in it costs nothing.
+    let sum = a.add(x).add(f.add(Eight::splat(k)));
     let t = sum.rotate(s).add(e);
     [e, t, b, c.rotate(10), d]
 }

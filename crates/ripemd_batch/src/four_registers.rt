@@ -7,7 +7,8 @@ ghost use Rattle.ripemd_block.specs.Standard.Compression.{step, registers_after,
 ghost use Rattle.ripemd_batch.specs.Lanes.{line_of, four_words, four_lines, HasWords};
 
 use crate::eight::Eight;
-use crate::textbook::{Side, boolean_function, constant_of_four_rounds, rotation, word_number};
+use crate::steps::{Side, boolean_function, constant_of_four_rounds, word_number};
+use ripemd_block::textbook::rotation;
 
 /// The registers of both lines.
 #[derive(Clone, Copy)]

@@ -8,11 +8,12 @@ mod c320;
 pub mod digests;
 mod eight;
 mod five_registers;
+mod four;
 mod four_registers;
 mod message;
 mod padded;
 mod states;
-mod textbook;
+mod steps;
 
 pub use digests::{BatchDigest, digest_each};
 

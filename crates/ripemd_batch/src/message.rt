@@ -1,42 +1,48 @@
 //! The message words of the blocks of eight messages.
 
-ghost use Rattle.std.specs.Prelude.{◌≡◌, ◌<◌, ℕ, slice_index};
+ghost use Rattle.std.specs.Prelude.{◌≡◌, ◌<◌, ◌+◌, ◌*◌, ℕ, slice_index};
 ghost use Rattle.ripemd_block.specs.Standard.Words.{message_word};
-ghost use Rattle.ripemd_batch.specs.Lanes.{HasWords, of_message, targets};
+ghost use Rattle.ripemd_batch.specs.Lanes.{HasWords, lane_at, of_message, targets};
 
 use crate::eight::Eight;
+use crate::four::Four;
 
-// Message word `i` of a block of 64 bytes: four of its bytes, least first.
+// Message words `4 * i` to `4 * i + 3` of message `j`.
 #[inline(always)]
-fn word_of(block: &[u8; 64], i: usize) -> u32
-    requires { i < 16 }
-    ensures { result ≡ message_word block.now i }
+fn four_words_of(blocks: &[&[u8; 64]; 8], j: usize, i: usize) -> Four
+    requires message { j < 8 }
+    requires words { i < 4 }
+    ensures { (k : ℕ) → k < 4 → slice_index result k
+        ≡ message_word (of_message (targets blocks.now) j) (4 * i + k) }
 {
-    u32::from_le_bytes([
-        block[4 * i],
-        block[4 * i + 1],
-        block[4 * i + 2],
-        block[4 * i + 3],
-    ])
+    Four::of_block(blocks[j], i)
 }
 
-// Message word `i` of eight blocks.
+// Message words `4 * i` to `4 * i + 3` of each message.
 #[inline(always)]
-fn word_of_each(blocks: &[&[u8; 64]; 8], i: usize) -> Eight
-    requires { i < 16 }
-    ensures { (j : ℕ) → j < 8
-        → slice_index result j ≡ message_word (of_message (targets blocks.now) j) i }
+fn four_words_of_each(blocks: &[&[u8; 64]; 8], i: usize) -> [Eight; 4]
+    requires { i < 4 }
+    ensures { (k : ℕ) → k < 4 → (j : ℕ) → j < 8
+        → lane_at result k j ≡ message_word (of_message (targets blocks.now) j) (4 * i + k) }
 {
-    Eight::of([
-        word_of(blocks[0], i),
-        word_of(blocks[1], i),
-        word_of(blocks[2], i),
-        word_of(blocks[3], i),
-        word_of(blocks[4], i),
-        word_of(blocks[5], i),
-        word_of(blocks[6], i),
-        word_of(blocks[7], i),
-    ])
+    let low = Four::transposed(
+        four_words_of(blocks, 0, i),
+        four_words_of(blocks, 1, i),
+        four_words_of(blocks, 2, i),
+        four_words_of(blocks, 3, i),
+    );
+    let high = Four::transposed(
+        four_words_of(blocks, 4, i),
+        four_words_of(blocks, 5, i),
+        four_words_of(blocks, 6, i),
+        four_words_of(blocks, 7, i),
+    );
+    [
+        Eight::joined(low[0], high[0]),
+        Eight::joined(low[1], high[1]),
+        Eight::joined(low[2], high[2]),
+        Eight::joined(low[3], high[3]),
+    ]
 }
 
 /// The sixteen message words of eight blocks.
@@ -44,22 +50,11 @@ fn word_of_each(blocks: &[&[u8; 64]; 8], i: usize) -> Eight
 pub(crate) fn message_words(blocks: &[&[u8; 64]; 8]) -> [Eight; 16]
     ensures { (j : ℕ) → j < 8 → HasWords result j (of_message (targets blocks.now) j) }
 {
+    let [x0, x1, x2, x3] = four_words_of_each(blocks, 0);
+    let [x4, x5, x6, x7] = four_words_of_each(blocks, 1);
+    let [x8, x9, x10, x11] = four_words_of_each(blocks, 2);
+    let [x12, x13, x14, x15] = four_words_of_each(blocks, 3);
     [
-        word_of_each(blocks, 0),
-        word_of_each(blocks, 1),
-        word_of_each(blocks, 2),
-        word_of_each(blocks, 3),
-        word_of_each(blocks, 4),
-        word_of_each(blocks, 5),
-        word_of_each(blocks, 6),
-        word_of_each(blocks, 7),
-        word_of_each(blocks, 8),
-        word_of_each(blocks, 9),
-        word_of_each(blocks, 10),
-        word_of_each(blocks, 11),
-        word_of_each(blocks, 12),
-        word_of_each(blocks, 13),
-        word_of_each(blocks, 14),
-        word_of_each(blocks, 15),
+        x0, x1, x2, x3, x4, x5, x6, x7, x8, x9, x10, x11, x12, x13, x14, x15,
     ]
 }

@@ -1,55 +1,54 @@
 //! The blocks of a message with its padding, of which the whole ones stay where they lie.
 
-ghost use Rattle.std.specs.Prelude.{◌≡◌, ℕ, ◌<◌, List, [], ◌∷◌, ◌++◌, length, slice_index_or};
-ghost use Rattle.std.specs.Option.{option_to_list};
-ghost use Rattle.ripemd_block.specs.Standard.Words.{block_size};
-ghost use Rattle.ripemd_block.specs.Standard.Hashing.{with_padding, padded_message};
+ghost use Rattle.std.specs.Prelude.{◌≡◌, ◌-◌, ◌<◌, [], ◌∷◌, ◌++◌, length, take, replicate, slice_index_or};
+ghost use Rattle.ripemd_block.specs.Standard.Words.{block_size, eight_bytes};
+ghost use Rattle.ripemd_block.specs.Standard.Hashing.{length_place, with_padding, padded_message};
 ghost use Rattle.ripemd_block.specs.Standard.Hashing.{blocks, partial_block};
 
-use ripemd_block::buffer::{Buffer, Padded};
 use std::marker::Model;
 
 /// The blocks of a message with its padding: the whole ones, and the last one or two. Contracts see
 /// the list of them.
 #[derive(Drop)]
-pub(crate) struct MessageBlocks<'a> {
+pub(crate) struct MessageBlocks<'a, 'b> {
     whole: &'a [[u8; 64]],
-    last: Padded,
+    last: &'b [[u8; 64]],
 }
 
-impl<'a> Model for MessageBlocks<'a> {
-    ghost use Rattle.std.specs.Prelude.{ℕ, List, ◌∷◌, ◌++◌};
-    ghost use Rattle.std.specs.Option.{option_to_list};
+impl<'a, 'b> Model for MessageBlocks<'a, 'b> {
+    ghost use Rattle.std.specs.Prelude.{ℕ, ◌<◌, List, ◌++◌, length};
 
     ghost Value = { List (List ℕ) };
 
-    ghost view = { λ b. b.whole.now ++ b.last.first ∷ option_to_list b.last.second };
+    ghost view = { λ b. b.whole.now ++ b.last.now };
+
+    ghost invariant = { λ b. 0 < length b.last.now };
 }
 
-impl<'a> MessageBlocks<'a> {
-    /// The blocks of a message.
-    pub(crate) fn of(message: &'a [u8]) -> MessageBlocks<'a>
+impl<'a, 'b> MessageBlocks<'a, 'b> {
+    /// The blocks of a message. The last ones are made in the place of two blocks of zero bytes.
+    #[inline(always)]
+    pub(crate) fn of(message: &'a [u8], zeros: &'b mut [[u8; 64]; 2]) -> MessageBlocks<'a, 'b>
+        requires { zeros.old ≡ replicate 2 (replicate block_size 0) }
         ensures { result ≡ blocks (padded_message message.now) }
     {
         let (whole, tail) = whole_blocks(message);
         let bit_len = (message.len() as u64).wrapping_mul(8);
         MessageBlocks {
             whole,
-            last: last_blocks(tail, bit_len),
+            last: last_blocks(tail, bit_len, zeros),
         }
     }
 
     /// How many there are.
+    #[inline(always)]
     pub(crate) fn count(&self) -> usize
         ensures { result ≡ length self.now }
     {
-        match self.last.second {
-            None => self.whole.len() + 1,
-            Some(_) => self.whole.len() + 2,
-        }
+        self.whole.len() + self.last.len()
     }
 
-    /// Block `i`; the last one if there are not so many.
+    /// Block `i`; one of the last if there are not so many.
     #[inline(always)]
     pub(crate) fn at(&self, i: usize) -> &[u8; 64]
         ensures { i < length self.now → result.now ≡ slice_index_or self.now i [] }
@@ -57,17 +56,17 @@ impl<'a> MessageBlocks<'a> {
         if i < self.whole.len() {
             return &self.whole[i];
         }
-        if i == self.whole.len() {
-            return &self.last.first;
-        }
-        match &self.last.second {
-            Some(second) => second,
-            None => &self.last.first,
+        let place = i - self.whole.len();
+        if place < self.last.len() {
+            &self.last[place]
+        } else {
+            &self.last[0]
         }
     }
 }
 
 // The whole blocks of some bytes, and the bytes after them.
+#[inline(always)]
 fn whole_blocks(bytes: &[u8]) -> (&[[u8; 64]], &[u8])
     ensures whole { result.0.now ≡ blocks bytes.now }
     ensures rest { result.1.now ≡ partial_block bytes.now }
@@ -76,17 +75,41 @@ fn whole_blocks(bytes: &[u8]) -> (&[[u8; 64]], &[u8])
     bytes.as_chunks::<64>()
 }
 
-// The one or two blocks of the tail of a message whose length is `bit_len` bits.
-fn last_blocks(tail: &[u8], bit_len: u64) -> Padded
-    requires { length tail.now < block_size }
-    ensures { result.first ∷ option_to_list result.second ≡ blocks (with_padding tail.now bit_len) }
+// The one or two blocks of the tail of a message whose length is `bit_len` bits, made in the place
+// of two blocks of zero bytes.
+#[inline(always)]
+fn last_blocks<'b>(tail: &[u8], bit_len: u64, zeros: &'b mut [[u8; 64]; 2]) -> &'b [[u8; 64]]
+    requires short { length tail.now < block_size }
+    requires zeros { zeros.old ≡ replicate 2 (replicate block_size 0) }
+    ensures value { result.now ≡ blocks (with_padding tail.now bit_len) }
+    ensures some { 0 < length result.now }
 {
-    match Buffer::try_new(tail) {
-        Some(mut buffer) => buffer.len64_padding_le(bit_len),
-        // A tail is shorter than a block.
-        None => Padded {
-            first: [0; 64],
-            second: None,
-        },
+    write_marked(tail, &mut zeros[0]);
+    if tail.len() < 56 {
+        write_length(bit_len, &mut zeros[0]);
+        &zeros[..1]
+    } else {
+        write_length(bit_len, &mut zeros[1]);
+        &zeros[..2]
     }
+}
+
+// Writes the tail and the byte 0x80 to the front of a block of zero bytes.
+#[inline(always)]
+fn write_marked(tail: &[u8], block: &mut [u8; 64])
+    requires short { length tail.now < block_size }
+    requires zeros { block.old ≡ replicate block_size 0 }
+    ensures { block.new ≡ tail.now ++ 0x80 ∷ replicate (63 - length tail.now) 0 }
+{
+    let len = tail.len();
+    block[..len].copy_from_slice(tail);
+    block[len] = 0x80;
+}
+
+// Writes the length of a message to the last 8 bytes of a block.
+#[inline(always)]
+fn write_length(bit_len: u64, block: &mut [u8; 64])
+    ensures { block.new ≡ take length_place block.old ++ eight_bytes bit_len }
+{
+    block[56..].copy_from_slice(&bit_len.to_le_bytes());
 }

@@ -1,5 +1,5 @@
 -- The digests so far are written.
-use Rattle.std.proofs.Common.{◌≡◌, ◌+◌, length, map, take}
+use Rattle.std.proofs.Common.{◌≡◌, ◌+◌, length, map, min, take}
 use Rattle.ripemd_block.specs.Standard.Hashing.{hash}
 use Rattle.ripemd_batch.specs.Lanes.{targets}
 use Rattle.ripemd_batch.proofs.digests.digest_at_once.Given as goal
@@ -11,5 +11,5 @@ invariant-loop-j g l =
     record {
       size : length l.digests ≡ length l.fn.digests;
       so_far : take l.at (map bytes_of l.fn.digests) ≡ take l.at all
-          → take (l.at + l.j) (map bytes_of l.digests) ≡ take (l.at + l.j) all;
+          → take (l.at + min l.j l.count) (map bytes_of l.digests) ≡ take (l.at + min l.j l.count) all;
     }

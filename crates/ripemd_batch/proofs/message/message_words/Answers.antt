@@ -1,11 +1,28 @@
+use Rattle.std.proofs.Common.{◌∙◌, arith}
 use Rattle.ripemd_batch.proofs.EightLanes.{below_sixteen}
+use Rattle.ripemd_batch.proofs.Transposing.{lane_of}
 use Rattle.ripemd_batch.proofs.message.message_words.Goals as goal
 
 pub returns : goal.returns
 returns c j h =
-    below_sixteen _ (c.word_of_each.ensures j h) (c.word_of_each-2.ensures j h) (c.word_of_each-3.ensures j h)
-    (c.word_of_each-4.ensures j h) (c.word_of_each-5.ensures j h) (c.word_of_each-6.ensures j h)
-    (c.word_of_each-7.ensures j h) (c.word_of_each-8.ensures j h) (c.word_of_each-9.ensures j h)
-    (c.word_of_each-10.ensures j h) (c.word_of_each-11.ensures j h) (c.word_of_each-12.ensures j h)
-    (c.word_of_each-13.ensures j h) (c.word_of_each-14.ensures j h) (c.word_of_each-15.ensures j h)
-    (c.word_of_each-16.ensures j h)
+    let a = c.four_words_of_each in
+    let b = c.four_words_of_each-2 in
+    let d = c.four_words_of_each-3 in
+    let e = c.four_words_of_each-4 in
+    below_sixteen _
+    (lane_of a.result 0 j _ (omega arith) (omega arith) ∙ a.ensures 0 (omega arith) j h)
+    (lane_of a.result 1 j _ (omega arith) (omega arith) ∙ a.ensures 1 (omega arith) j h)
+    (lane_of a.result 2 j _ (omega arith) (omega arith) ∙ a.ensures 2 (omega arith) j h)
+    (lane_of a.result 3 j _ (omega arith) (omega arith) ∙ a.ensures 3 (omega arith) j h)
+    (lane_of b.result 0 j _ (omega arith) (omega arith) ∙ b.ensures 0 (omega arith) j h)
+    (lane_of b.result 1 j _ (omega arith) (omega arith) ∙ b.ensures 1 (omega arith) j h)
+    (lane_of b.result 2 j _ (omega arith) (omega arith) ∙ b.ensures 2 (omega arith) j h)
+    (lane_of b.result 3 j _ (omega arith) (omega arith) ∙ b.ensures 3 (omega arith) j h)
+    (lane_of d.result 0 j _ (omega arith) (omega arith) ∙ d.ensures 0 (omega arith) j h)
+    (lane_of d.result 1 j _ (omega arith) (omega arith) ∙ d.ensures 1 (omega arith) j h)
+    (lane_of d.result 2 j _ (omega arith) (omega arith) ∙ d.ensures 2 (omega arith) j h)
+    (lane_of d.result 3 j _ (omega arith) (omega arith) ∙ d.ensures 3 (omega arith) j h)
+    (lane_of e.result 0 j _ (omega arith) (omega arith) ∙ e.ensures 0 (omega arith) j h)
+    (lane_of e.result 1 j _ (omega arith) (omega arith) ∙ e.ensures 1 (omega arith) j h)
+    (lane_of e.result 2 j _ (omega arith) (omega arith) ∙ e.ensures 2 (omega arith) j h)
+    (lane_of e.result 3 j _ (omega arith) (omega arith) ∙ e.ensures 3 (omega arith) j h)

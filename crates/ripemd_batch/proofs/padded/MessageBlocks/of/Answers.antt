@@ -1,5 +1,4 @@
-use Rattle.std.proofs.Common.{◌∷◌, arith}
-use Rattle.std.specs.Option.{option_to_list}
+use Rattle.std.proofs.Common.{arith}
 use Rattle.ripemd_batch.proofs.Blocks.{joined_blocks}
 use Rattle.ripemd_batch.proofs.padded.MessageBlocks.of.Goals as goal
 
@@ -7,6 +6,5 @@ pub returns : goal.returns
 returns c =
     let whole = c.whole_blocks in
     let last = c.last_blocks in
-    joined_blocks c.args.message.now whole.result.1.now _ whole.result.0.now
-    (last.result.first ∷ option_to_list last.result.second)
-    whole.ensures.whole whole.ensures.rest (omega arith) last.ensures
+    joined_blocks c.args.message.now whole.result.1.now _ whole.result.0.now last.result.now
+    whole.ensures.whole whole.ensures.rest (omega arith) last.ensures.value

@@ -1,0 +1,33 @@
+-- Message words, read sixteen bytes at a time.
+use Rattle.std.proofs.Common.{◌≡◌, ℕ, ◌<◌, ◌≤◌, ◌+◌, ◌*◌, ◌-◌, List, [], ◌∷◌, length, take, drop, ap, ◌∙◌, sym, arith, w32}
+use Rattle.std.specs.Int.{from_le_bytes}
+use Rattle.std.specs.Simd.Lanes.{number_l, chunk}
+use Rattle.std.proofs.lemmas.Simd.{length-chunk}
+use Rattle.std.proofs.lemmas.List.{drop-take, take-take, drop-drop}
+use Rattle.ripemd_block.specs.Standard.Words.{message_word}
+
+-- the number that four bytes write, least first, as vectors and as words have it
+four_bytes : (xs : List ℕ) → length xs ≡ 4 → number_l 256 xs ≡ from_le_bytes w32 xs
+four_bytes [] s = absurd (omega arith)
+four_bytes (a ∷ []) s = absurd (omega arith)
+four_bytes (a ∷ b ∷ []) s = absurd (omega arith)
+four_bytes (a ∷ b ∷ c ∷ []) s = absurd (omega arith)
+four_bytes (a ∷ b ∷ c ∷ d ∷ []) s = omega arith
+four_bytes (a ∷ b ∷ c ∷ d ∷ e ∷ xs) s = absurd (omega arith)
+
+-- bytes 4 k to 4 k + 3 of those from 16 i on
+within : (block : List ℕ) (i k : ℕ) → k < 4
+    → chunk (4 * k) 4 (chunk (16 * i) 16 block) ≡ take 4 (drop (4 * (4 * i + k)) block)
+within block i k small =
+    let rest : 4 * k + (16 - 4 * k) ≡ 16 = omega arith in
+    let place : 16 * i + 4 * k ≡ 4 * (4 * i + k) = omega arith in
+    ap (λ (n : ℕ). take 4 (drop (4 * k) (take n (drop (16 * i) block)))) (sym rest)
+    ∙ ap (take 4) (drop-take (4 * k) (16 - 4 * k) (drop (16 * i) block))
+    ∙ take-take 4 (16 - 4 * k) (drop (4 * k) (drop (16 * i) block)) (omega arith)
+    ∙ ap (take 4) (drop-drop (4 * k) (16 * i) block ∙ ap (λ (n : ℕ). drop n block) place)
+
+pub word_in_chunk : (block : List ℕ) (i k : ℕ) → k < 4 → 16 * i + 16 ≤ length block
+    → number_l 256 (chunk (4 * k) 4 (chunk (16 * i) 16 block)) ≡ message_word block (4 * i + k)
+word_in_chunk block i k small size =
+    ap (number_l 256) (within block i k small)
+    ∙ four_bytes (take 4 (drop (4 * (4 * i + k)) block)) (length-chunk (4 * (4 * i + k)) 4 block (omega arith))
