@@ -1,0 +1,2 @@
+-- The digests of some records, written to their places among those of all.
+mod Placing

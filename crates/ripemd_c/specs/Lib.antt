@@ -1,0 +1,2 @@
+-- Records that lie one after another.
+pub mod Records

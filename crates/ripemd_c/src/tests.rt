@@ -1,0 +1,83 @@
+use crate::{
+    nattizhu_ripemd128, nattizhu_ripemd128_each, nattizhu_ripemd160, nattizhu_ripemd160_each,
+    nattizhu_ripemd256, nattizhu_ripemd256_each, nattizhu_ripemd320, nattizhu_ripemd320_each,
+};
+
+// The authors' digests of "abc".
+const BY_128: [u8; 16] = [
+    0xc1, 0x4a, 0x12, 0x19, 0x9c, 0x66, 0xe4, 0xba, 0x84, 0x63, 0x6b, 0x0f, 0x69, 0x14, 0x4c, 0x77,
+];
+
+const BY_160: [u8; 20] = [
+    0x8e, 0xb2, 0x08, 0xf7, 0xe0, 0x5d, 0x98, 0x7a, 0x9b, 0x04, 0x4a, 0x8e, 0x98, 0xc6, 0xb0, 0x87,
+    0xf1, 0x5a, 0x0b, 0xfc,
+];
+
+const BY_256: [u8; 32] = [
+    0xaf, 0xbd, 0x6e, 0x22, 0x8b, 0x9d, 0x8c, 0xbb, 0xce, 0xf5, 0xca, 0x2d, 0x03, 0xe6, 0xdb, 0xa1,
+    0x0a, 0xc0, 0xbc, 0x7d, 0xcb, 0xe4, 0x68, 0x0e, 0x1e, 0x42, 0xd2, 0xe9, 0x75, 0x45, 0x9b, 0x65,
+];
+
+const BY_320: [u8; 40] = [
+    0xde, 0x4c, 0x01, 0xb3, 0x05, 0x4f, 0x89, 0x30, 0xa7, 0x9d, 0x09, 0xae, 0x73, 0x8e, 0x92, 0x30,
+    0x1e, 0x5a, 0x17, 0x08, 0x5b, 0xef, 0xfd, 0xc1, 0xb8, 0xd1, 0x16, 0x71, 0x3e, 0x74, 0xf8, 0x2f,
+    0xa9, 0x42, 0xd6, 0x4c, 0xdb, 0xc4, 0x68, 0x2d,
+];
+
+#[test]
+fn one_message(rt: HostRuntime) {
+    let mut by_128 = [0; 16];
+    nattizhu_ripemd128(b"abc", &mut by_128);
+    assert_eq!(rt; by_128, BY_128);
+    let mut by_160 = [0; 20];
+    nattizhu_ripemd160(b"abc", &mut by_160);
+    assert_eq!(rt; by_160, BY_160);
+    let mut by_256 = [0; 32];
+    nattizhu_ripemd256(b"abc", &mut by_256);
+    assert_eq!(rt; by_256, BY_256);
+    let mut by_320 = [0; 40];
+    nattizhu_ripemd320(b"abc", &mut by_320);
+    assert_eq!(rt; by_320, BY_320);
+}
+
+// 300 records, of which those at the ends of what is handed on at once are "abc".
+#[test]
+fn many_records(rt: HostRuntime) {
+    let mut bytes = [b'x'; 900];
+    for i in [0usize, 127, 128, 299] {
+        bytes[3 * i] = b'a';
+        bytes[3 * i + 1] = b'b';
+        bytes[3 * i + 2] = b'c';
+    }
+    let mut by_128 = [[0; 16]; 300];
+    nattizhu_ripemd128_each(&bytes, 3, &mut by_128);
+    let mut by_160 = [[0; 20]; 300];
+    nattizhu_ripemd160_each(&bytes, 3, &mut by_160);
+    let mut by_256 = [[0; 32]; 300];
+    nattizhu_ripemd256_each(&bytes, 3, &mut by_256);
+    let mut by_320 = [[0; 40]; 300];
+    nattizhu_ripemd320_each(&bytes, 3, &mut by_320);
+    for i in [0usize, 127, 128, 299] {
+        assert_eq!(rt; by_128[i], BY_128);
+        assert_eq!(rt; by_160[i], BY_160);
+        assert_eq!(rt; by_256[i], BY_256);
+        assert_eq!(rt; by_320[i], BY_320);
+    }
+}
+
+// Records of no bytes: each digest is that of the empty message, as published.
+#[test]
+fn empty_records(rt: HostRuntime) {
+    let mut digests = [[0; 16]; 9];
+    nattizhu_ripemd128_each(&[], 0, &mut digests);
+    for digest in &digests {
+        assert_eq!(rt;
+            *digest,
+            [
+                0xcd, 0xf2, 0x62, 0x13, 0xa1, 0x50, 0xdc, 0x3e, 0xcb, 0x61, 0x0f, 0x18, 0xf6, 0xb3,
+                0x8b, 0x46,
+            ]
+        );
+    }
+    nattizhu_ripemd128_each(&[], 7, &mut []);
+}

@@ -1,0 +1,294 @@
+// Measures the functions of crates/ripemd_c in one process with those of other libraries, whichever
+// the machine has, and prints tables in Markdown on standard output.
+//   linked LEVEL=FILE.so..      ours, as built for some levels of processors
+// A function is timed only after its digests were compared with a published one and, at many
+// lengths, with ours. A figure is the best of many slices of some 10 ms, in the thread's processor
+// time. The rounds are outermost: a disturbance of seconds spoils a round of all figures, not all
+// rounds of one.
+#include <dlfcn.h>
+#include <stdint.h>
+#include <stdio.h>
+#include <stdlib.h>
+#include <string.h>
+#include <time.h>
+
+enum { ROUNDS = 8, SLICES = 6, VARIANTS = 4, MIB = 1 << 20, MOST = 8 };
+
+static const int SIZES[VARIANTS] = {16, 20, 32, 40};
+
+// What the authors published.
+static const char MESSAGE[] = "abcdbcdecdefdefgefghfghighijhijkijkljklmklmnlmnomnopnopq";
+static const char *const DIGESTS[VARIANTS] = {
+    "a1aa0689d0fafa2ddc22e88b49133a06",
+    "12a053384a9c0c88e405a06c27dcf49ada62eb2b",
+    "3843045583aac6c8c8d9128573e7a9809afb2a0f34ccc36ea9e72f16f6368e3f",
+    "d034a7950cf722021ba4b84df769a5de2060e259df4c9bb4a4268c0e935bbc7470a969c9d072a1ac",
+};
+
+// What is measured: messages of one size that lie one after another.
+static const struct task {
+  const char *title;
+  size_t size, count;
+  int in_ns;
+} TASKS[] = {
+    {"One message of 1 MiB, MB/s", MIB, 1, 0},
+    {"One message of 32 bytes, ns", 32, 1, 1},
+    {"128 messages of 4 KiB, ours at once, MB/s", 4096, 128, 0},
+    {"8,192 messages of 32 bytes, ours at once, ns for each", 32, 8192, 1},
+};
+enum { TASKS_COUNT = sizeof TASKS / sizeof TASKS[0] };
+
+// A library's functions by variant, NULL where it has none, and the least seconds of each task.
+struct library {
+  char name[80];
+  void (*digest[VARIANTS])(const uint8_t *message, size_t length, uint8_t *digest);
+  void (*each[VARIANTS])(const uint8_t *bytes, size_t length, size_t size, uint8_t *digests,
+                         size_t count);
+  double seconds[TASKS_COUNT][VARIANTS];
+};
+
+static struct library libraries[MOST]; // ours first
+static int ours, count;
+static uint8_t bytes[MIB], digests[8192 * 40];
+
+static void fail(const char *what, const char *why) {
+  fprintf(stderr, "linked: %s: %s\n", what, why);
+  exit(1);
+}
+
+static void *function(void *from, const char *name) {
+  void *found = dlsym(from, name);
+  if (!found)
+    fail(name, "there is no such function");
+  return found;
+}
+
+static struct library *add(const char *name, const char *version) {
+  snprintf(libraries[count].name, sizeof libraries[count].name, "%s %s", name, version);
+  return &libraries[count++];
+}
+
+// ---- the other libraries
+
+// A library of one of these versions, the newest that is there, or NULL.
+static void *find(const char *name, int newest, int oldest) {
+  char file[40];
+  void *found = NULL;
+  for (int version = newest; !found && version >= oldest; version--) {
+    snprintf(file, sizeof file, "%s.so.%d", name, version);
+    found = dlopen(file, RTLD_NOW);
+  }
+  return found;
+}
+
+#define TAKE(from, name) (*(void **)&name = function(from, #name))
+
+static void *rhash_context;
+static void (*rhash_reset)(void *);
+static int (*rhash_update)(void *, const void *, size_t);
+static int (*rhash_final)(void *, unsigned char *);
+static void by_rhash(const uint8_t *message, size_t length, uint8_t *digest) {
+  rhash_reset(rhash_context);
+  rhash_update(rhash_context, message, length);
+  rhash_final(rhash_context, digest);
+}
+
+static void add_rhash(void *from) {
+  void (*rhash_library_init)(void);
+  uintptr_t (*rhash_transmit)(unsigned, void *, uintptr_t, uintptr_t);
+  void *(*rhash_init)(unsigned);
+  TAKE(from, rhash_library_init), TAKE(from, rhash_transmit), TAKE(from, rhash_init);
+  TAKE(from, rhash_reset), TAKE(from, rhash_update), TAKE(from, rhash_final);
+  rhash_library_init();
+  rhash_context = rhash_init(0x400); // RIPEMD-160
+  unsigned number = rhash_transmit(20, NULL, 0, 0);
+  char version[20];
+  snprintf(version, sizeof version, "%u.%u.%u", number >> 24, number >> 16 & 255,
+           number >> 8 & 255);
+  add("RHash", version)->digest[1] = by_rhash;
+}
+
+static void (*gcry_md_hash_buffer)(int, void *, const void *, size_t);
+static void by_gcrypt(const uint8_t *message, size_t length, uint8_t *digest) {
+  gcry_md_hash_buffer(3, digest, message, length); // RIPEMD-160
+}
+
+static void add_gcrypt(void *from) {
+  const char *(*gcry_check_version)(const char *);
+  unsigned (*gcry_control)(int, ...);
+  TAKE(from, gcry_md_hash_buffer), TAKE(from, gcry_check_version), TAKE(from, gcry_control);
+  struct library *gcrypt = add("libgcrypt", gcry_check_version(NULL));
+  gcry_control(37, 0); // no secure memory
+  gcry_control(38, 0); // initialized
+  gcrypt->digest[1] = by_gcrypt;
+}
+
+static void *av_context;
+static int (*av_ripemd_init)(void *, int);
+static void (*av_ripemd_update)(void *, const uint8_t *, size_t);
+static void (*av_ripemd_final)(void *, uint8_t *);
+#define BY_AVUTIL(bits)                                                                            \
+  static void by_avutil_##bits(const uint8_t *message, size_t length, uint8_t *digest) {           \
+    av_ripemd_init(av_context, bits);                                                              \
+    av_ripemd_update(av_context, message, length);                                                 \
+    av_ripemd_final(av_context, digest);                                                           \
+  }
+BY_AVUTIL(128)
+BY_AVUTIL(160)
+BY_AVUTIL(256)
+BY_AVUTIL(320)
+
+static void add_avutil(void *from) {
+  void *(*av_ripemd_alloc)(void);
+  const char *(*av_version_info)(void);
+  TAKE(from, av_ripemd_alloc), TAKE(from, av_ripemd_init), TAKE(from, av_ripemd_update);
+  TAKE(from, av_ripemd_final), TAKE(from, av_version_info);
+  av_context = av_ripemd_alloc();
+  struct library *avutil = add("libavutil", av_version_info());
+  avutil->digest[0] = by_avutil_128;
+  avutil->digest[1] = by_avutil_160;
+  avutil->digest[2] = by_avutil_256;
+  avutil->digest[3] = by_avutil_320;
+}
+
+static unsigned char *(*RIPEMD160)(const unsigned char *, size_t, unsigned char *);
+static void by_openssl(const uint8_t *message, size_t length, uint8_t *digest) {
+  RIPEMD160(message, length, digest);
+}
+
+static void add_openssl(void *from) {
+  const char *(*OpenSSL_version)(int);
+  TAKE(from, RIPEMD160), TAKE(from, OpenSSL_version);
+  add("OpenSSL", OpenSSL_version(6))->digest[1] = by_openssl; // 6: the number alone
+}
+
+// ---- ours
+
+static void add_ours(char *argument) {
+  char *file = strchr(argument, '=');
+  if (!file)
+    fail(argument, "LEVEL=FILE.so is wanted");
+  *file++ = 0;
+  void *from = dlopen(file, RTLD_NOW | RTLD_LOCAL);
+  if (!from)
+    fail(file, dlerror());
+  struct library *added = add("ours, built for", argument);
+  for (int v = 0; v < VARIANTS; v++) {
+    char name[40];
+    snprintf(name, sizeof name, "nattizhu_ripemd%d", 8 * SIZES[v]);
+    *(void **)&added->digest[v] = function(from, name);
+    strcat(name, "_each");
+    *(void **)&added->each[v] = function(from, name);
+  }
+}
+
+// ---- what they answer, and how fast
+
+static void perform(const struct library *by, int v, const struct task *task) {
+  if (by->each[v] && task->count > 1)
+    by->each[v](bytes, task->count * task->size, task->size, digests, task->count);
+  else
+    for (size_t i = 0; i < task->count; i++)
+      by->digest[v](bytes + i * task->size, task->size, digests + i * SIZES[v]);
+}
+
+static void check(const struct library *by, int v) {
+  uint8_t digest[40], wanted[40];
+  for (int i = 0; i < SIZES[v]; i++)
+    sscanf(DIGESTS[v] + 2 * i, "%2hhx", &wanted[i]);
+  by->digest[v]((const uint8_t *)MESSAGE, strlen(MESSAGE), digest);
+  int wrong = memcmp(digest, wanted, SIZES[v]);
+  for (size_t length = 0; length < 300; length++) {
+    by->digest[v](bytes + length, length, digest);
+    libraries[0].digest[v](bytes + length, length, wanted);
+    wrong |= memcmp(digest, wanted, SIZES[v]);
+  }
+  for (int t = 0; t < TASKS_COUNT; t++) {
+    memset(digests, 0, sizeof digests);
+    perform(by, v, &TASKS[t]);
+    for (size_t i = 0; i < TASKS[t].count; i++) {
+      libraries[0].digest[v](bytes + i * TASKS[t].size, TASKS[t].size, wanted);
+      wrong |= memcmp(digests + i * SIZES[v], wanted, SIZES[v]);
+    }
+  }
+  if (wrong)
+    fail(by->name, "a wrong digest");
+}
+
+static double now(void) {
+  struct timespec time;
+  clock_gettime(CLOCK_THREAD_CPUTIME_ID, &time);
+  return time.tv_sec + 1e-9 * time.tv_nsec;
+}
+
+// The first message of each call begins with bytes of the last digest, so no call runs ahead. The
+// clock is read after some 4,096 blocks.
+static void measure(struct library *by, int v, int t) {
+  const struct task *task = &TASKS[t];
+  double *least = &by->seconds[t][v];
+  int batch = 4096 / (task->count * (task->size / 64 + 1)) + 1;
+  for (int s = 0; s < SLICES; s++) {
+    double start = now(), taken;
+    int calls = 0;
+    do {
+      for (int i = 0; i < batch; i++, calls++) {
+        perform(by, v, task);
+        memcpy(bytes, digests, 8);
+      }
+      taken = now() - start;
+    } while (taken < 0.01);
+    if (!*least || taken / calls < *least)
+      *least = taken / calls;
+  }
+}
+
+// A row for each library; ours with their speed as a part of that of the fastest of the others.
+static void print_table(int t) {
+  const struct task *task = &TASKS[t];
+  printf("\n%s:\n\n| | 128 | 160 | 256 | 320 |\n|---|---|---|---|---|\n", task->title);
+  for (int l = 0; l < count; l++) {
+    printf("| %s |", libraries[l].name);
+    for (int v = 0; v < VARIANTS; v++) {
+      double taken = libraries[l].seconds[t][v], least = 0;
+      for (int other = ours; l < ours && other < count; other++) {
+        double theirs = libraries[other].seconds[t][v];
+        least = theirs && (!least || theirs < least) ? theirs : least;
+      }
+      if (taken)
+        printf(" %.0f", task->in_ns ? 1e9 * taken / task->count
+                                    : task->size * task->count / taken / 1e6);
+      if (least)
+        printf(" (%.2f)", least / taken);
+      printf(" |");
+    }
+    printf("\n");
+  }
+}
+
+int main(int argc, char **argv) {
+  for (int i = 0; i < MIB; i++)
+    bytes[i] = i * 7 + (i >> 8);
+  for (; ours + 1 < argc && ours + 4 < MOST; ours++)
+    add_ours(argv[ours + 1]);
+  void *found;
+  if ((found = find("librhash", 1, 0)))
+    add_rhash(found);
+  if ((found = find("libgcrypt", 20, 20)))
+    add_gcrypt(found);
+  if ((found = find("libavutil", 60, 52)))
+    add_avutil(found);
+  if ((found = find("libcrypto", 3, 3)))
+    add_openssl(found);
+  for (int v = 0; v < VARIANTS; v++)
+    for (int l = 0; l < count; l++)
+      if (libraries[l].digest[v])
+        check(&libraries[l], v);
+  for (int round = 0; round < ROUNDS; round++)
+    for (int t = 0; t < TASKS_COUNT; t++)
+      for (int v = 0; v < VARIANTS; v++)
+        for (int l = 0; l < count; l++)
+          if (libraries[l].digest[v])
+            measure(&libraries[l], v, t);
+  for (int t = 0; t < TASKS_COUNT; t++)
+    print_table(t);
+}
