@@ -5,7 +5,8 @@
 #                      the built program on its cases
 #   make quick         the proofs and tests, without the wrong bodies and over what earlier runs kept
 #   make bench         the program's speed on 256 MiB in memory, beside the library's and that of other
-#                      programs, as a table
+#                      programs, as a table; and then, with a C compiler, the speed of the functions
+#                      that C calls beside those of other libraries
 #   make install       copies the program, built, to PREFIX/bin (PREFIX=/usr/local; DESTDIR goes in
 #                      front)
 #   make clean         removes what was built
@@ -33,6 +34,7 @@ quick:
 bench: all
 	@cd crates/ripemd_bench && rt run $(if $(CPU),--cpu $(CPU)) </dev/null >/dev/null
 	@tests/bench
+	@tests/linked
 
 install: all
 	install -D -m 755 $(PROGRAM) $(DESTDIR)$(PREFIX)/bin/ripemd_sum

@@ -6,7 +6,7 @@ use crate::calling::{
 };
 use crate::commands::digests_of_ends;
 use crate::readme::digest_of_two;
-use crate::tags::{has_tag, has_tag_by, tag_of_two};
+use crate::tags::{has_tag, has_tag_by, tag_of_two, toy_tag};
 use ripemd::Ripemd128;
 use std::io;
 use std::io::Read;
@@ -121,6 +121,13 @@ fn tags(rt: HostRuntime) {
     assert!(rt; !has_tag(&key, b"Hi There", &tag[..19]));
     assert!(rt; !has_tag(&key, b"Hi there", &tag));
     assert!(rt; has_tag_by::<Ripemd128>(&key[..16], b"Hi There", &tag_128));
+}
+
+// The expected values come from Python's `hmac` over a textbook program of the toy.
+#[test]
+fn toy_tags(rt: HostRuntime) {
+    assert_eq!(rt; toy_tag(&[0x0b; 20], b"Hi There"), [0x22]);
+    assert_eq!(rt; toy_tag(&[], &[]), [0xea]);
 }
 
 // Records, of which one has not the digest that is wanted.
