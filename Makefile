@@ -5,8 +5,9 @@
 #                      the built program on its cases
 #   make quick         the proofs and tests, without the wrong bodies and over what earlier runs kept
 #   make bench         the program's speed on 256 MiB in memory, beside the library's and that of other
-#                      programs, as a table; and then, with a C compiler, the speed of the functions
-#                      that C calls beside those of other libraries
+#                      programs, as a table; then, with a C compiler, the speed of the functions that C
+#                      calls beside those of other libraries; and that of lists of messages, at once
+#                      and one by one
 #   make install       copies the program, built, to PREFIX/bin (PREFIX=/usr/local; DESTDIR goes in
 #                      front)
 #   make clean         removes what was built
@@ -33,8 +34,10 @@ quick:
 
 bench: all
 	@cd crates/ripemd_bench && rt run $(if $(CPU),--cpu $(CPU)) </dev/null >/dev/null
+	@cd crates/ripemd_batch_bench && rt run $(if $(CPU),--cpu $(CPU)) </dev/null >/dev/null
 	@tests/bench
 	@tests/linked
+	@echo && crates/ripemd_batch_bench/out/ripemd_batch_bench measure
 
 install: all
 	install -D -m 755 $(PROGRAM) $(DESTDIR)$(PREFIX)/bin/ripemd_sum

@@ -1,0 +1,177 @@
+//! `ripemd_batch_bench` hashes lists of messages of unlike lengths at once and one after another. It
+//! prints how many lists have the same digests both ways, and with the argument `measure` how long
+//! the one way takes, as a part of the other, as a table: for lists whose groups would leave lanes
+//! without work.
+#![tactic(auto)]
+
+use ripemd::{Digest, Ripemd128, Ripemd160, Ripemd256, Ripemd320};
+use ripemd_batch::{BatchDigest, digest_each};
+use std::process::ExitCode;
+use std::time::Instant;
+use std::{env, io};
+
+// Lists of messages: so many of so many bytes, and then so many of so many.
+static LISTS: [[usize; 4]; 11] = [
+    [1, 0, 0, 0],
+    [3, 32, 0, 0],
+    [4, 32, 0, 0],
+    [5, 32, 0, 0],
+    [8, 32, 0, 0],
+    [9, 32, 0, 0],
+    [1, 4_448, 7, 1_824],
+    [1, 4_448, 7, 1_888],
+    [1, 2_528, 4, 1_888],
+    [4, 3_168, 4, 0],
+    [1, 64_000, 31, 0],
+];
+
+// The messages of a list, all of them parts of the same bytes, and how many they are.
+fn messages_of<'a>(list: &[usize; 4], bytes: &'a [u8; 64_000]) -> ([&'a [u8]; 32], usize) {
+    let mut messages: [&[u8]; 32] = [&[]; 32];
+    let [first, first_size, second, second_size] = *list;
+    let mut count = 0;
+    for i in 0..32 {
+        let size = if i < first { first_size } else { second_size };
+        if i < first.saturating_add(second) && size <= bytes.len() {
+            messages[i] = &bytes[..size];
+            count = i + 1;
+        }
+    }
+    (messages, count)
+}
+
+// Writes the digests one after another.
+fn digest_one_by_one<D: BatchDigest>(messages: &[&[u8]], digests: &mut [D::Output]) {
+    for i in 0..messages.len() {
+        if i < digests.len() {
+            let digest = D::digest(messages[i]);
+            digests[i] = digest;
+        }
+    }
+}
+
+// Whether a list has the same digests both ways. There are as many places as messages.
+fn agrees<D: BatchDigest>(messages: &[&[u8]], places: &mut [D::Output]) -> bool {
+    if places.len() != messages.len() {
+        return false;
+    }
+    digest_each::<D>(messages, places);
+    for i in 0..messages.len() {
+        if i < places.len() {
+            let wanted = D::digest(messages[i]);
+            if D::output_bytes(&places[i]) != D::output_bytes(&wanted) {
+                return false;
+            }
+        }
+    }
+    true
+}
+
+// The time of as many calls, in nanoseconds, of the one way or the other.
+fn time_of<D: BatchDigest>(
+    rt: &HostRuntime,
+    at_once: bool,
+    calls: u32,
+    messages: &[&[u8]],
+    places: &mut [D::Output],
+) -> io::Result<u64> {
+    let start = Instant::now(rt)?;
+    for _ in 0..calls {
+        if !at_once {
+            digest_one_by_one::<D>(messages, places);
+        } else if places.len() == messages.len() {
+            digest_each::<D>(messages, places);
+        }
+    }
+    Ok(start.elapsed(rt)?.as_nanos().min(u64::MAX.into()) as u64)
+}
+
+// The least time of both ways in turn, of slices of a millisecond or so: how many hundredths the
+// first is of the second.
+fn hundredths<D: BatchDigest>(
+    rt: &HostRuntime,
+    messages: &[&[u8]],
+    places: &mut [D::Output],
+) -> io::Result<u64> {
+    let mut at_once = u64::MAX;
+    let mut one_by_one = u64::MAX;
+    let first = time_of::<D>(rt, false, 10, messages, places)?;
+    let calls = (10_000_000 / first.max(1)).clamp(1, 100_000) as u32;
+    for _ in 0..200 {
+        at_once = at_once.min(time_of::<D>(rt, true, calls, messages, places)?);
+        one_by_one = one_by_one.min(time_of::<D>(rt, false, calls, messages, places)?);
+    }
+    Ok(at_once.saturating_mul(100) / one_by_one.max(1))
+}
+
+// Prints a row of the table: the list, and the part for each variant.
+fn print_row(rt: &HostRuntime, list: &[usize; 4], bytes: &[u8; 64_000]) -> io::Result<()> {
+    let (messages, count) = messages_of(list, bytes);
+    if count > 32 {
+        return Ok(());
+    }
+    let messages = &messages[..count];
+    print!(rt; "| {} of {} bytes", list[0], list[1])?;
+    if list[2] > 0 {
+        print!(rt; ", {} of {}", list[2], list[3])?;
+    }
+    let parts = [
+        hundredths::<Ripemd128>(rt, messages, &mut [[0; 16]; 32][..count])?,
+        hundredths::<Ripemd160>(rt, messages, &mut [[0; 20]; 32][..count])?,
+        hundredths::<Ripemd256>(rt, messages, &mut [[0; 32]; 32][..count])?,
+        hundredths::<Ripemd320>(rt, messages, &mut [[0; 40]; 32][..count])?,
+    ];
+    for part in parts {
+        print!(rt; " | {}.{:02}", part / 100, part % 100)?;
+    }
+    println!(rt; " |")
+}
+
+fn print_table(rt: &HostRuntime, bytes: &[u8; 64_000]) -> io::Result<()> {
+    println!(rt; "| messages | 128 | 160 | 256 | 320 |")?;
+    println!(rt; "|---|---|---|---|---|")?;
+    for list in &LISTS {
+        print_row(rt, list, bytes)?;
+    }
+    Ok(())
+}
+
+// Prints how many lists have the same digests both ways, by all four hash functions.
+fn print_agreement(rt: &HostRuntime, bytes: &[u8; 64_000]) -> io::Result<()> {
+    let mut agreeing: usize = 0;
+    for list in &LISTS {
+        let (messages, count) = messages_of(list, bytes);
+        if count <= 32 {
+            let messages = &messages[..count];
+            if agrees::<Ripemd128>(messages, &mut [[0; 16]; 32][..count])
+                && agrees::<Ripemd160>(messages, &mut [[0; 20]; 32][..count])
+                && agrees::<Ripemd256>(messages, &mut [[0; 32]; 32][..count])
+                && agrees::<Ripemd320>(messages, &mut [[0; 40]; 32][..count])
+            {
+                agreeing = agreeing.saturating_add(1);
+            }
+        }
+    }
+    println!(rt;
+        "{agreeing} of {} lists have the same digests both ways",
+        LISTS.len()
+    )
+}
+
+// What the argument asks for.
+fn perform(rt: &HostRuntime) -> io::Result<()> {
+    let arguments: Vec<String> = env::args(rt)?.skip(1).collect(rt.alloc())?;
+    let bytes = [b'a'; 64_000];
+    if arguments.is_empty() {
+        print_agreement(rt, &bytes)
+    } else {
+        print_table(rt, &bytes)
+    }
+}
+
+fn main(rt: HostRuntime) -> ExitCode {
+    match perform(&rt) {
+        Ok(()) => ExitCode::SUCCESS,
+        Err(_) => ExitCode::FAILURE,
+    }
+}
