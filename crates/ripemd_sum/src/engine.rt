@@ -4,7 +4,6 @@ ghost use Rattle.std.specs.Prelude.{◌≡◌, ◌+◌, ◌*◌, ◌≤◌, ◌+
 ghost use Rattle.std.specs.Prelude.{IfOk, OnOk, IfErr};
 ghost use Rattle.hex.specs.Hex.{encode_lower};
 ghost use Rattle.ripemd.specs.Standard.Hashing.{hash};
-ghost use Rattle.ripemd_mac.specs.Keyed.{hmac};
 ghost use Rattle.ripemd_sum.specs.Track.{has_failed, taken_of};
 ghost use Rattle.ripemd_sum.specs.Runs.{digest_line, tag_line, GivesAll, Gets};
 ghost use Rattle.ripemd_sum.specs.Faults.{ExplainsReading, ExplainsRun};
@@ -13,7 +12,7 @@ use crate::fault::{ReadFault, RunFault};
 use crate::summing::{Plain, Summing};
 use crate::tracked::Tracked;
 use crate::variant::Variant;
-use ripemd::digest::{BlockDigest, OutputSizeUser};
+use ripemd::digest::OutputSizeUser;
 use ripemd::{Digest, Ripemd128, Ripemd160, Ripemd256, Ripemd320};
 use ripemd_mac::Hmac;
 use std::io::{Read, Write};
@@ -53,31 +52,11 @@ pub fn run<R: Read, W: Write>(
         (ExplainsRun R.remaining reader.old reader.new writer.old writer.new limit) }
 {
     match variant {
-        Variant::R128 => run_digest::<Ripemd128, R, W>(reader, writer, limit),
-        Variant::R160 => run_digest::<Ripemd160, R, W>(reader, writer, limit),
-        Variant::R256 => run_digest::<Ripemd256, R, W>(reader, writer, limit),
-        Variant::R320 => run_digest::<Ripemd320, R, W>(reader, writer, limit),
+        Variant::R128 => write_sum::<Plain<Ripemd128>, R, W>(Plain::new(), reader, writer, limit),
+        Variant::R160 => write_sum::<Plain<Ripemd160>, R, W>(Plain::new(), reader, writer, limit),
+        Variant::R256 => write_sum::<Plain<Ripemd256>, R, W>(Plain::new(), reader, writer, limit),
+        Variant::R320 => write_sum::<Plain<Ripemd320>, R, W>(Plain::new(), reader, writer, limit),
     }
-}
-
-// The run for one hash function, whose line is not too long.
-fn run_digest<D: Digest, R: Read, W: Write>(
-    reader: &mut Tracked<R>,
-    writer: &mut Tracked<W>,
-    limit: u64,
-) -> Result<(), RunFault>
-    requires fits { 2 * D.OUTPUT_SIZE + 1 ≤ 81 }
-    requires reader_works { has_failed reader.old ≡ false }
-    requires reader_fresh { taken_of reader.old ≡ 0 }
-    requires writer_works { has_failed writer.old ≡ false }
-    ensures ok { OnOk result ((message : List ℕ)
-        × GivesAll R.remaining reader.old reader.new limit message
-        × Gets W.contents writer.old writer.new
-        (encode_lower (hash D.start D.step D.output message) ++ codes "\n")) }
-    ensures fault { IfErr result
-        (ExplainsRun R.remaining reader.old reader.new writer.old writer.new limit) }
-{
-    write_sum::<Plain<D>, R, W>(Plain::new(), reader, writer, limit)
 }
 
 /// Reads to the end of the reader, and writes the tag of all that it gave under a key to the
@@ -102,32 +81,11 @@ pub fn run_mac<R: Read, W: Write>(
         (ExplainsRun R.remaining reader.old reader.new writer.old writer.new limit) }
 {
     match variant {
-        Variant::R128 => run_tag::<Ripemd128, R, W>(key, reader, writer, limit),
-        Variant::R160 => run_tag::<Ripemd160, R, W>(key, reader, writer, limit),
-        Variant::R256 => run_tag::<Ripemd256, R, W>(key, reader, writer, limit),
-        Variant::R320 => run_tag::<Ripemd320, R, W>(key, reader, writer, limit),
+        Variant::R128 => write_sum::<Hmac<Ripemd128>, R, W>(Hmac::new(key), reader, writer, limit),
+        Variant::R160 => write_sum::<Hmac<Ripemd160>, R, W>(Hmac::new(key), reader, writer, limit),
+        Variant::R256 => write_sum::<Hmac<Ripemd256>, R, W>(Hmac::new(key), reader, writer, limit),
+        Variant::R320 => write_sum::<Hmac<Ripemd320>, R, W>(Hmac::new(key), reader, writer, limit),
     }
-}
-
-// The same for one hash function, whose line is not too long.
-fn run_tag<D: BlockDigest, R: Read, W: Write>(
-    key: &[u8],
-    reader: &mut Tracked<R>,
-    writer: &mut Tracked<W>,
-    limit: u64,
-) -> Result<(), RunFault>
-    requires fits { 2 * D.OUTPUT_SIZE + 1 ≤ 81 }
-    requires reader_works { has_failed reader.old ≡ false }
-    requires reader_fresh { taken_of reader.old ≡ 0 }
-    requires writer_works { has_failed writer.old ≡ false }
-    ensures ok { OnOk result ((message : List ℕ)
-        × GivesAll R.remaining reader.old reader.new limit message
-        × Gets W.contents writer.old writer.new
-        (encode_lower (hmac (hash D.start D.step D.output) key.now message) ++ codes "\n")) }
-    ensures fault { IfErr result
-        (ExplainsRun R.remaining reader.old reader.new writer.old writer.new limit) }
-{
-    write_sum::<Hmac<D>, R, W>(Hmac::new(key), reader, writer, limit)
 }
 
 // The run for one digest or tag under way, whose line is not too long.
@@ -200,8 +158,8 @@ fn read_sum<S: Summing, R: Read>(
     'reads: loop {
         match reader.read(&mut chunk) {
             Err(error) => return Err(ReadFault::Read(error)),
-            Ok(0) => return Ok(summing.give()),
-            Ok(count) => summing.take_in(&chunk[..count]),
+            Ok(0) => return Ok(summing.finalize()),
+            Ok(count) => summing.update(&chunk[..count]),
         }
         if reader.taken() > limit as u128 {
             return Err(ReadFault::TooLong);

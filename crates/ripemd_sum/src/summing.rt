@@ -2,7 +2,8 @@
 
 ghost use Rattle.std.specs.Prelude.{◌≡◌, ℕ, List, [], ◌++◌};
 ghost use Rattle.ripemd.specs.Standard.Hashing.{hash};
-ghost use Rattle.ripemd.specs.States.{Meaning, initial_state, fed};
+ghost use Rattle.ripemd.specs.States.{Meaning};
+ghost use Rattle.ripemd.specs.Messages.{IsHashing};
 ghost use Rattle.ripemd_mac.specs.Keyed.{hmac, StandsFor};
 
 use ripemd::Digest;
@@ -22,12 +23,12 @@ pub trait Summing: Sized + Drop {
     ghost sum_of: { List ℕ → List ℕ → List ℕ };
 
     /// Takes bytes in, after those of the text so far.
-    fn take_in(&mut self, bytes: &[u8])
+    fn update(&mut self, bytes: &[u8])
         ensures { (key text : List ℕ) → stands_for self.old key text
             → stands_for self.new key (text ++ bytes.now) };
 
     /// Gives the sum of the text.
-    fn give(self) -> <Self::Hash as OutputSizeUser>::Output
+    fn finalize(self) -> <Self::Hash as OutputSizeUser>::Output
         ensures { (key text : List ℕ) → stands_for self key text
             → Self.Hash.bytes_of result ≡ sum_of key text };
 }
@@ -47,7 +48,7 @@ impl<D: Digest> Model for Plain<D> {
 impl<D: Digest> Plain<D> {
     /// The digest of the empty text.
     pub fn new() -> Plain<D>
-        ensures { result ≡ fed D.step (initial_state D.start) [] }
+        ensures { IsHashing D.start D.step [] result }
     {
         Plain { hasher: D::new() }
     }
@@ -56,17 +57,15 @@ impl<D: Digest> Plain<D> {
 impl<D: Digest> Summing for Plain<D> {
     type Hash = D;
 
-    ghost stands_for = { λ plain key text. plain ≡ fed D.step (initial_state D.start) text };
+    ghost stands_for = { λ plain key text. IsHashing D.start D.step text plain };
 
     ghost sum_of = { λ key text. hash D.start D.step D.output text };
 
-    #[tactic(auto, using(ripemd::specs::Laws::fed_twice))]
-    fn take_in(&mut self, bytes: &[u8]) {
+    fn update(&mut self, bytes: &[u8]) {
         self.hasher.update(bytes);
     }
 
-    #[tactic(auto, using(ripemd::specs::Laws::finish_fed))]
-    fn give(self) -> D::Output {
+    fn finalize(self) -> D::Output {
         self.hasher.finalize()
     }
 }
@@ -78,11 +77,11 @@ impl<D: BlockDigest> Summing for Hmac<D> {
 
     ghost sum_of = { λ key text. hmac (hash D.start D.step D.output) key text };
 
-    fn take_in(&mut self, bytes: &[u8]) {
-        self.update(bytes);
+    fn update(&mut self, bytes: &[u8]) {
+        Hmac::update(self, bytes);
     }
 
-    fn give(self) -> D::Output {
-        self.finalize()
+    fn finalize(self) -> D::Output {
+        Hmac::finalize(self)
     }
 }

@@ -94,6 +94,37 @@ impl<R> Finished<R> {
             && !self.reader_failed
             && self.wrote_nothing()
     }
+
+    /// Whether the run gave up since a read failed, with a planned error of this kind, before it
+    /// wrote.
+    fn failed_reading(&self, alloc: Global, kind: ErrorKind) -> Result<bool, AllocError> {
+        match &self.outcome {
+            Err(RunFault::Read(error)) if self.reader_failed && self.wrote_nothing() => {
+                is_planned(alloc, error, kind)
+            }
+            _ => Ok(false),
+        }
+    }
+
+    /// Whether the run gave up since the write failed, with a planned error of this kind, and no
+    /// read.
+    fn failed_writing(&self, alloc: Global, kind: ErrorKind) -> Result<bool, AllocError> {
+        match &self.outcome {
+            Err(RunFault::Write(error)) if self.writer_failed && !self.reader_failed => {
+                is_planned(alloc, error, kind)
+            }
+            _ => Ok(false),
+        }
+    }
+}
+
+/// These texts, as the arguments of the program.
+fn arguments_of(alloc: Global, texts: &[&str]) -> Result<Vec<String>, AllocError> {
+    let mut arguments = Vec::new(alloc);
+    for text in texts {
+        arguments.push(String::from_str(alloc, text)?)?;
+    }
+    Ok(arguments)
 }
 
 /// Whether it is the error of this kind that a double makes.

@@ -1,5 +1,6 @@
 //! Keys in hexadecimal, and the arguments that give one.
 
+use super::arguments_of;
 use crate::key::{choose_mac, parse_key};
 use crate::variant::Variant;
 use std::alloc::{AllocError, Global};
@@ -113,10 +114,7 @@ fn chooses_a_tag(rt: HostRuntime) -> Result<(), Fail> {
         (&[], None),
     ];
     for (texts, chosen) in cases {
-        let mut arguments = Vec::new(rt.alloc());
-        for text in texts {
-            arguments.push(String::from_str(rt.alloc(), text)?)?;
-        }
+        let arguments = arguments_of(rt.alloc(), texts)?;
         let mut out = [0xee; 64];
         assert_eq!(rt;
             choose_mac(arguments.as_slice(), &mut out),

@@ -4,7 +4,7 @@ use super::digests::known_digests;
 use super::doubles::{PageWriter, RepeatingReader, SliceReader};
 use super::{AMPLE, HELLO, finish, is_planned};
 use crate::engine::hash_reader;
-use crate::fault::{ReadFault, RunFault};
+use crate::fault::ReadFault;
 use crate::tracked::Tracked;
 use ripemd::{Digest, Ripemd128, Ripemd160, Ripemd256, Ripemd320};
 use std::alloc::Global;
@@ -12,12 +12,12 @@ use std::io::ErrorKind;
 use std::process::Abort;
 use std::test::Fail;
 
-/// A reader of some bytes "a", which gives all that it is asked for.
-fn letters(count: usize) -> RepeatingReader {
+/// A reader of some bytes "a", at most `step` at a call.
+fn letters(count: usize, step: usize) -> RepeatingReader {
     RepeatingReader {
         byte: b'a',
         left: count,
-        step: usize::MAX,
+        step,
     }
 }
 
@@ -52,7 +52,7 @@ fn writes_the_digest_of_a_million_bytes(rt: HostRuntime) {
     for expected in known_digests() {
         let done = finish(
             expected.variant,
-            letters(1_000_000),
+            letters(1_000_000, usize::MAX),
             PageWriter::new(100),
             AMPLE,
         );
@@ -91,12 +91,7 @@ fn answers_a_read_that_fails(rt: HostRuntime) -> Result<(), Fail> {
             for n in 1..=13 {
                 let reader = SliceReader::new(HELLO, 1).failing_at(n, kind);
                 let done = finish(expected.variant, reader, PageWriter::new(100), 12);
-                let Err(RunFault::Read(error)) = &done.outcome else {
-                    panic!(rt; "read {n} did not end the run")
-                };
-                assert!(rt; is_planned(rt.alloc(), error, kind)?, "read {n}");
-                assert!(rt; done.reader_failed, "read {n}");
-                assert!(rt; done.wrote_nothing(), "read {n}");
+                assert!(rt; done.failed_reading(rt.alloc(), kind)?, "read {n}");
                 assert_eq!(rt; done.taken, n as u128 - 1, "read {n}");
                 assert_eq!(rt; done.reader.calls, n);
             }
@@ -113,12 +108,8 @@ fn answers_an_interrupted_read(rt: HostRuntime) -> Result<(), Fail> {
         for n in [1, 6, 13] {
             let reader = SliceReader::new(HELLO, 1).failing_at(n, kind);
             let done = finish(expected.variant, reader, PageWriter::new(100), AMPLE);
-            let Err(RunFault::Read(error)) = &done.outcome else {
-                panic!(rt; "read {n} did not end the run")
-            };
-            assert!(rt; is_planned(rt.alloc(), error, kind)?, "read {n}");
+            assert!(rt; done.failed_reading(rt.alloc(), kind)?, "read {n}");
             assert_eq!(rt; done.reader.calls, n);
-            assert!(rt; done.reader_failed && done.wrote_nothing(), "read {n}");
         }
     }
     Ok(())
@@ -131,11 +122,7 @@ fn answers_what_comes_first(rt: HostRuntime) -> Result<(), Fail> {
     for expected in known_digests() {
         let fourth = SliceReader::new(HELLO, 1).failing_at(4, kind);
         let done = finish(expected.variant, fourth, PageWriter::new(100), 3);
-        let Err(RunFault::Read(error)) = &done.outcome else {
-            panic!(rt; "the fourth read did not end the run")
-        };
-        assert!(rt; is_planned(rt.alloc(), error, kind)?);
-        assert!(rt; done.reader_failed && done.wrote_nothing());
+        assert!(rt; done.failed_reading(rt.alloc(), kind)?);
 
         let fifth = SliceReader::new(HELLO, 1).failing_at(5, kind);
         let done = finish(expected.variant, fifth, PageWriter::new(100), 3);
@@ -179,18 +166,12 @@ fn keeps_a_limit_past_the_first_piece(rt: HostRuntime) {
         ];
         for (count, digest) in cases {
             for step in [1, usize::MAX] {
-                let reader = RepeatingReader {
-                    step,
-                    ..letters(count)
-                };
+                let reader = letters(count, step);
                 let done = finish(expected.variant, reader, PageWriter::new(100), count as u64);
                 assert_eq!(rt; done.digest(), Some(digest), "{count} bytes");
                 assert_eq!(rt; done.taken, count as u128, "{count} bytes");
 
-                let reader = RepeatingReader {
-                    step,
-                    ..letters(count)
-                };
+                let reader = letters(count, step);
                 let done = finish(
                     expected.variant,
                     reader,
@@ -211,7 +192,7 @@ fn takes_little_past_the_limit(rt: HostRuntime) {
         for limit in [0, 1, 4095, 4096, 4097, 10_000] {
             let done = finish(
                 expected.variant,
-                letters(100_000),
+                letters(100_000, usize::MAX),
                 PageWriter::new(100),
                 limit,
             );

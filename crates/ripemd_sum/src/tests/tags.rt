@@ -1,8 +1,7 @@
 //! Tags under a key.
 
 use super::doubles::{PageWriter, SliceReader};
-use super::{AMPLE, Finished, finish_mac, is_planned};
-use crate::fault::RunFault;
+use super::{AMPLE, Finished, arguments_of, finish_mac};
 use crate::perform;
 use crate::tracked::Tracked;
 use crate::variant::Variant;
@@ -81,20 +80,13 @@ fn answers_what_fails_under_a_key(rt: HostRuntime) -> Result<(), Fail> {
     for (variant, _) in known_tags() {
         let reader = SliceReader::new(TEXT, 1).failing_at(4, kind);
         let done = finish_mac(variant, &KEY, reader, PageWriter::new(100), AMPLE);
-        let Err(RunFault::Read(error)) = &done.outcome else {
-            panic!(rt; "the fourth read did not end the run")
-        };
-        assert!(rt; is_planned(rt.alloc(), error, kind)?);
-        assert!(rt; done.reader_failed && done.wrote_nothing());
+        assert!(rt; done.failed_reading(rt.alloc(), kind)?);
         assert_eq!(rt; done.taken, 3);
 
         let reader = SliceReader::new(TEXT, 1);
         let writer = PageWriter::new(1).failing_at(5, kind);
         let done = finish_mac(variant, &KEY, reader, writer, AMPLE);
-        let Err(RunFault::Write(error)) = &done.outcome else {
-            panic!(rt; "the fifth write did not end the run")
-        };
-        assert!(rt; is_planned(rt.alloc(), error, kind)?);
+        assert!(rt; done.failed_writing(rt.alloc(), kind)?);
         assert_eq!(rt; done.writer.calls, 5);
     }
     Ok(())
@@ -112,10 +104,7 @@ fn reads_nothing_under_wrong_arguments(rt: HostRuntime) -> Result<(), Fail> {
         &["160", "hmac", "00", "00"],
     ];
     for texts in cases {
-        let mut arguments = Vec::new(rt.alloc());
-        for text in texts {
-            arguments.push(String::from_str(rt.alloc(), text)?)?;
-        }
+        let arguments = arguments_of(rt.alloc(), texts)?;
         let mut reader = Tracked::new(SliceReader::new(TEXT, 1));
         let mut writer = Tracked::new(PageWriter::new(1));
         let outcome = perform(arguments.as_slice(), &mut reader, &mut writer);
@@ -138,10 +127,7 @@ fn performs_what_is_asked_for(rt: HostRuntime) -> Result<(), Fail> {
         ),
     ];
     for (texts, expected) in cases {
-        let mut arguments = Vec::new(rt.alloc());
-        for text in texts {
-            arguments.push(String::from_str(rt.alloc(), text)?)?;
-        }
+        let arguments = arguments_of(rt.alloc(), texts)?;
         let text: &[u8] = if texts.len() < 3 {
             b"hello world"
         } else {

@@ -1,5 +1,6 @@
 //! The texts that the program prints, and those that it knows.
 
+use super::arguments_of;
 use crate::fault::{ReadFault, RunFault};
 use crate::variant::{Variant, choose};
 use crate::{LIMIT, MAC_LIMIT, NO_MEMORY, USAGE};
@@ -92,10 +93,7 @@ fn chooses_by_the_arguments(rt: HostRuntime) -> Result<(), Fail> {
         (&["160", "hmac", "00"], None),
     ];
     for (texts, variant) in cases {
-        let mut arguments = Vec::new(rt.alloc());
-        for text in texts {
-            arguments.push(String::from_str(rt.alloc(), text)?)?;
-        }
+        let arguments = arguments_of(rt.alloc(), texts)?;
         assert_eq!(rt; choose(arguments.as_slice()), variant, "{texts:?}");
     }
     Ok(())

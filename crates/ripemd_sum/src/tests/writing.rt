@@ -2,8 +2,7 @@
 
 use super::digests::known_digests;
 use super::doubles::{PageWriter, SliceReader};
-use super::{AMPLE, HELLO, finish, is_planned};
-use crate::fault::RunFault;
+use super::{AMPLE, HELLO, finish};
 use std::io::ErrorKind;
 use std::test::Fail;
 
@@ -27,18 +26,11 @@ fn answers_a_write_that_fails(rt: HostRuntime) -> Result<(), Fail> {
                 let reader = SliceReader::new(HELLO, 100);
                 let writer = PageWriter::new(1).failing_at(n + 1, kind);
                 let done = finish(expected.variant, reader, writer, AMPLE);
-                let Err(RunFault::Write(error)) = &done.outcome else {
-                    panic!(rt; "the write after {n} bytes did not end the run")
-                };
-                assert!(rt; is_planned(rt.alloc(), error, kind)?, "after {n} bytes");
+                assert!(rt; done.failed_writing(rt.alloc(), kind)?, "after {n} bytes");
                 assert_eq!(rt; done.writer.calls, n + 1);
                 assert_eq!(rt;
                     Some(done.writer.written()),
                     expected.hello.as_bytes().get(..n),
-                    "after {n} bytes"
-                );
-                assert!(rt;
-                    done.writer_failed && !done.reader_failed,
                     "after {n} bytes"
                 );
             }

@@ -16,7 +16,7 @@ reads-preserved g c =
     record {
       message = before.message ++ piece;
       gives = GivesWithin_more before.gives read (omega (arith, c.taken.ensures));
-      held = λ key start. c.take_in.ensures key before.message (before.held key start);
+      held = λ key start. c.update.ensures key before.message (before.held key start);
     }
 
 pub returns-in-Ok-eq0-clause-ok : goal.returns-in-Ok-eq0-clause-ok
@@ -33,7 +33,7 @@ returns-in-Ok-eq0-clause-ok g c =
     } in (
       before.message,
       GivesAll_end before.gives read (bytes.1 refl (omega arith)),
-      λ key start. c.give.ensures key before.message (before.held key start),
+      λ key start. c.finalize.ensures key before.message (before.held key start),
     )
 
 pub returns-then-taken-limit-clause-fault : goal.returns-then-taken-limit-clause-fault
