@@ -34,10 +34,9 @@ quick:
 
 bench: all
 	@cd crates/ripemd_bench && rt run $(if $(CPU),--cpu $(CPU)) </dev/null >/dev/null
-	@cd crates/ripemd_batch_bench && rt run $(if $(CPU),--cpu $(CPU)) </dev/null >/dev/null
 	@tests/bench
 	@tests/linked
-	@echo && crates/ripemd_batch_bench/out/ripemd_batch_bench measure
+	@echo && crates/ripemd_bench/out/ripemd_bench lists
 
 install: all
 	install -D -m 755 $(PROGRAM) $(DESTDIR)$(PREFIX)/bin/ripemd_sum

@@ -1,50 +1,57 @@
-//! `ripemd_bench` hashes 256 MiB of the letter "a" in one process and prints the digest: the time
-//! that the library alone takes for what `make bench` gives the program to read.
+//! `ripemd_bench` is what `make bench` measures of the libraries alone:
+//!
+//!     ripemd_bench 128|160|256|320   hashes 256 MiB and prints the digest
+//!     ripemd_bench lists             measures lists of messages, at once and one by one
+//!     ripemd_bench                   hashes 1 MiB, and counts the lists that agree both ways
 #![tactic(auto)]
+
+mod lists;
 
 use ripemd::{Digest, Ripemd128, Ripemd160, Ripemd256, Ripemd320};
 use std::process::ExitCode;
 use std::{env, io};
 
-// The digest of 256 MiB, fed in pieces of 64 KiB.
-fn digest_of_much<D: Digest>() -> D::Output {
+// Hashes so many MiB of the letter "a", in pieces of 64 KiB, and prints the digest in hexadecimal.
+fn hash_much<D: Digest>(rt: &HostRuntime, mebibytes: usize) -> io::Result<()> {
     let piece = [b'a'; 65_536];
     let mut hasher = D::new();
-    for _ in 0..4_096 {
-        hasher.update(&piece);
+    for _ in 0..mebibytes {
+        for _ in 0..16 {
+            hasher.update(&piece);
+        }
     }
-    hasher.finalize()
+    for byte in D::output_bytes(&hasher.finalize()) {
+        print!(rt; "{byte:02x}")?;
+    }
+    println!(rt; "")
 }
 
-// Prints a digest in hexadecimal, as one line.
-fn print<D: Digest>(rt: &HostRuntime) {
-    let digest = digest_of_much::<D>();
-    for byte in D::output_bytes(&digest) {
-        let _ = print!(rt; "{byte:02x}");
+// What the arguments ask for; the status is 2 if they are unknown.
+fn perform(rt: &HostRuntime) -> io::Result<ExitCode> {
+    let arguments: Vec<String> = env::args(rt)?.skip(1).collect(rt.alloc())?;
+    let name = match arguments.as_slice() {
+        [] => "",
+        [name] => name.as_str(),
+        _ => return Ok(ExitCode::from(2)),
+    };
+    match name {
+        "" => {
+            hash_much::<Ripemd160>(rt, 1)?;
+            lists::print_agreement(rt)?;
+        }
+        "128" => hash_much::<Ripemd128>(rt, 256)?,
+        "160" => hash_much::<Ripemd160>(rt, 256)?,
+        "256" => hash_much::<Ripemd256>(rt, 256)?,
+        "320" => hash_much::<Ripemd320>(rt, 256)?,
+        "lists" => lists::print_table(rt)?,
+        _ => return Ok(ExitCode::from(2)),
     }
-    let _ = println!(rt; "");
-}
-
-// The arguments after the program's name.
-fn arguments(rt: &HostRuntime) -> io::Result<Vec<String>> {
-    Ok(env::args(rt)?.skip(1).collect(rt.alloc())?)
+    Ok(ExitCode::SUCCESS)
 }
 
 fn main(rt: HostRuntime) -> ExitCode {
-    let Ok(arguments) = arguments(&rt) else {
-        return ExitCode::from(3);
-    };
-    let name = match arguments.as_slice() {
-        [] => "160",
-        [name] => name.as_str(),
-        _ => "",
-    };
-    match name {
-        "128" => print::<Ripemd128>(&rt),
-        "160" => print::<Ripemd160>(&rt),
-        "256" => print::<Ripemd256>(&rt),
-        "320" => print::<Ripemd320>(&rt),
-        _ => return ExitCode::from(2),
+    match perform(&rt) {
+        Ok(status) => status,
+        Err(_) => ExitCode::FAILURE,
     }
-    ExitCode::SUCCESS
 }

@@ -1,14 +1,11 @@
-//! `ripemd_batch_bench` hashes lists of messages of unlike lengths at once and one after another. It
-//! prints how many lists have the same digests both ways, and with the argument `measure` how long
-//! the one way takes, as a part of the other, as a table: for lists whose groups would leave lanes
-//! without work.
-#![tactic(auto)]
+//! Lists of messages of unlike lengths, hashed at once and one after another: how many lists have
+//! the same digests both ways, and how long the one way takes, as a part of the other, for lists
+//! whose groups would leave lanes without work.
 
 use ripemd::{Digest, Ripemd128, Ripemd160, Ripemd256, Ripemd320};
 use ripemd_batch::{BatchDigest, digest_each};
-use std::process::ExitCode;
+use std::io;
 use std::time::Instant;
-use std::{env, io};
 
 // Lists of messages: so many of so many bytes, and then so many of so many.
 static LISTS: [[usize; 4]; 11] = [
@@ -127,20 +124,23 @@ fn print_row(rt: &HostRuntime, list: &[usize; 4], bytes: &[u8; 64_000]) -> io::R
     println!(rt; " |")
 }
 
-fn print_table(rt: &HostRuntime, bytes: &[u8; 64_000]) -> io::Result<()> {
+// Prints, as a table, the time that each list takes at once, as a part of that one after another.
+pub(super) fn print_table(rt: &HostRuntime) -> io::Result<()> {
+    let bytes = [b'a'; 64_000];
     println!(rt; "| messages | 128 | 160 | 256 | 320 |")?;
     println!(rt; "|---|---|---|---|---|")?;
     for list in &LISTS {
-        print_row(rt, list, bytes)?;
+        print_row(rt, list, &bytes)?;
     }
     Ok(())
 }
 
 // Prints how many lists have the same digests both ways, by all four hash functions.
-fn print_agreement(rt: &HostRuntime, bytes: &[u8; 64_000]) -> io::Result<()> {
+pub(super) fn print_agreement(rt: &HostRuntime) -> io::Result<()> {
+    let bytes = [b'a'; 64_000];
     let mut agreeing: usize = 0;
     for list in &LISTS {
-        let (messages, count) = messages_of(list, bytes);
+        let (messages, count) = messages_of(list, &bytes);
         if count <= 32 {
             let messages = &messages[..count];
             if agrees::<Ripemd128>(messages, &mut [[0; 16]; 32][..count])
@@ -156,22 +156,4 @@ fn print_agreement(rt: &HostRuntime, bytes: &[u8; 64_000]) -> io::Result<()> {
         "{agreeing} of {} lists have the same digests both ways",
         LISTS.len()
     )
-}
-
-// What the argument asks for.
-fn perform(rt: &HostRuntime) -> io::Result<()> {
-    let arguments: Vec<String> = env::args(rt)?.skip(1).collect(rt.alloc())?;
-    let bytes = [b'a'; 64_000];
-    if arguments.is_empty() {
-        print_agreement(rt, &bytes)
-    } else {
-        print_table(rt, &bytes)
-    }
-}
-
-fn main(rt: HostRuntime) -> ExitCode {
-    match perform(&rt) {
-        Ok(()) => ExitCode::SUCCESS,
-        Err(_) => ExitCode::FAILURE,
-    }
 }
