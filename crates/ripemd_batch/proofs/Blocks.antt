@@ -1,7 +1,7 @@
 -- The whole blocks of a message and the blocks of its tail with the padding are all its blocks.
 use Rattle.std.proofs.Common.{◌≡◌, ℕ, ◌<◌, ◌*◌, ◌%◌, ◌^◌, List, ◌++◌, length, refl, sym}
 use Rattle.ripemd_block.specs.Standard.Hashing.{with_padding, padded_message, blocks, partial_block}
-use Rattle.ripemd_block.proofs.StateLaws.{with_padding_rest}
+use Rattle.ripemd_block.specs.Laws.UnderWay.{with_padding_rest}
 use Rattle.ripemd_batch.specs.Lanes.{of_message}
 
 pub joined_blocks : (m tail : List ℕ) (n : ℕ) (whole last : List (List ℕ))

@@ -13,20 +13,20 @@ use Rattle.ripemd_batch.specs.declared.steps.Side.TheVariants.{Left, Right}
 abbrev pub lane_at : List (List ℕ) → ℕ → ℕ → ℕ
 lane_at v i j = slice_index (slice_index_or v i []) j
 
--- the words of message j in four vectors, in five, in eight and in ten
-abbrev pub four_words : ℕ → List (List ℕ) → List ℕ
-four_words j v = lane_at v 0 j ∷ lane_at v 1 j ∷ lane_at v 2 j ∷ lane_at v 3 j ∷ []
+-- lane j of four vectors, of five, of eight and of ten: their words of message j
+abbrev pub lane_of_four : ℕ → List (List ℕ) → List ℕ
+lane_of_four j v = lane_at v 0 j ∷ lane_at v 1 j ∷ lane_at v 2 j ∷ lane_at v 3 j ∷ []
 
-abbrev pub five_words : ℕ → List (List ℕ) → List ℕ
-five_words j v = lane_at v 0 j ∷ lane_at v 1 j ∷ lane_at v 2 j ∷ lane_at v 3 j ∷ lane_at v 4 j ∷ []
+abbrev pub lane_of_five : ℕ → List (List ℕ) → List ℕ
+lane_of_five j v = lane_at v 0 j ∷ lane_at v 1 j ∷ lane_at v 2 j ∷ lane_at v 3 j ∷ lane_at v 4 j ∷ []
 
-abbrev pub eight_words : ℕ → List (List ℕ) → List ℕ
-eight_words j v =
+abbrev pub lane_of_eight : ℕ → List (List ℕ) → List ℕ
+lane_of_eight j v =
     lane_at v 0 j ∷ lane_at v 1 j ∷ lane_at v 2 j ∷ lane_at v 3 j
     ∷ lane_at v 4 j ∷ lane_at v 5 j ∷ lane_at v 6 j ∷ lane_at v 7 j ∷ []
 
-abbrev pub ten_words : ℕ → List (List ℕ) → List ℕ
-ten_words j v =
+abbrev pub lane_of_ten : ℕ → List (List ℕ) → List ℕ
+lane_of_ten j v =
     lane_at v 0 j ∷ lane_at v 1 j ∷ lane_at v 2 j ∷ lane_at v 3 j ∷ lane_at v 4 j
     ∷ lane_at v 5 j ∷ lane_at v 6 j ∷ lane_at v 7 j ∷ lane_at v 8 j ∷ lane_at v 9 j ∷ []
 
@@ -42,11 +42,11 @@ line_of rounds Left = left_line
 line_of rounds Right = right_line rounds
 
 -- both lines of message j, of four registers and of five
-abbrev pub four_lines : ℕ → List (List ℕ) → List (List ℕ) → Lines
-four_lines j left right = record { left = four_words j left; right = four_words j right }
+abbrev pub lines_of_four_registers : ℕ → List (List ℕ) → List (List ℕ) → Lines
+lines_of_four_registers j left right = record { left = lane_of_four j left; right = lane_of_four j right }
 
-abbrev pub five_lines : ℕ → List (List ℕ) → List (List ℕ) → Lines
-five_lines j left right = record { left = five_words j left; right = five_words j right }
+abbrev pub lines_of_five_registers : ℕ → List (List ℕ) → List (List ℕ) → Lines
+lines_of_five_registers j left right = record { left = lane_of_five j left; right = lane_of_five j right }
 
 -- ---- lists of messages
 

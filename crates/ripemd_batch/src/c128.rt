@@ -3,17 +3,18 @@
 
 ghost use Rattle.std.specs.Prelude.{◌≡◌, ◌<◌, ℕ};
 ghost use Rattle.ripemd_block.specs.Standard.Compression.{joint_state, compress, ripemd128};
-ghost use Rattle.ripemd_batch.specs.Lanes.{four_words, of_message, targets};
+ghost use Rattle.ripemd_batch.specs.Lanes.{lane_of_four, of_message, targets};
 
 use crate::eight::Eight;
-use crate::four_registers::{FourLines, round};
+use crate::four_registers::{Lines, round};
 use crate::message::message_words;
 
 // The states that take the registers of both lines in.
 #[inline(always)]
-fn joint_state(state: [Eight; 4], lines: FourLines) -> [Eight; 4]
-    ensures { (j : ℕ) → j < 8 → four_words j result
-        ≡ joint_state (four_words j state) (four_words j lines.left) (four_words j lines.right) }
+fn joint_state(state: [Eight; 4], lines: Lines) -> [Eight; 4]
+    ensures { (j : ℕ) → j < 8 → lane_of_four j result
+        ≡ joint_state (lane_of_four j state) (lane_of_four j lines.left)
+        (lane_of_four j lines.right) }
 {
     let left = lines.left;
     let right = lines.right;
@@ -27,11 +28,11 @@ fn joint_state(state: [Eight; 4], lines: FourLines) -> [Eight; 4]
 
 /// The states after one more block of each message.
 pub(crate) fn compress(state: [Eight; 4], blocks: &[&[u8; 64]; 8]) -> [Eight; 4]
-    ensures { (j : ℕ) → j < 8 → four_words j result
-        ≡ compress ripemd128 (four_words j state) (of_message (targets blocks.now) j) }
+    ensures { (j : ℕ) → j < 8 → lane_of_four j result
+        ≡ compress ripemd128 (lane_of_four j state) (of_message (targets blocks.now) j) }
 {
     let words = message_words(blocks);
-    let lines = FourLines {
+    let lines = Lines {
         left: state,
         right: state,
     };

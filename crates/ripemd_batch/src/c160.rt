@@ -3,17 +3,18 @@
 
 ghost use Rattle.std.specs.Prelude.{◌≡◌, ◌<◌, ℕ};
 ghost use Rattle.ripemd_block.specs.Standard.Compression.{joint_state, compress, ripemd160};
-ghost use Rattle.ripemd_batch.specs.Lanes.{five_words, of_message, targets};
+ghost use Rattle.ripemd_batch.specs.Lanes.{lane_of_five, of_message, targets};
 
 use crate::eight::Eight;
-use crate::five_registers::{FiveLines, round};
+use crate::five_registers::{Lines, round};
 use crate::message::message_words;
 
 // The states that take the registers of both lines in.
 #[inline(always)]
-fn joint_state(state: [Eight; 5], lines: FiveLines) -> [Eight; 5]
-    ensures { (j : ℕ) → j < 8 → five_words j result
-        ≡ joint_state (five_words j state) (five_words j lines.left) (five_words j lines.right) }
+fn joint_state(state: [Eight; 5], lines: Lines) -> [Eight; 5]
+    ensures { (j : ℕ) → j < 8 → lane_of_five j result
+        ≡ joint_state (lane_of_five j state) (lane_of_five j lines.left)
+        (lane_of_five j lines.right) }
 {
     let left = lines.left;
     let right = lines.right;
@@ -28,11 +29,11 @@ fn joint_state(state: [Eight; 5], lines: FiveLines) -> [Eight; 5]
 
 /// The states after one more block of each message.
 pub(crate) fn compress(state: [Eight; 5], blocks: &[&[u8; 64]; 8]) -> [Eight; 5]
-    ensures { (j : ℕ) → j < 8 → five_words j result
-        ≡ compress ripemd160 (five_words j state) (of_message (targets blocks.now) j) }
+    ensures { (j : ℕ) → j < 8 → lane_of_five j result
+        ≡ compress ripemd160 (lane_of_five j state) (of_message (targets blocks.now) j) }
 {
     let words = message_words(blocks);
-    let lines = FiveLines {
+    let lines = Lines {
         left: state,
         right: state,
     };

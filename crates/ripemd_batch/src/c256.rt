@@ -4,20 +4,20 @@
 ghost use Rattle.std.specs.Prelude.{◌≡◌, ◌<◌, ℕ};
 ghost use Rattle.ripemd_block.specs.Standard.Compression.{lines_from, double_state};
 ghost use Rattle.ripemd_block.specs.Standard.Compression.{compress, ripemd256};
-ghost use Rattle.ripemd_batch.specs.Lanes.{four_words, four_lines, eight_words};
+ghost use Rattle.ripemd_batch.specs.Lanes.{lane_of_four, lines_of_four_registers, lane_of_eight};
 ghost use Rattle.ripemd_batch.specs.Lanes.{of_message, targets};
 
 use crate::eight::Eight;
-use crate::four_registers::{FourLines, exchange, round};
+use crate::four_registers::{Lines, exchange, round};
 use crate::message::message_words;
 
 // Where the lines start.
 #[inline(always)]
-fn lines_from(state: [Eight; 8]) -> FourLines
-    ensures { (j : ℕ) → j < 8 → four_lines j result.left result.right
-        ≡ lines_from ripemd256 (eight_words j state) }
+fn lines_from(state: [Eight; 8]) -> Lines
+    ensures { (j : ℕ) → j < 8 → lines_of_four_registers j result.left result.right
+        ≡ lines_from ripemd256 (lane_of_eight j state) }
 {
-    FourLines {
+    Lines {
         left: [state[0], state[1], state[2], state[3]],
         right: [state[4], state[5], state[6], state[7]],
     }
@@ -25,9 +25,10 @@ fn lines_from(state: [Eight; 8]) -> FourLines
 
 // The states that take the registers of both lines in.
 #[inline(always)]
-fn double_state(state: [Eight; 8], lines: FourLines) -> [Eight; 8]
-    ensures { (j : ℕ) → j < 8 → eight_words j result
-        ≡ double_state (eight_words j state) (four_words j lines.left) (four_words j lines.right) }
+fn double_state(state: [Eight; 8], lines: Lines) -> [Eight; 8]
+    ensures { (j : ℕ) → j < 8 → lane_of_eight j result
+        ≡ double_state (lane_of_eight j state) (lane_of_four j lines.left)
+        (lane_of_four j lines.right) }
 {
     let left = lines.left;
     let right = lines.right;
@@ -46,8 +47,8 @@ fn double_state(state: [Eight; 8], lines: FourLines) -> [Eight; 8]
 /// The states after one more block of each message. The registers that are exchanged are A, B, C
 /// and D in turn.
 pub(crate) fn compress(state: [Eight; 8], blocks: &[&[u8; 64]; 8]) -> [Eight; 8]
-    ensures { (j : ℕ) → j < 8 → eight_words j result
-        ≡ compress ripemd256 (eight_words j state) (of_message (targets blocks.now) j) }
+    ensures { (j : ℕ) → j < 8 → lane_of_eight j result
+        ≡ compress ripemd256 (lane_of_eight j state) (of_message (targets blocks.now) j) }
 {
     let words = message_words(blocks);
     let lines = lines_from(state);

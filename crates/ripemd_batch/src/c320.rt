@@ -4,19 +4,19 @@
 ghost use Rattle.std.specs.Prelude.{◌≡◌, ◌<◌, ℕ};
 ghost use Rattle.ripemd_block.specs.Standard.Compression.{lines_from, double_state};
 ghost use Rattle.ripemd_block.specs.Standard.Compression.{compress, ripemd320};
-ghost use Rattle.ripemd_batch.specs.Lanes.{five_words, five_lines, ten_words, of_message, targets};
+ghost use Rattle.ripemd_batch.specs.Lanes.{lane_of_five, lines_of_five_registers, lane_of_ten, of_message, targets};
 
 use crate::eight::Eight;
-use crate::five_registers::{FiveLines, exchange, round};
+use crate::five_registers::{Lines, exchange, round};
 use crate::message::message_words;
 
 // Where the lines start.
 #[inline(always)]
-fn lines_from(state: [Eight; 10]) -> FiveLines
-    ensures { (j : ℕ) → j < 8 → five_lines j result.left result.right
-        ≡ lines_from ripemd320 (ten_words j state) }
+fn lines_from(state: [Eight; 10]) -> Lines
+    ensures { (j : ℕ) → j < 8 → lines_of_five_registers j result.left result.right
+        ≡ lines_from ripemd320 (lane_of_ten j state) }
 {
-    FiveLines {
+    Lines {
         left: [state[0], state[1], state[2], state[3], state[4]],
         right: [state[5], state[6], state[7], state[8], state[9]],
     }
@@ -24,9 +24,10 @@ fn lines_from(state: [Eight; 10]) -> FiveLines
 
 // The states that take the registers of both lines in.
 #[inline(always)]
-fn double_state(state: [Eight; 10], lines: FiveLines) -> [Eight; 10]
-    ensures { (j : ℕ) → j < 8 → ten_words j result
-        ≡ double_state (ten_words j state) (five_words j lines.left) (five_words j lines.right) }
+fn double_state(state: [Eight; 10], lines: Lines) -> [Eight; 10]
+    ensures { (j : ℕ) → j < 8 → lane_of_ten j result
+        ≡ double_state (lane_of_ten j state) (lane_of_five j lines.left)
+        (lane_of_five j lines.right) }
 {
     let left = lines.left;
     let right = lines.right;
@@ -47,8 +48,8 @@ fn double_state(state: [Eight; 10], lines: FiveLines) -> [Eight; 10]
 /// The states after one more block of each message. The registers that are exchanged are B, D, A,
 /// C and E in turn.
 pub(crate) fn compress(state: [Eight; 10], blocks: &[&[u8; 64]; 8]) -> [Eight; 10]
-    ensures { (j : ℕ) → j < 8 → ten_words j result
-        ≡ compress ripemd320 (ten_words j state) (of_message (targets blocks.now) j) }
+    ensures { (j : ℕ) → j < 8 → lane_of_ten j result
+        ≡ compress ripemd320 (lane_of_ten j state) (of_message (targets blocks.now) j) }
 {
     let words = message_words(blocks);
     let lines = lines_from(state);

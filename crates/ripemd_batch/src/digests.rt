@@ -184,7 +184,7 @@ fn digest_at_once<D: BatchDigest>(
         → take (at + count) (map D.bytes_of digests.new)
         ≡ take (at + count) (map (hash D.start D.step D.output) (targets messages.now)) }
 {
-    let states: D::States = after_messages(messages, at);
+    let states: D::States = walk_group(messages, at);
     // Eight turns, so that the compiler knows the lane of each.
     for j in 0..8 {
         if j < count {
@@ -215,9 +215,9 @@ fn message_or_empty<'a>(messages: &[&'a [u8]], i: usize) -> &'a [u8]
     }
 }
 
-// The states of the eight messages from `at` on after their last blocks. Each message has two
-// blocks here, in which its padding is made.
-fn after_messages<S: EightStates>(messages: &[&[u8]], at: usize) -> S
+// The last states of the walks through the blocks of the eight messages from `at` on. Each message
+// has two blocks here, in which its padding is made.
+fn walk_group<S: EightStates>(messages: &[&[u8]], at: usize) -> S
     requires { at < length messages.now }
     ensures { (j : ℕ) → j < 8 → at + j < length messages.now
         → S.words_of j result ≡ walk (compress S.parameters) S.parameters.start
@@ -241,11 +241,11 @@ fn after_messages<S: EightStates>(messages: &[&[u8]], at: usize) -> S
         MessageBlocks::of(message_or_empty(messages, at + 6), &mut zeros_6),
         MessageBlocks::of(message_or_empty(messages, at + 7), &mut zeros_7),
     ];
-    after_all(&blocks)
+    walk_all(&blocks)
 }
 
-// The states of eight messages after their last blocks.
-fn after_all<S: EightStates>(blocks: &[MessageBlocks; 8]) -> S
+// The last states of eight walks, through all blocks of each message.
+fn walk_all<S: EightStates>(blocks: &[MessageBlocks; 8]) -> S
     ensures { (j : ℕ) → j < 8 → S.words_of j result
         ≡ walk (compress S.parameters) S.parameters.start (blocks_of blocks.now j) }
 {
@@ -253,7 +253,7 @@ fn after_all<S: EightStates>(blocks: &[MessageBlocks; 8]) -> S
     let most = most(&counts);
     let mut states = S::start();
     for i in 0..most {
-        let next = advanced(states, blocks, &counts, i);
+        let next = compress_live(states, blocks, &counts, i);
         states = next;
     }
     states
@@ -288,9 +288,9 @@ fn most(counts: &[usize; 8]) -> usize
     most
 }
 
-// The states of the messages that have a block `i`, after it, and of the others as they are.
+// The states after block `i` of the messages that have one; the others stay as they are.
 #[inline(always)]
-fn advanced<S: EightStates>(
+fn compress_live<S: EightStates>(
     states: S,
     blocks: &[MessageBlocks; 8],
     counts: &[usize; 8],
@@ -304,7 +304,7 @@ fn advanced<S: EightStates>(
         → S.words_of j result ≡ S.words_of j states }
 {
     let live = live_lanes(counts, i);
-    let next = after_blocks(states, blocks, i);
+    let next = compress_block(states, blocks, i);
     S::select(live, next, states)
 }
 
@@ -338,7 +338,7 @@ fn is_live(count: usize, i: usize) -> u32
 
 // The states after block `i` of each message that has one.
 #[inline(always)]
-fn after_blocks<S: EightStates>(states: S, blocks: &[MessageBlocks; 8], i: usize) -> S
+fn compress_block<S: EightStates>(states: S, blocks: &[MessageBlocks; 8], i: usize) -> S
     ensures { (j : ℕ) → j < 8 → i < length (blocks_of blocks.now j) → S.words_of j result
         ≡ compress S.parameters (S.words_of j states)
         (slice_index_or (blocks_of blocks.now j) i []) }

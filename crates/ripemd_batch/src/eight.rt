@@ -4,7 +4,7 @@ ghost use Rattle.std.specs.Prelude.{◌≡◌, ◌<◌, ◌^◌, ℕ, ◌++◌, 
 ghost use Rattle.std.specs.Int.{w32, bit_not};
 ghost use Rattle.ripemd_block.specs.Standard.Words.{◌⊞◌, rol};
 
-use crate::four::Four;
+use crate::four_words::FourWords;
 use std::marker::Model;
 use std::simd::prelude::*;
 
@@ -40,7 +40,7 @@ impl Eight {
 
     /// The words of four messages, and those of the four behind them.
     #[inline(always)]
-    pub(crate) fn joined(low: Four, high: Four) -> Self
+    pub(crate) fn joined(low: FourWords, high: FourWords) -> Self
         ensures { result ≡ low ++ high }
     {
         Eight {

@@ -3,8 +3,9 @@
 ghost use Rattle.std.specs.Prelude.{◌≡◌, ◌-◌, ◌<◌, [], ◌∷◌, ◌++◌, length, take, replicate, slice_index_or};
 ghost use Rattle.ripemd_block.specs.Standard.Words.{block_size, eight_bytes};
 ghost use Rattle.ripemd_block.specs.Standard.Hashing.{length_place, with_padding, padded_message};
-ghost use Rattle.ripemd_block.specs.Standard.Hashing.{blocks, partial_block};
+ghost use Rattle.ripemd_block.specs.Standard.Hashing.{blocks};
 
+use ripemd::padding::whole_blocks;
 use std::marker::Model;
 
 /// The blocks of a message with its padding: the whole ones, and the last one or two. Contracts see
@@ -63,16 +64,6 @@ impl<'a, 'b> MessageBlocks<'a, 'b> {
             &self.last[0]
         }
     }
-}
-
-// The whole blocks of some bytes, and the bytes after them.
-#[inline(always)]
-fn whole_blocks(bytes: &[u8]) -> (&[[u8; 64]], &[u8])
-    ensures whole { result.0.now ≡ blocks bytes.now }
-    ensures rest { result.1.now ≡ partial_block bytes.now }
-    ensures short { length result.1.now < block_size }
-{
-    bytes.as_chunks::<64>()
 }
 
 // The one or two blocks of the tail of a message whose length is `bit_len` bits, made in the place

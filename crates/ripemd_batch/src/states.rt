@@ -1,16 +1,19 @@
 //! The states of eight messages, and what differs between the variants: how many words a state has,
 //! which these are at the start, and what a block does to them.
 
-ghost use Rattle.std.specs.Prelude.{◌≡◌, ℕ, ◌*◌, ◌<◌, List, [], length, slice_index};
+ghost use Rattle.std.specs.Prelude.{◌≡◌, ℕ, ◌<◌, List, slice_index};
 ghost use Rattle.ripemd_block.specs.Standard.Words.{word_bytes};
 ghost use Rattle.ripemd_block.specs.Standard.Compression.{Parameters, compress};
 ghost use Rattle.ripemd_block.specs.Standard.Compression.{ripemd128, ripemd160};
 ghost use Rattle.ripemd_block.specs.Standard.Compression.{ripemd256, ripemd320};
-ghost use Rattle.ripemd_batch.specs.Lanes.{four_words, five_words, eight_words};
-ghost use Rattle.ripemd_batch.specs.Lanes.{ten_words, of_message, targets};
+ghost use Rattle.ripemd_batch.specs.Lanes.{lane_of_four, lane_of_five, lane_of_eight};
+ghost use Rattle.ripemd_batch.specs.Lanes.{lane_of_ten, of_message, targets};
 
 use crate::eight::Eight;
 use crate::{c128, c160, c256, c320};
+use ripemd_block::block_api::{
+    BlockFunction, Ripemd128Core, Ripemd160Core, Ripemd256Core, Ripemd320Core,
+};
 
 // The states of eight messages: each variant has its own number of words. Not exported, so that no
 // other crate can call it.
@@ -57,14 +60,15 @@ impl EightStates for [Eight; 4] {
 
     ghost parameters = { ripemd128 };
 
-    ghost words_of = { four_words };
+    ghost words_of = { lane_of_four };
 
     fn start() -> [Eight; 4] {
+        let words = Ripemd128Core::start();
         [
-            Eight::splat(0x6745_2301),
-            Eight::splat(0xefcd_ab89),
-            Eight::splat(0x98ba_dcfe),
-            Eight::splat(0x1032_5476),
+            Eight::splat(words[0]),
+            Eight::splat(words[1]),
+            Eight::splat(words[2]),
+            Eight::splat(words[3]),
         ]
     }
 
@@ -82,15 +86,12 @@ impl EightStates for [Eight; 4] {
     }
 
     fn digest_of(&self, j: usize) -> [u8; 16] {
-        let words = [
+        Ripemd128Core::output([
             self[0].word(j),
             self[1].word(j),
             self[2].word(j),
             self[3].word(j),
-        ];
-        let mut digest = [0; 16];
-        write_words(&words, &mut digest);
-        digest
+        ])
     }
 }
 
@@ -101,15 +102,16 @@ impl EightStates for [Eight; 5] {
 
     ghost parameters = { ripemd160 };
 
-    ghost words_of = { five_words };
+    ghost words_of = { lane_of_five };
 
     fn start() -> [Eight; 5] {
+        let words = Ripemd160Core::start();
         [
-            Eight::splat(0x6745_2301),
-            Eight::splat(0xefcd_ab89),
-            Eight::splat(0x98ba_dcfe),
-            Eight::splat(0x1032_5476),
-            Eight::splat(0xc3d2_e1f0),
+            Eight::splat(words[0]),
+            Eight::splat(words[1]),
+            Eight::splat(words[2]),
+            Eight::splat(words[3]),
+            Eight::splat(words[4]),
         ]
     }
 
@@ -128,16 +130,13 @@ impl EightStates for [Eight; 5] {
     }
 
     fn digest_of(&self, j: usize) -> [u8; 20] {
-        let words = [
+        Ripemd160Core::output([
             self[0].word(j),
             self[1].word(j),
             self[2].word(j),
             self[3].word(j),
             self[4].word(j),
-        ];
-        let mut digest = [0; 20];
-        write_words(&words, &mut digest);
-        digest
+        ])
     }
 }
 
@@ -148,18 +147,19 @@ impl EightStates for [Eight; 8] {
 
     ghost parameters = { ripemd256 };
 
-    ghost words_of = { eight_words };
+    ghost words_of = { lane_of_eight };
 
     fn start() -> [Eight; 8] {
+        let words = Ripemd256Core::start();
         [
-            Eight::splat(0x6745_2301),
-            Eight::splat(0xefcd_ab89),
-            Eight::splat(0x98ba_dcfe),
-            Eight::splat(0x1032_5476),
-            Eight::splat(0x7654_3210),
-            Eight::splat(0xfedc_ba98),
-            Eight::splat(0x89ab_cdef),
-            Eight::splat(0x0123_4567),
+            Eight::splat(words[0]),
+            Eight::splat(words[1]),
+            Eight::splat(words[2]),
+            Eight::splat(words[3]),
+            Eight::splat(words[4]),
+            Eight::splat(words[5]),
+            Eight::splat(words[6]),
+            Eight::splat(words[7]),
         ]
     }
 
@@ -181,7 +181,7 @@ impl EightStates for [Eight; 8] {
     }
 
     fn digest_of(&self, j: usize) -> [u8; 32] {
-        let words = [
+        Ripemd256Core::output([
             self[0].word(j),
             self[1].word(j),
             self[2].word(j),
@@ -190,10 +190,7 @@ impl EightStates for [Eight; 8] {
             self[5].word(j),
             self[6].word(j),
             self[7].word(j),
-        ];
-        let mut digest = [0; 32];
-        write_words(&words, &mut digest);
-        digest
+        ])
     }
 }
 
@@ -204,20 +201,21 @@ impl EightStates for [Eight; 10] {
 
     ghost parameters = { ripemd320 };
 
-    ghost words_of = { ten_words };
+    ghost words_of = { lane_of_ten };
 
     fn start() -> [Eight; 10] {
+        let words = Ripemd320Core::start();
         [
-            Eight::splat(0x6745_2301),
-            Eight::splat(0xefcd_ab89),
-            Eight::splat(0x98ba_dcfe),
-            Eight::splat(0x1032_5476),
-            Eight::splat(0xc3d2_e1f0),
-            Eight::splat(0x7654_3210),
-            Eight::splat(0xfedc_ba98),
-            Eight::splat(0x89ab_cdef),
-            Eight::splat(0x0123_4567),
-            Eight::splat(0x3c2d_1e0f),
+            Eight::splat(words[0]),
+            Eight::splat(words[1]),
+            Eight::splat(words[2]),
+            Eight::splat(words[3]),
+            Eight::splat(words[4]),
+            Eight::splat(words[5]),
+            Eight::splat(words[6]),
+            Eight::splat(words[7]),
+            Eight::splat(words[8]),
+            Eight::splat(words[9]),
         ]
     }
 
@@ -241,7 +239,7 @@ impl EightStates for [Eight; 10] {
     }
 
     fn digest_of(&self, j: usize) -> [u8; 40] {
-        let words = [
+        Ripemd320Core::output([
             self[0].word(j),
             self[1].word(j),
             self[2].word(j),
@@ -252,19 +250,6 @@ impl EightStates for [Eight; 10] {
             self[7].word(j),
             self[8].word(j),
             self[9].word(j),
-        ];
-        let mut digest = [0; 40];
-        write_words(&words, &mut digest);
-        digest
-    }
-}
-
-// Writes the bytes of words in order, four for each, least first.
-fn write_words(words: &[u32], out: &mut [u8])
-    requires { length out.old ≡ 4 * length words.now }
-    ensures { out.new ≡ word_bytes words.now }
-{
-    for (i, word) in words.iter().enumerate() {
-        out[4 * i..4 * i + 4].copy_from_slice(&word.to_le_bytes());
+        ])
     }
 }

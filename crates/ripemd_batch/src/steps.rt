@@ -7,7 +7,8 @@ ghost use Rattle.ripemd_batch.specs.Lanes.{line_of};
 
 use crate::eight::Eight;
 use ripemd_block::textbook::{
-    left_constant, left_number, right_constant_of_five, right_constant_of_four, right_number,
+    left_constant, left_number, right_constant_of_five_rounds, right_constant_of_four_rounds,
+    right_number,
 };
 
 /// One of the two lines.
@@ -40,7 +41,7 @@ pub(crate) fn constant_of_four_rounds(side: Side, r: usize) -> u32
 {
     match side {
         Side::Left => left_constant(r),
-        Side::Right => right_constant_of_four(r),
+        Side::Right => right_constant_of_four_rounds(r),
     }
 }
 
@@ -52,7 +53,7 @@ pub(crate) fn constant_of_five_rounds(side: Side, r: usize) -> u32
 {
     match side {
         Side::Left => left_constant(r),
-        Side::Right => right_constant_of_five(r),
+        Side::Right => right_constant_of_five_rounds(r),
     }
 }
 

@@ -136,18 +136,12 @@ fn hashes_one_long_message(rt: HostRuntime) -> Result<(), Fail> {
 // Whether the bytes are these digits in lower case hexadecimal, two for each.
 fn is_written(bytes: &[u8], digits: &str) -> bool {
     let signs = b"0123456789abcdef";
-    let digits = digits.as_bytes();
-    if digits.len() / 2 != bytes.len() || digits.len() % 2 != 0 {
-        return false;
-    }
-    for (i, byte) in bytes.iter().enumerate() {
-        let high = signs[(*byte / 16) as usize];
-        let low = signs[(*byte % 16) as usize];
-        if digits[2 * i] != high || digits[2 * i + 1] != low {
-            return false;
-        }
-    }
-    true
+    let (pairs, rest) = digits.as_bytes().as_chunks::<2>();
+    rest.is_empty()
+        && pairs.len() == bytes.len()
+        && pairs.iter().zip(bytes).all(|(pair, byte)| {
+            *pair == [signs[(byte / 16) as usize], signs[(byte % 16) as usize]]
+        })
 }
 
 // Whether eight messages, at once, have these digests: "", "a", "abc" and "message digest", and

@@ -1,30 +1,18 @@
 use Rattle.std.proofs.Common.{refl, ◌∙◌}
-use Rattle.ripemd_block.specs.Standard.Compression.{lines_from, ripemd160}
-use Rattle.ripemd_block.proofs.Stepping.{no_rounds, one_more_round, compress_from}
-use Rattle.ripemd_batch.specs.Lanes.{five_words, five_lines, of_message, targets}
+use Rattle.ripemd_block.specs.Standard.Compression.{ripemd160}
+use Rattle.ripemd_block.proofs.Stepping.{no_rounds, next_round, compress_from}
+use Rattle.ripemd_batch.specs.Lanes.{lane_of_five, lines_of_five_registers, of_message, targets}
 use Rattle.ripemd_batch.proofs.c160.compress.Goals as goal
 
 pub returns : goal.returns
 returns c j h =
-    let state = five_words j c.args.state in
     let block = of_message (targets c.args.blocks.now) j in
+    let state = lane_of_five j c.args.state in
     let words = c.message_words-words.ensures j h in
-    let end = c.round-lines-5.result in
-    let left_1 = c.round-lines.ensures.left j h block words in
-    let right_1 = c.round-lines.ensures.right j h block words in
-    let left_2 = c.round-lines-2.ensures.left j h block words in
-    let right_2 = c.round-lines-2.ensures.right j h block words in
-    let left_3 = c.round-lines-3.ensures.left j h block words in
-    let right_3 = c.round-lines-3.ensures.right j h block words in
-    let left_4 = c.round-lines-4.ensures.left j h block words in
-    let right_4 = c.round-lines-4.ensures.right j h block words in
-    let left_5 = c.round-lines-5.ensures.left j h block words in
-    let right_5 = c.round-lines-5.ensures.right j h block words in
-    let from = lines_from ripemd160 state in
-    let after_0 = no_rounds {start = five_lines j c.args.state c.args.state} ripemd160 block refl in
-    let after_1 = one_more_round ripemd160 block from 0 after_0 left_1 right_1 in
-    let after_2 = one_more_round ripemd160 block from 1 after_1 left_2 right_2 in
-    let after_3 = one_more_round ripemd160 block from 2 after_2 left_3 right_3 in
-    let after_4 = one_more_round ripemd160 block from 3 after_3 left_4 right_4 in
-    let after_5 = one_more_round ripemd160 block from 4 after_4 left_5 right_5 in
-    c.joint_state.ensures j h ∙ compress_from ripemd160 state block (five_lines j end.left end.right) after_5
+    c.joint_state.ensures j h ∙ compress_from (next_round (next_round (next_round (next_round (next_round
+    (no_rounds {lines = lines_of_five_registers j c.args.state c.args.state} ripemd160 state block refl)
+    (c.round-lines.ensures.left j h) (c.round-lines.ensures.right j h) refl words)
+    (c.round-lines-2.ensures.left j h) (c.round-lines-2.ensures.right j h) refl words)
+    (c.round-lines-3.ensures.left j h) (c.round-lines-3.ensures.right j h) refl words)
+    (c.round-lines-4.ensures.left j h) (c.round-lines-4.ensures.right j h) refl words)
+    (c.round-lines-5.ensures.left j h) (c.round-lines-5.ensures.right j h) refl words)

@@ -30,7 +30,7 @@ loop-j-preserved g c =
           let one =
           sym (same.same_bytes w.digest_of-digest.result) ∙ w.digest_of-digest.ensures
           ∙ hash_from s.parameters.start d.start (compress s.parameters) d.step word_bytes d.output (of_message all n)
-          (s.words_of j c.after_messages-states.result) (c.after_messages-states.ensures j lane (omega arith))
+          (s.words_of j c.walk_group-states.result) (c.walk_group-states.ensures j lane (omega arith))
           same.same_start same.same_step same.same_output in
           rw w.digests-is (record {
             size = length-set out n w.digest_of-digest.result ∙ size;

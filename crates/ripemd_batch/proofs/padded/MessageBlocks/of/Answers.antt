@@ -7,4 +7,4 @@ returns c =
     let whole = c.whole_blocks in
     let last = c.last_blocks in
     joined_blocks c.args.message.now whole.result.1.now _ whole.result.0.now last.result.now
-    whole.ensures.whole whole.ensures.rest (omega arith) last.ensures.value
+    whole.ensures.whole whole.ensures.tail (omega arith) last.ensures.value

@@ -2,7 +2,7 @@ use Rattle.std.proofs.Common.{◌*◌, ◌∙◌, refl, arith, w8}
 use Rattle.std.specs.Simd.Lanes.{chunk}
 use Rattle.std.proofs.lemmas.Simd.{chunk-fits, below_from_Fits, get_or_wider}
 use Rattle.ripemd_batch.proofs.Reading.{word_in_chunk}
-use Rattle.ripemd_batch.proofs.four.Four.of_block.Goals as goal
+use Rattle.ripemd_batch.proofs.four_words.FourWords.of_block.Goals as goal
 
 pub returns : goal.returns
 returns c k small =

@@ -3,7 +3,7 @@ use Rattle.ripemd_block.specs.Standard.Hashing.{blocks, padded_message}
 use Rattle.ripemd_batch.specs.Lanes.{targets, of_message, blocks_of}
 use Rattle.ripemd_batch.proofs.Blocks.{blocks_at}
 use Rattle.ripemd_batch.proofs.EightLanes.{below_eight}
-use Rattle.ripemd_batch.proofs.digests.after_messages.Goals as goal
+use Rattle.ripemd_batch.proofs.digests.walk_group.Goals as goal
 
 pub returns : goal.returns
 returns g c j h within =
@@ -23,4 +23,4 @@ returns g c j h within =
     (blocks_at all count (at + 6) (at + 6) _ _ c.message_or_empty-7.ensures c.of-7.ensures (omega arith))
     (blocks_at all count (at + 7) (at + 7) _ _ c.message_or_empty-8.ensures c.of-8.ensures (omega arith))
     j h within in
-    rw blocks_are at (c.after_all.ensures j h)
+    rw blocks_are at (c.walk_all.ensures j h)

@@ -1,4 +1,4 @@
-//! Four words, by which blocks are read.
+//! Four words in one vector, by which blocks are read.
 
 ghost use Rattle.std.specs.Prelude.{◌≡◌, ◌<◌, ◌+◌, ◌*◌, ℕ, length, slice_index, slice_index_or, [], ◌∷◌};
 ghost use Rattle.ripemd_block.specs.Standard.Words.{message_word};
@@ -6,13 +6,13 @@ ghost use Rattle.ripemd_block.specs.Standard.Words.{message_word};
 use std::marker::Model;
 use std::simd::prelude::*;
 
-/// Four words.
+/// Four words in one vector.
 #[derive(Clone, Copy)]
-pub(crate) struct Four {
+pub(crate) struct FourWords {
     lanes: u32x4,
 }
 
-impl Model for Four {
+impl Model for FourWords {
     ghost use Rattle.std.specs.Prelude.{ℕ, List};
     ghost use Rattle.std.proofs.Common.{refl};
 
@@ -25,7 +25,7 @@ impl Model for Four {
     ghost inverse_ok = { λ w h. refl };
 }
 
-impl Four {
+impl FourWords {
     /// The words as the lanes of a vector.
     #[inline(always)]
     pub(crate) fn lanes(self) -> u32x4
@@ -43,7 +43,7 @@ impl Four {
             → slice_index result k ≡ message_word block.now (4 * i + k) }
     {
         let bytes = u8x16::from_slice(&block[16 * i..]);
-        Four {
+        FourWords {
             lanes: u32x4::from_le_bytes(bytes),
         }
     }
@@ -57,7 +57,7 @@ impl Four {
             ∷ slice_index self 3 ∷ slice_index other 3 ∷ [] }
     {
         let (low, high) = self.lanes.interleave(other.lanes);
-        (Four { lanes: low }, Four { lanes: high })
+        (FourWords { lanes: low }, FourWords { lanes: high })
     }
 
     /// Word `k` of each of four vectors, in their order, for each `k`.
