@@ -6,7 +6,7 @@ use Rattle.std.specs.List.{All}
 use Rattle.std.proofs.lemmas.List.{map-append, map-set, length-map, get_or-map}
 use Rattle.std.proofs.lemmas.List.Elements.{All-append, All-get_or}
 use Rattle.ripemd_block.specs.States.{Meaning, initial_state, fed}
-use Rattle.ripemd_block.proofs.StateLaws.{fed_nothing, fed_twice}
+use Rattle.ripemd_block.specs.Laws.UnderWay.{fed_nothing, fed_twice}
 use Rattle.ripemd.specs.declared.replay.Command.{Command}
 use Rattle.ripemd.specs.declared.replay.ReplayError.{ReplayError}
 use Rattle.ripemd.specs.declared.replay.ReplayError.TheVariants.{OutOfMemory}

@@ -1,9 +1,10 @@
 -- The laws of a hash under way, for callers of the hashers: name them in `using(..)`.
-use Rattle.std.specs.Prelude.{◌≡◌, ℕ, ◌^◌, ◌<◌, List, [], ◌++◌, length}
+use Rattle.std.proofs.Common.{◌≡◌, ℕ, ◌^◌, ◌<◌, List, [], ◌++◌, length, sym, ◌∙◌, arith}
 use Rattle.ripemd_block.specs.Standard.Words.{block_size}
 use Rattle.ripemd_block.specs.Standard.Hashing.{hash}
 use Rattle.ripemd_block.specs.States.{Meaning, initial_state, fed, finish}
-use Rattle.ripemd_block.proofs.StateLaws as laws
+use Rattle.ripemd_block.specs.Laws.UnderWay as laws
+use Rattle.ripemd.specs.Messages.{IsHashing}
 
 -- no bytes change nothing
 pub fed_nothing : (step : List ℕ → List ℕ → List ℕ) (h : Meaning)
@@ -19,3 +20,23 @@ fed_twice = laws.fed_twice
 pub finish_fed : {D : Type 0} (start : List ℕ) (step : List ℕ → List ℕ → List ℕ) (output : List ℕ → D)
     (message : List ℕ) → finish step output (fed step (initial_state start) message) ≡ hash start step output message
 finish_fed = laws.finish_fed
+
+-- ---- hashers of messages
+
+module _ {start : List ℕ} {step : List ℕ → List ℕ → List ℕ} where
+  -- a new hasher is one of the empty message
+  pub hashing_nothing : {h : Meaning} → h ≡ initial_state start → IsHashing start step [] h
+  hashing_nothing new = record { is = new ∙ sym (laws.fed_nothing step (initial_state start) (omega arith) (omega arith)) }
+
+  -- one of a message, fed more bytes, is one of the message with them
+  pub hashing_more : {h next : Meaning} {message : List ℕ} (bytes : List ℕ) → next ≡ fed step h bytes
+      → IsHashing start step message h → IsHashing start step (message ++ bytes) next
+  hashing_more {message = message} bytes update before = record {
+    is = update ∙ rw before.is (laws.fed_twice step (initial_state start) message bytes);
+  }
+
+  -- and its digest is the hash of the message
+  pub hashing_done : {D : Type 0} (output : List ℕ → D) {h : Meaning} {message : List ℕ} {digest : D}
+      → digest ≡ finish step output h → IsHashing start step message h → digest ≡ hash start step output message
+  hashing_done output {message = message} done before =
+      done ∙ rw before.is (laws.finish_fed start step output message)

@@ -1,13 +1,14 @@
 -- The definitions that the contracts cite, from ripemd_block.
 pub use Rattle.ripemd_block.specs.Standard
 pub use Rattle.ripemd_block.specs.States
+pub use Rattle.ripemd_block.specs.Listed
 -- What has to be believed besides: the machine of `replay`, and collisions of block functions.
 pub mod Replay
 pub mod Collisions
+-- Hashers of messages: words for callers.
+pub mod Messages
 -- Words about the code's own vectors: proved, not to be believed.
 pub mod Held
--- Block functions of a caller's own, as those over lists.
-pub mod Listed
 -- Laws for callers: proved, not to be believed.
 pub mod Laws
 -- The same, for loops of reads.

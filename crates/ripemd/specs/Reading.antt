@@ -7,7 +7,7 @@ use Rattle.std.proofs.KnownBytes.{Consumes-nil, Consumes-trans}
 use Rattle.std.proofs.lemmas.List.{append-nil, length-take-le}
 use Rattle.ripemd_block.specs.Standard.Hashing.{hash}
 use Rattle.ripemd_block.specs.States.{Meaning, initial_state, fed, finish}
-use Rattle.ripemd_block.proofs.StateLaws as laws
+use Rattle.ripemd_block.specs.Laws.UnderWay as laws
 
 -- between two of its states a reader gave these bytes, and the hasher is what they make of a new one
 pub record HasTaken (start : List ℕ) (step : List ℕ → List ℕ → List ℕ) (old now : Option (List ℕ)) (h : Meaning)

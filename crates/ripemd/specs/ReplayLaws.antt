@@ -10,7 +10,7 @@ use Rattle.ripemd_block.specs.Standard.Words.{word_bytes}
 use Rattle.ripemd_block.specs.Standard.Compression.{Parameters, compress}
 use Rattle.ripemd_block.specs.Standard.Hashing.{hash, ripemd}
 use Rattle.ripemd_block.specs.States.{Meaning, initial_state, new_state}
-use Rattle.ripemd_block.proofs.StateLaws.{finish_fed}
+use Rattle.ripemd_block.specs.Laws.UnderWay.{finish_fed}
 use Rattle.ripemd.specs.declared.replay.Command.{Command}
 use Rattle.ripemd.specs.declared.replay.Command.TheVariants.{New, Update, Reset, Finish, Fork, Save, Load, Import}
 use Rattle.ripemd.specs.declared.replay.ReplayError.{ReplayError}

@@ -5,7 +5,7 @@ use Rattle.ripemd_block.specs.Standard.Compression.{Parameters, compress}
 use Rattle.ripemd_block.specs.Standard.Hashing.{ripemd}
 use Rattle.ripemd_block.specs.States.{Meaning, IsState, new_state, fed, finish, hasher_bytes}
 use Rattle.ripemd_block.specs.Laws.Saving.{one_hasher}
-use Rattle.ripemd_block.proofs.StateLaws as laws
+use Rattle.ripemd_block.specs.Laws.UnderWay as laws
 use Rattle.ripemd.specs.Laws.{fed_nothing}
 
 -- a hasher that was fed this message from the start can occur, and is saved as these bytes

@@ -1,8 +1,9 @@
 //! The trait of the hashers, and those of the cores below them.
 
-ghost use Rattle.std.specs.Prelude.{◌≡◌, ℕ, ◌≤◌, List, [], length};
+ghost use Rattle.std.specs.Prelude.{◌≡◌, ℕ, ◌≤◌, List, [], ◌++◌, length};
 ghost use Rattle.ripemd_block.specs.Standard.Hashing.{hash};
 ghost use Rattle.ripemd_block.specs.States.{Meaning, initial_state, fed, finish};
+ghost use Rattle.ripemd.specs.Messages.{IsHashing};
 
 pub use ripemd_block::block_api::{
     AlgorithmName, BlockFunction, BlockSizeUser, BufferKindUser, FixedOutputCore, HashMarker,
@@ -27,17 +28,24 @@ pub trait Digest: OutputSizeUser + HashMeaning + Drop {
     /// A hasher of the empty message.
     fn new() -> Self
         ensures meaning { Self.meaning result ≡ initial_state start }
+        ensures message { IsHashing start step [] (Self.meaning result) }
         ensures valid { Self.is_valid (Self.meaning result) };
 
     /// Takes bytes in, after those of the message so far.
     fn update(&mut self, bytes: &[u8])
         ensures fed { Self.meaning self.new ≡ fed step (Self.meaning self.old) bytes.now }
+        ensures message { (message : List ℕ)
+            → IsHashing start step message (Self.meaning self.old)
+            → IsHashing start step (message ++ bytes.now) (Self.meaning self.new) }
         ensures valid_old { Self.is_valid (Self.meaning self.old) }
         ensures valid_new { Self.is_valid (Self.meaning self.new) };
 
     /// Gives the digest of the message so far, and leaves the hasher as `new()` makes it.
     fn finalize_reset(&mut self) -> Self::Output
         ensures digest { Self.bytes_of result ≡ finish step output (Self.meaning self.old) }
+        ensures message { (message : List ℕ)
+            → IsHashing start step message (Self.meaning self.old)
+            → Self.bytes_of result ≡ hash start step output message }
         ensures size { length (Self.bytes_of result) ≡ Self.OUTPUT_SIZE }
         ensures reset { Self.meaning self.new ≡ initial_state start }
         ensures valid_old { Self.is_valid (Self.meaning self.old) }
@@ -63,6 +71,7 @@ pub trait Digest: OutputSizeUser + HashMeaning + Drop {
     where
         Self: Sized,
         ensures fed { Self.meaning result ≡ fed Self.step (initial_state Self.start) prefix.now }
+        ensures message { IsHashing Self.start Self.step prefix.now (Self.meaning result) }
         ensures valid { Self.is_valid (Self.meaning result) }
     {
         let mut hasher = Self::new();
@@ -75,6 +84,9 @@ pub trait Digest: OutputSizeUser + HashMeaning + Drop {
     where
         Self: Sized,
         ensures fed { Self.meaning result ≡ fed Self.step (Self.meaning self) bytes.now }
+        ensures message { (message : List ℕ)
+            → IsHashing Self.start Self.step message (Self.meaning self)
+            → IsHashing Self.start Self.step (message ++ bytes.now) (Self.meaning result) }
         ensures valid { Self.is_valid (Self.meaning result) }
     {
         let mut hasher = self;
@@ -87,6 +99,9 @@ pub trait Digest: OutputSizeUser + HashMeaning + Drop {
     where
         Self: Sized,
         ensures digest { Self.bytes_of result ≡ finish Self.step Self.output (Self.meaning self) }
+        ensures message { (message : List ℕ)
+            → IsHashing Self.start Self.step message (Self.meaning self)
+            → Self.bytes_of result ≡ hash Self.start Self.step Self.output message }
         ensures size { length (Self.bytes_of result) ≡ Self.OUTPUT_SIZE }
     {
         let mut hasher = self;

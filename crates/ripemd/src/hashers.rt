@@ -1,39 +1,40 @@
-//! The hashers of the four variants.
+//! The hasher of a block function, and those of the four variants.
 
 ghost use Rattle.std.specs.Prelude.{◌≡◌, ⊤};
-ghost use Rattle.ripemd_block.specs.Standard.Words.{word_bytes};
-ghost use Rattle.ripemd_block.specs.Standard.Compression.{compress};
-ghost use Rattle.ripemd_block.specs.States.{Meaning, IsState, new_state, with_tail};
+ghost use Rattle.ripemd_block.specs.States.{Meaning, IsUnderWay, initial_state, with_tail};
 
-use crate::digest::{BlockDigest, Digest};
+use crate::digest::{
+    AlgorithmName, BlockDigest, BlockSizeUser, Digest, FixedOutputCore, HashMarker, HashMeaning,
+    OutputSizeUser, Reset,
+};
 use ripemd_block::block_api::{
-    AlgorithmName, BlockSizeUser, ByteArray, FixedOutputCore, HashMarker, HashMeaning,
-    OutputSizeUser, R128, R160, R256, R320, Reset, RipemdCore, VariantParts,
+    BlockCore, ByteArray, HashFunction, Ripemd128Function, Ripemd160Function, Ripemd256Function,
+    Ripemd320Function,
 };
 use ripemd_block::buffer::Buffer;
 use std::alloc::AllocError;
 use std::fmt;
 use std::marker::Model;
 
-/// The hasher of a variant: its block core, and the tail of the message after the core's blocks.
-/// Contracts see both as one hash under way.
+/// The hasher of a block function, by the padding of MD4 (1996): its block core, and the tail of the
+/// message after the core's blocks. Contracts see both as one hash under way.
 #[derive(Drop)]
-pub struct RipemdHasher<V: VariantParts> {
-    pub(crate) core: RipemdCore<V>,
+pub struct BlockHasher<F: HashFunction> {
+    pub(crate) core: BlockCore<F>,
     pub(crate) buffer: Buffer,
 }
 
 /// The hasher of RIPEMD-128 (1996), with digests of 16 bytes.
-pub type Ripemd128 = RipemdHasher<R128>;
+pub type Ripemd128 = BlockHasher<Ripemd128Function>;
 
 /// The hasher of RIPEMD-160 (1996), with digests of 20 bytes.
-pub type Ripemd160 = RipemdHasher<R160>;
+pub type Ripemd160 = BlockHasher<Ripemd160Function>;
 
 /// The hasher of RIPEMD-256 (1996), with digests of 32 bytes. It is no stronger than RIPEMD-128.
-pub type Ripemd256 = RipemdHasher<R256>;
+pub type Ripemd256 = BlockHasher<Ripemd256Function>;
 
 /// The hasher of RIPEMD-320 (1996), with digests of 40 bytes. It is no stronger than RIPEMD-160.
-pub type Ripemd320 = RipemdHasher<R320>;
+pub type Ripemd320 = BlockHasher<Ripemd320Function>;
 
 impl Ripemd128 {
     /// The object identifier of RIPEMD-128.
@@ -50,66 +51,66 @@ impl Ripemd256 {
     pub const OID: &'static str = "1.3.36.3.2.3";
 }
 
-impl<V: VariantParts> Model for RipemdHasher<V> {
+impl<F: HashFunction> Model for BlockHasher<F> {
     ghost Value = { Meaning };
 
     ghost view = { λ h. with_tail h.core h.buffer };
 }
 
-impl<V: VariantParts> Default for RipemdHasher<V> {
-    ghost is_default = { λ h. h ≡ new_state V.parameters };
+impl<F: HashFunction> Default for BlockHasher<F> {
+    ghost is_default = { λ h. h ≡ initial_state (F.list F.start_of) };
 
-    fn default() -> RipemdHasher<V> {
-        RipemdHasher {
-            core: RipemdCore::default(),
+    fn default() -> BlockHasher<F> {
+        BlockHasher {
+            core: BlockCore::default(),
             buffer: Buffer::default(),
         }
     }
 }
 
-impl<V: VariantParts> Clone for RipemdHasher<V> {
+impl<F: HashFunction> Clone for BlockHasher<F> {
     ghost is_clone = { λ x y. y ≡ x };
 
     ghost is_infallible = { λ _. ⊤ };
 
-    fn clone(&self) -> Result<RipemdHasher<V>, AllocError> {
+    fn clone(&self) -> Result<BlockHasher<F>, AllocError> {
         Ok(self.duplicate())
     }
 }
 
-/// Writes the type's name and no more, as `Ripemd160 { ... }`.
-impl<V: VariantParts> fmt::Debug for RipemdHasher<V> {
+/// Writes the name of the hash function and no more, as `Ripemd160 { ... }`.
+impl<F: HashFunction + AlgorithmName> fmt::Debug for BlockHasher<F> {
     fn fmt<W: fmt::Write>(&self, f: &mut fmt::Formatter<W>) -> fmt::Result {
-        <RipemdCore<V> as AlgorithmName>::write_alg_name(f)?;
+        F::write_alg_name(f)?;
         f.write_str(" { ... }")
     }
 }
 
-impl<V: VariantParts> AlgorithmName for RipemdHasher<V> {
-    ghost name = { V.name };
+impl<F: HashFunction + AlgorithmName> AlgorithmName for BlockHasher<F> {
+    ghost name = { F.name };
 
-    const ALG_NAME: &'static str = <RipemdCore<V> as AlgorithmName>::ALG_NAME;
+    const ALG_NAME: &'static str = <F as AlgorithmName>::ALG_NAME;
 
     fn write_alg_name<W: fmt::Write>(f: &mut fmt::Formatter<W>) -> fmt::Result {
-        <RipemdCore<V> as AlgorithmName>::write_alg_name(f)
+        F::write_alg_name(f)
     }
 }
 
-impl<V: VariantParts> HashMarker for RipemdHasher<V> {}
+impl<F: HashFunction> HashMarker for BlockHasher<F> {}
 
-impl<V: VariantParts> HashMeaning for RipemdHasher<V> {
+impl<F: HashFunction> HashMeaning for BlockHasher<F> {
     ghost meaning = { λ h. h };
 
-    ghost is_valid = { IsState V.parameters };
+    ghost is_valid = { IsUnderWay F.are_words };
 }
 
-impl<V: VariantParts> Reset for RipemdHasher<V> {
+impl<F: HashFunction> Reset for BlockHasher<F> {
     fn reset(&mut self) {
         Digest::reset(self);
     }
 }
 
-impl<V: VariantParts> BlockSizeUser for RipemdHasher<V> {
+impl<F: HashFunction> BlockSizeUser for BlockHasher<F> {
     ghost BLOCK_SIZE = { 64 };
 
     ghost use Rattle.std.specs.Prelude.{refl};
@@ -119,26 +120,27 @@ impl<V: VariantParts> BlockSizeUser for RipemdHasher<V> {
     const BLOCK_SIZE: usize = 64;
 }
 
-impl<V: VariantParts> OutputSizeUser for RipemdHasher<V> {
-    type Output = V::Output;
+impl<F: HashFunction> OutputSizeUser for BlockHasher<F> {
+    type Output = F::Digest;
 
-    ghost bytes_of = { V.Output.bytes };
+    ghost bytes_of = { F.Digest.bytes };
 
-    ghost OUTPUT_SIZE = { V.Output.LEN };
+    ghost OUTPUT_SIZE = { F.Digest.LEN };
 
-    const OUTPUT_SIZE: usize = <RipemdCore<V> as OutputSizeUser>::OUTPUT_SIZE;
+    const OUTPUT_SIZE: usize = <F::Digest as ByteArray>::LEN;
 
-    ghost same_digest = { V.Output.same_array };
+    ghost same_digest = { F.Digest.same_array };
 }
 
-impl<V: VariantParts> Digest for RipemdHasher<V> {
-    ghost start = { V.parameters.start };
+impl<F: HashFunction> Digest for BlockHasher<F> {
+    ghost start = { F.list F.start_of };
 
-    ghost step = { compress V.parameters };
+    ghost step = { F.step };
 
-    ghost output = { word_bytes };
+    ghost output = { F.output };
 
-    fn new() -> RipemdHasher<V> {
+    #[tactic(auto, using(crate::specs::Laws::hashing_nothing))]
+    fn new() -> BlockHasher<F> {
         Self::default()
     }
 
@@ -147,40 +149,38 @@ impl<V: VariantParts> Digest for RipemdHasher<V> {
         self.buffer.absorb(&mut self.core, bytes);
     }
 
-    fn finalize_reset(&mut self) -> V::Output {
-        let mut digest = V::Output::zeros();
+    fn finalize_reset(&mut self) -> F::Digest {
+        let mut digest = F::Digest::zeros();
         self.core.finalize_fixed_core(&mut self.buffer, &mut digest);
-        Reset::reset(&mut self.core);
+        self.core = BlockCore::default();
         digest
     }
 
     fn reset(&mut self) {
-        *self = RipemdHasher::default();
+        *self = BlockHasher::default();
     }
 
-    fn duplicate(&self) -> RipemdHasher<V> {
-        RipemdHasher {
+    fn duplicate(&self) -> BlockHasher<F> {
+        BlockHasher {
             core: self.core.duplicate(),
             buffer: self.buffer.duplicate(),
         }
     }
 
-    fn output_bytes(out: &V::Output) -> &[u8] {
+    fn output_bytes(out: &F::Digest) -> &[u8] {
         out.as_bytes()
     }
 
     ghost use Rattle.ripemd.specs.Laws.{fed_nothing};
 
     ghost fed_nothing = { λ h valid.
-        fed_nothing (compress V.parameters) h valid.count valid.tail.short };
+        fed_nothing F.step h valid.count valid.tail.short };
 }
 
-impl<V: VariantParts> BlockDigest for RipemdHasher<V> {
-    type Core = RipemdCore<V>;
+impl<F: HashFunction> BlockDigest for BlockHasher<F> {
+    type Core = BlockCore<F>;
 
-    ghost use Rattle.ripemd_block.specs.Laws.Walking.{hash_of_lists};
+    ghost use Rattle.ripemd_block.specs.Listed.{hash_listed};
 
-    ghost digest_is = { hash_of_lists V.Words.list V.Words.from_list V.Words.list_from
-        V.Output.bytes V.Output.from_bytes V.Output.from_own_bytes
-        (compress V.parameters) V.parameters.start };
+    ghost digest_is = { hash_listed F.over_lists F.Digest.same_array F.start_of };
 }

@@ -2,16 +2,15 @@
 //! Preneel, 1996), and the trait [`Digest`], by which they take a message in piece by piece.
 #![tactic(auto)]
 
-pub mod block_hasher;
 pub mod digest;
 pub mod hashers;
 pub mod replay;
 pub mod state;
 pub mod witness;
 
-pub use block_hasher::{BlockHasher, HashFunction};
 pub use digest::Digest;
-pub use hashers::{Ripemd128, Ripemd160, Ripemd256, Ripemd320, RipemdHasher};
+pub use hashers::{BlockHasher, Ripemd128, Ripemd160, Ripemd256, Ripemd320};
+pub use ripemd_block::block_api::{HashFunction, ResumableFunction};
 pub use ripemd_block::{block_api, buffer, padding};
 
 #[cfg(test)]

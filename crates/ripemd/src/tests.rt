@@ -1,8 +1,10 @@
-use crate::block_api::{BlockSizeUser, FixedOutputCore, RipemdCore, UpdateCore, VariantParts};
+use crate::block_api::{
+    BlockCore, BlockSizeUser, FixedOutputCore, HashFunction, Ripemd128Function, Ripemd160Function,
+    Ripemd256Function, Ripemd320Function, UpdateCore,
+};
 use crate::buffer::Buffer;
 use crate::digest::Digest;
-use crate::{Ripemd128, Ripemd160, Ripemd256, Ripemd320, RipemdHasher};
-use ripemd_block::block_api::{R128, R160, R256, R320};
+use crate::{BlockHasher, Ripemd128, Ripemd160, Ripemd256, Ripemd320};
 
 // What the authors published of RIPEMD-160 for "" and "abc"; what OpenSSL and other implementations
 // agree on for "Hello world!".
@@ -15,18 +17,12 @@ pub(crate) const HELLO: &str = "7f772647d88750add82d8e1a7a3e5c0902a346a3";
 // Whether the bytes are these digits in lower case hexadecimal, two for each.
 pub(crate) fn is_written(bytes: &[u8], digits: &str) -> bool {
     let signs = b"0123456789abcdef";
-    let digits = digits.as_bytes();
-    if digits.len() / 2 != bytes.len() || digits.len() % 2 != 0 {
-        return false;
-    }
-    for (i, byte) in bytes.iter().enumerate() {
-        let high = signs[(*byte / 16) as usize];
-        let low = signs[(*byte % 16) as usize];
-        if digits[2 * i] != high || digits[2 * i + 1] != low {
-            return false;
-        }
-    }
-    true
+    let (pairs, rest) = digits.as_bytes().as_chunks::<2>();
+    rest.is_empty()
+        && pairs.len() == bytes.len()
+        && pairs.iter().zip(bytes).all(|(pair, byte)| {
+            *pair == [signs[(byte / 16) as usize], signs[(byte % 16) as usize]]
+        })
 }
 
 // Whether the digest of the message is this one, by whatever hasher.
@@ -173,31 +169,31 @@ fn copies(rt: HostRuntime) {
 }
 
 // Whether the clone of a core, and that of a hasher, which took in a block give its digest.
-fn clones_have_the_block<V: VariantParts>() -> bool {
+fn clones_have_the_block<F: HashFunction>() -> bool {
     let block = [b'a'; 64];
-    let wanted = RipemdHasher::<V>::digest(&block);
-    let wanted = RipemdHasher::<V>::output_bytes(&wanted);
-    let mut core = RipemdCore::<V>::default();
+    let wanted = BlockHasher::<F>::digest(&block);
+    let wanted = BlockHasher::<F>::output_bytes(&wanted);
+    let mut core = BlockCore::<F>::default();
     core.update_blocks(&[block]);
-    let mut hasher = RipemdHasher::<V>::new();
+    let mut hasher = BlockHasher::<F>::new();
     hasher.update(&block);
     let core: Result<_, _> = core.clone();
     let hasher: Result<_, _> = hasher.clone();
     let (Ok(mut core), Ok(hasher)) = (core, hasher) else {
         return false;
     };
-    let mut digest = RipemdHasher::<V>::digest(&[]);
+    let mut digest = BlockHasher::<F>::digest(&[]);
     core.finalize_fixed_core(&mut Buffer::default(), &mut digest);
-    RipemdHasher::<V>::output_bytes(&digest) == wanted
-        && RipemdHasher::<V>::output_bytes(&hasher.finalize()) == wanted
+    BlockHasher::<F>::output_bytes(&digest) == wanted
+        && BlockHasher::<F>::output_bytes(&hasher.finalize()) == wanted
 }
 
 #[test]
 fn clones(rt: HostRuntime) {
-    assert!(rt; clones_have_the_block::<R128>());
-    assert!(rt; clones_have_the_block::<R160>());
-    assert!(rt; clones_have_the_block::<R256>());
-    assert!(rt; clones_have_the_block::<R320>());
+    assert!(rt; clones_have_the_block::<Ripemd128Function>());
+    assert!(rt; clones_have_the_block::<Ripemd160Function>());
+    assert!(rt; clones_have_the_block::<Ripemd256Function>());
+    assert!(rt; clones_have_the_block::<Ripemd320Function>());
 }
 
 // The sizes, as code sees them.

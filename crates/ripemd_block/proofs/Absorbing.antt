@@ -4,7 +4,7 @@ use Rattle.std.proofs.Common.{List, ◌++◌, length, take, drop, length-append}
 use Rattle.std.proofs.lemmas.List.{append_assoc, append-nil, length-drop, length-take-le}
 use Rattle.std.proofs.lemmas.List.{take-append-drop, take_at, take_all, drop_all}
 use Rattle.ripemd_block.specs.Standard.Hashing.{blocks, partial_block}
-use Rattle.ripemd_block.proofs.BlockLaws.{blocks_joined, left_over_joined, blocks_of_short, left_over_of_short}
+use Rattle.ripemd_block.specs.Laws.Blocks.{blocks_joined, left_over_joined, blocks_of_short, left_over_of_short}
 
 -- ---- bytes put behind the first of a block
 

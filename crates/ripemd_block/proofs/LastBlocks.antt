@@ -5,7 +5,7 @@ use Rattle.std.proofs.lemmas.List.{length-append, length-replicate, append_assoc
 use Rattle.std.proofs.lemmas.List.{take_at, drop_all, set_at, drop-drop, drop-replicate, replicate-append-replicate}
 use borrow.Rule.Slice.PartMut.{put_mid}
 use Rattle.ripemd_block.specs.Standard.Words.{eight_bytes}
-use Rattle.ripemd_block.proofs.BlockLaws.{blocks_of_one, blocks_of_two}
+use Rattle.ripemd_block.specs.Laws.Blocks.{blocks_of_one, blocks_of_two}
 use Rattle.ripemd_block.specs.Standard.Hashing.{with_padding, blocks, zero_count}
 
 -- a list with its last part written over

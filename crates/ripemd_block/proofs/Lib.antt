@@ -1,10 +1,8 @@
 pub mod Absorbing
-pub mod BlockLaws
 pub mod Factoring
 pub mod Finishing
 pub mod LastBlocks
 pub mod PaddedBlocks
 pub mod Rotating
-pub mod StateLaws
 pub mod Stepping
 pub mod Tables

@@ -28,35 +28,41 @@ unfolding registers_after
 one_more_step line block r n start before after j x k s number word constant amount so_far made =
     rw (add-one, ← so_far, ← number, ← word, ← constant, ← amount) made
 
--- before the first round
-pub no_rounds : {start from : Lines} (v : Parameters) (block : List ℕ) → start ≡ from
-    → start ≡ lines_after v block 0 from
-unfolding lines_after
-no_rounds v block same = same
+-- the lines after the first n rounds on a block, from where the state has them start
+pub record AfterRounds (v : Parameters) (state block : List ℕ) (n : ℕ) (lines : Lines) : Type 0 where
+  pub same : lines ≡ lines_after v block n (lines_from v state)
 
--- one more round of both lines, with the exchange after it
-pub one_more_round : {before : Lines} {left right : List ℕ} (v : Parameters) (block : List ℕ) (from : Lines) (n : ℕ)
-    → before ≡ lines_after v block n from
-    → left ≡ round left_line block n before.left
-    → right ≡ round (right_line v.rounds) block n before.right
-    → exchange (slice_get v.exchanges n) (record { left = left; right = right })
-    ≡ lines_after v block (suc n) from
+-- before the first round
+pub no_rounds : {lines : Lines} (v : Parameters) (state block : List ℕ) → lines ≡ lines_from v state
+    → AfterRounds v state block 0 lines
 unfolding lines_after
-one_more_round {before = before} {right = right} v block from n so_far made_left made_right =
+no_rounds v state block start = record { same = start }
+
+-- one more round of both lines on the block whose words the code has, and the exchange after it
+pub next_round : {v : Parameters} {state block left right : List ℕ} {n : ℕ} {before after : Lines}
+    {HasWords : List ℕ → Type 0} → AfterRounds v state block n before
+    → ((b : List ℕ) → HasWords b → left ≡ round left_line b n before.left)
+    → ((b : List ℕ) → HasWords b → right ≡ round (right_line v.rounds) b n before.right)
+    → after ≡ exchange (slice_get v.exchanges n) (record { left = left; right = right })
+    → HasWords block → AfterRounds v state block (suc n) after
+unfolding lines_after
+next_round {v = v} {block = block} {right = right} {n = n} {before = before} so_far of_left of_right made words =
     let exchanged : List ℕ → List ℕ → Lines =
     λ l r. exchange (slice_get v.exchanges n) (record { left = l; right = r }) in
-    let after : Lines → Lines =
+    let next : Lines → Lines =
     λ l. exchanged (round left_line block n l.left) (round (right_line v.rounds) block n l.right) in
-    ap (λ (l : List ℕ). exchanged l right) made_left
-    ∙ ap (λ (r : List ℕ). exchanged (round left_line block n before.left) r) made_right
-    ∙ ap after so_far
+    record {
+      same = made
+          ∙ ap (λ (l : List ℕ). exchanged l right) (of_left block words)
+          ∙ ap (λ (r : List ℕ). exchanged (round left_line block n before.left) r) (of_right block words)
+          ∙ ap next so_far.same;
+    }
 
 -- the state after a block, from the lines after all rounds
-pub compress_from : (v : Parameters) (state block : List ℕ) (end : Lines)
-    → end ≡ lines_after v block v.rounds (lines_from v state)
+pub compress_from : {v : Parameters} {state block : List ℕ} {end : Lines} → AfterRounds v state block v.rounds end
     → v.combination state end.left end.right ≡ compress v state block
 unfolding compress
-compress_from v state block end lines = ap (λ (l : Lines). v.combination state l.left l.right) lines
+compress_from {v = v} {state = state} all = ap (λ (l : Lines). v.combination state l.left l.right) all.same
 
 -- word by word sums are words
 pub word_sums_fit : (xs ys : List ℕ) → All (λ w. w < 2 ^ 32) (word_sums xs ys)

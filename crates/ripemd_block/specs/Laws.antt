@@ -1,6 +1,9 @@
--- Laws that an `impl` cites, which may cite only what stands in specs/.
+-- Laws for callers of the cores, and those that an `impl` cites, which may cite only what stands in
+-- specs/.
 pub mod Arrays
-pub mod Outputs
+pub mod WordBytes
 pub mod Starting
 pub mod Saving
 pub mod Walking
+pub mod Blocks
+pub mod UnderWay

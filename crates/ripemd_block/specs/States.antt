@@ -58,25 +58,41 @@ pub record IsTail (tail : List ℕ) : Type 0 where
   pub short : length tail < block_size
   pub bytes : All (λ b. b < 256) tail
 
--- the states that a core or a hasher can be in: as many words as the variant has, a count below
--- 2 ^ 64, and a tail
-pub record IsState (v : Parameters) (h : Meaning) : Type 0 where
-  pub words : AreWords (length v.start) h.words
+-- the states that a core or a hasher can be in: words that its block function can lead to, a count
+-- below 2 ^ 64, and a tail
+pub record IsUnderWay (are_words : List ℕ → Type 0) (h : Meaning) : Type 0 where
+  pub words : are_words h.words
   pub count : h.count < 2 ^ 64
   pub tail : IsTail h.tail
 
+-- those of a variant: it has so many words
+abbrev pub IsState : Parameters → Meaning → Type 0
+IsState v = IsUnderWay (AreWords (length v.start))
+
 -- the states that a core can be in: it has no tail
-pub record IsCoreState (v : Parameters) (h : Meaning) : Type 0 where
-  pub state : IsState v h
+pub record IsWithoutTail (are_words : List ℕ → Type 0) (h : Meaning) : Type 0 where
+  pub state : IsUnderWay are_words h
   pub no_tail : h.tail ≡ []
+
+-- those of a variant
+abbrev pub IsCoreState : Parameters → Meaning → Type 0
+IsCoreState v = IsWithoutTail (AreWords (length v.start))
 
 -- ---- saved bytes
 
--- the saved bytes of a core: its words and its count
-unfoldable pub core_bytes : Meaning → List ℕ
-core_bytes h = word_bytes h.words ++ eight_bytes h.count
+-- the saved bytes of a core: the output of its words, which tells them, and its count
+unfoldable pub output_and_count : (List ℕ → List ℕ) → Meaning → List ℕ
+output_and_count output h = output h.words ++ eight_bytes h.count
 
 -- the saved bytes of a hasher: those of its core, the length of its tail as one byte, the tail, and
 -- zero bytes until 63 bytes stand after the length
-unfoldable pub hasher_bytes : Meaning → List ℕ
-hasher_bytes h = core_bytes h ++ length h.tail ∷ h.tail ++ replicate (63 - length h.tail) 0
+unfoldable pub core_and_tail : (List ℕ → List ℕ) → Meaning → List ℕ
+core_and_tail output h =
+    output_and_count output h ++ length h.tail ∷ h.tail ++ replicate (63 - length h.tail) 0
+
+-- those of the four variants, whose output is the bytes of the words
+abbrev pub core_bytes : Meaning → List ℕ
+core_bytes = output_and_count word_bytes
+
+abbrev pub hasher_bytes : Meaning → List ℕ
+hasher_bytes = core_and_tail word_bytes

@@ -1,28 +1,11 @@
-//! Arrays of words and of bytes, for code that does not know their length.
+//! Arrays of bytes, whatever their length, and words as bytes.
 
-ghost use Rattle.std.specs.Prelude.{◌≡◌, ℕ, ◌+◌, ◌*◌, ◌↔◌, List, ◌++◌, length, replicate, IfSome, IsSome, true};
+ghost use Rattle.std.specs.Prelude.{◌≡◌, ℕ, ◌+◌, ◌*◌, ◌^◌, ◌<◌, ◌↔◌, List, ◌++◌, length, replicate, IfSome, IsSome};
+ghost use Rattle.std.specs.List.{All};
 ghost use Rattle.ripemd_block.specs.Standard.Words.{word_bytes, eight_bytes};
 
 #[cfg(test)]
 mod tests;
-
-// An array of words: `[u32; N]`, for any length `N`. Not exported, and without functions.
-pub trait WordArray: Copy + Eq {
-    // The list of its words.
-    ghost list: { Self → List ℕ };
-
-    // The array of a list.
-    ghost from_list: { List ℕ → Self };
-
-    // An array is that of its list.
-    ghost from_own_list: { (a : Self) → from_list (list a) ≡ a };
-
-    // The list of an array is that which it was made of.
-    ghost list_from: { (xs : List ℕ) → list (from_list xs) ≡ xs };
-
-    // Equal by `==` are equal arrays.
-    ghost same_words: { (a b : Self) → Self.eq a b ≡ true → a ≡ b };
-}
 
 /// An array of bytes: `[u8; N]`, for any length `N`.
 pub trait ByteArray: Copy {
@@ -46,48 +29,16 @@ pub trait ByteArray: Copy {
         ensures same { IfSome result (λ array. bytes array ≡ slice.now) }
         ensures some { IsSome result ↔ (length slice.now ≡ LEN) };
 
+    /// The array of some bytes and then others; `None` exactly if there are more or fewer than `LEN`
+    /// in all.
+    fn from_slices(front: &[u8], back: &[u8]) -> Option<Self>
+        ensures same { IfSome result (λ array. bytes array ≡ front.now ++ back.now) }
+        ensures some { IsSome result ↔ (length front.now + length back.now ≡ LEN) };
+
     /// Its bytes.
     fn as_bytes(&self) -> &[u8]
         ensures bytes { result.now ≡ bytes self.now }
         ensures size { length result.now ≡ LEN };
-}
-
-// An array that takes the bytes of words. Not exported, so that no other crate can call it.
-pub trait FromWords: ByteArray {
-    // The array of a list.
-    ghost from_bytes: { List ℕ → Self };
-
-    // The bytes of words in order, four for each, least first.
-    fn from_words(words: &[u32]) -> Self
-        requires { Self.LEN ≡ 4 * length words.now }
-        ensures bytes { Self.bytes result ≡ word_bytes words.now }
-        ensures size { length (Self.bytes result) ≡ Self.LEN };
-
-    // The bytes of words, and then those of a count, least first.
-    fn from_words_and_count(words: &[u32], count: u64) -> Self
-        requires { Self.LEN ≡ 4 * length words.now + 8 }
-        ensures { Self.bytes result ≡ word_bytes words.now ++ eight_bytes count };
-
-    // An array is that of its bytes.
-    ghost from_own_bytes: { (a : Self) → from_bytes (Self.bytes a) ≡ a };
-
-    // The bytes of an array are those that it was made of.
-    ghost bytes_from: { (xs : List ℕ) → Self.bytes (from_bytes xs) ≡ xs };
-}
-
-impl<const N: usize> WordArray for [u32; N] {
-    ghost list = { λ words. words };
-
-    ghost from_list = { λ words. words };
-
-    ghost use Rattle.std.specs.Prelude.{refl};
-    ghost use Rattle.ripemd_block.specs.Laws.Arrays.{equal_words};
-
-    ghost from_own_list = { λ a. refl };
-
-    ghost list_from = { λ xs. refl };
-
-    ghost same_words = { equal_words };
 }
 
 impl<const N: usize> ByteArray for [u8; N] {
@@ -104,11 +55,15 @@ impl<const N: usize> ByteArray for [u8; N] {
     }
 
     fn from_slice(slice: &[u8]) -> Option<[u8; N]> {
-        if slice.len() != N {
+        Self::from_slices(slice, &[])
+    }
+
+    fn from_slices(front: &[u8], back: &[u8]) -> Option<[u8; N]> {
+        if N < front.len() || N - front.len() != back.len() {
             return None;
         }
         let mut array = [0; N];
-        array.copy_from_slice(slice);
+        write_slices(front, back, &mut array);
         Some(array)
     }
 
@@ -117,55 +72,34 @@ impl<const N: usize> ByteArray for [u8; N] {
     }
 }
 
-impl<const N: usize> FromWords for [u8; N] {
-    ghost from_bytes = { λ bytes. bytes };
-
-    fn from_words(words: &[u32]) -> [u8; N] {
-        let mut bytes = <[u8; N]>::zeros();
-        write_words(words, &mut bytes);
-        bytes
-    }
-
-    fn from_words_and_count(words: &[u32], count: u64) -> [u8; N] {
-        let mut bytes = [0; N];
-        write_core(words, count, &mut bytes);
-        bytes
-    }
-
-    ghost use Rattle.std.specs.Prelude.{refl};
-
-    ghost from_own_bytes = { λ a. refl };
-
-    ghost bytes_from = { λ xs. refl };
+// Writes some bytes and then others.
+fn write_slices(front: &[u8], back: &[u8], out: &mut [u8])
+    requires { length out.old ≡ length front.now + length back.now }
+    ensures { out.new ≡ front.now ++ back.now }
+{
+    let (first, last) = out.split_at_mut(front.len());
+    first.copy_from_slice(front);
+    last.copy_from_slice(back);
 }
 
 // Writes the bytes of words in order, four for each, least first.
-fn write_words(words: &[u32], out: &mut [u8])
+pub(crate) fn write_words(words: &[u32], out: &mut [u8])
     requires { length out.old ≡ 4 * length words.now }
-    ensures { out.new ≡ word_bytes words.now }
+    ensures bytes { out.new ≡ word_bytes words.now }
+    ensures fit { All (λ w. w < 2 ^ 32) words.now }
 {
     for (i, word) in words.iter().enumerate() {
         out[4 * i..4 * i + 4].copy_from_slice(&word.to_le_bytes());
     }
 }
 
-// Writes the bytes of words, and then those of a count, least first.
-fn write_core(words: &[u32], count: u64, out: &mut [u8])
-    requires { length out.old ≡ 4 * length words.now + 8 }
-    ensures { out.new ≡ word_bytes words.now ++ eight_bytes count }
-{
-    let end = 4 * words.len();
-    write_words(words, &mut out[..end]);
-    out[end..].copy_from_slice(&count.to_le_bytes());
-}
-
-// Reads words and the count after them, which have these bytes.
-pub(crate) fn read_core(bytes: &[u8], words: &mut [u32]) -> u64
-    requires { length bytes.now ≡ 4 * length words.old + 8 }
-    ensures bytes { word_bytes words.new ++ eight_bytes result ≡ bytes.now }
+// Reads the words that have these bytes.
+pub(crate) fn read_words(bytes: &[u8], words: &mut [u32])
+    requires { length bytes.now ≡ 4 * length words.old }
+    ensures bytes { word_bytes words.new ≡ bytes.now }
     ensures size { length words.new ≡ length words.old }
+    ensures fit { All (λ w. w < 2 ^ 32) words.new }
 {
-    let end = 4 * words.len();
     for (i, word) in words.iter_mut().enumerate() {
         *word = u32::from_le_bytes([
             bytes[4 * i],
@@ -174,7 +108,20 @@ pub(crate) fn read_core(bytes: &[u8], words: &mut [u32]) -> u64
             bytes[4 * i + 3],
         ]);
     }
+    words_fit(words);
+}
+
+// Words are below 2^32.
+fn words_fit(words: &[u32])
+    ensures { All (λ w. w < 2 ^ 32) words.now }
+{}
+
+// Reads the count that has these bytes.
+pub(crate) fn read_count(bytes: &[u8]) -> u64
+    requires { length bytes.now ≡ 8 }
+    ensures { eight_bytes result ≡ bytes.now }
+{
     let mut count = [0; 8];
-    count.copy_from_slice(&bytes[end..]);
+    count.copy_from_slice(bytes);
     u64::from_le_bytes(count)
 }

@@ -1,13 +1,15 @@
-//! The tail of a message, which is its bytes after the last whole block, and the padding.
+//! The tail of a message, which is its bytes after the last whole block, and how it grows and ends.
 
-ghost use Rattle.std.specs.Prelude.{◌≡◌, ℕ, ◌+◌, ◌-◌, ◌%◌, ◌<◌, ◌≤◌, ◌↔◌, List, [], ◌∷◌, ◌++◌, length, take, drop, replicate, SomeIff, IsSome};
+ghost use Rattle.std.specs.Prelude.{◌≡◌, ℕ, ◌+◌, ◌<◌, ◌≤◌, ◌↔◌, List, [], ◌∷◌, ◌++◌, length, take, drop, IfSome, SomeIff, IsSome};
 ghost use Rattle.std.specs.Option.{option_to_list};
-ghost use Rattle.ripemd_block.specs.Standard.Words.{block_size, eight_bytes};
+ghost use Rattle.ripemd_block.specs.Standard.Words.{block_size};
 ghost use Rattle.ripemd_block.specs.Standard.Hashing.{length_place, with_padding};
 ghost use Rattle.ripemd_block.specs.Standard.Hashing.{blocks, partial_block};
 ghost use Rattle.ripemd_block.specs.States.{IsTail};
 
-use crate::block_api::UpdateCore;
+pub use crate::padding::Padded;
+use crate::padding::{last_blocks, whole_blocks};
+use crate::traits::UpdateCore;
 use std::marker::Model;
 
 #[cfg(test)]
@@ -28,15 +30,6 @@ impl Model for Buffer {
     ghost invariant = { λ b. b.len < 64 };
 }
 
-/// The last block or the last two blocks of a padded message.
-#[derive(Clone, Copy, PartialEq, Eq, Debug)]
-pub struct Padded {
-    /// The block that begins with the tail.
-    pub first: [u8; 64],
-    /// The block after it, where the tail has 56 bytes or more.
-    pub second: Option<[u8; 64]>,
-}
-
 impl Default for Buffer {
     ghost is_default = { λ b. b ≡ [] };
 
@@ -51,12 +44,14 @@ impl Default for Buffer {
 impl Buffer {
     /// A buffer that holds these bytes; `None` exactly if there are 64 or more.
     pub fn try_new(bytes: &[u8]) -> Option<Buffer>
-        ensures { SomeIff result (length bytes.now < block_size) bytes.now }
+        ensures value { SomeIff result (length bytes.now < block_size) bytes.now }
+        ensures valid { IfSome result IsTail }
     {
         let len = bytes.len();
         if len >= 64 {
             return None;
         }
+        bytes_fit(bytes);
         let mut all = [0; 64];
         all[..len].copy_from_slice(bytes);
         Some(Buffer { bytes: all, len })
@@ -84,8 +79,11 @@ impl Buffer {
     pub fn get_data(&self) -> &[u8]
         ensures bytes { result.now ≡ self.now }
         ensures small { length result.now < block_size }
+        ensures valid { IsTail self.now }
     {
-        &self.bytes[..self.len]
+        let data = &self.bytes[..self.len];
+        bytes_fit(data);
+        data
     }
 
     /// Takes bytes in behind those that it holds: all whole blocks of both go into the core, in
@@ -141,15 +139,6 @@ fn bytes_fit(tail: &[u8])
     ensures { IsTail tail.now }
 {}
 
-// The whole blocks of some bytes, and the bytes after them.
-pub(crate) fn whole_blocks(bytes: &[u8]) -> (&[[u8; 64]], &[u8])
-    ensures whole { result.0.now ≡ blocks bytes.now }
-    ensures rest { result.1.now ≡ partial_block bytes.now }
-    ensures rest_len { length result.1.now ≡ length bytes.now % block_size }
-{
-    bytes.as_chunks::<64>()
-}
-
 // Puts bytes behind the first `len` of a block.
 fn put_behind(block: &mut [u8; 64], len: usize, bytes: &[u8])
     requires { len + length bytes.now ≤ block_size }
@@ -157,48 +146,4 @@ fn put_behind(block: &mut [u8; 64], len: usize, bytes: &[u8])
         ≡ take len block.old ++ bytes.now ++ drop (len + length bytes.now) block.old }
 {
     block[len..len + bytes.len()].copy_from_slice(bytes);
-}
-
-// The one or two blocks of the tail of a message whose length is `bit_len` bits.
-pub(crate) fn last_blocks(tail: &[u8], bit_len: u64) -> Padded
-    requires { length tail.now < block_size }
-    ensures value { result.first ∷ option_to_list result.second
-        ≡ blocks (with_padding tail.now bit_len) }
-    ensures second { IsSome result.second ↔ (length_place ≤ length tail.now) }
-    ensures valid { IsTail tail.now }
-{
-    let marked = marked_block(tail);
-    if tail.len() < 56 {
-        Padded {
-            first: with_length(&marked, bit_len),
-            second: None,
-        }
-    } else {
-        Padded {
-            first: marked,
-            second: Some(with_length(&[0; 64], bit_len)),
-        }
-    }
-}
-
-// The tail, the byte 0x80, and zero bytes to the end of the block.
-fn marked_block(tail: &[u8]) -> [u8; 64]
-    requires { length tail.now < block_size }
-    ensures block { result ≡ tail.now ++ 0x80 ∷ replicate (63 - length tail.now) 0 }
-    ensures valid { IsTail tail.now }
-{
-    let len = tail.len();
-    let mut block = [0; 64];
-    block[..len].copy_from_slice(tail);
-    block[len] = 0x80;
-    block
-}
-
-// The block with the length of a message in place of its last 8 bytes.
-fn with_length(block: &[u8; 64], bit_len: u64) -> [u8; 64]
-    ensures { result ≡ take length_place block.now ++ eight_bytes bit_len }
-{
-    let mut ended = *block;
-    ended[56..].copy_from_slice(&bit_len.to_le_bytes());
-    ended
 }

@@ -5,7 +5,7 @@ ghost use Rattle.std.specs.Prelude.{◌≡◌};
 ghost use Rattle.ripemd_block.specs.Standard.Compression.{lines_from, joint_state};
 ghost use Rattle.ripemd_block.specs.Standard.Compression.{compress, ripemd128};
 ghost use Rattle.ripemd_block.specs.States.{AreWords};
-ghost use Rattle.ripemd_block.specs.Code.Lines.{four_lefts, four_rights, four_lines};
+ghost use Rattle.ripemd_block.specs.Code.Lines.{four_lefts, four_rights, lines_of_four_registers};
 
 use crate::four_registers::round;
 use crate::message::message_words;
@@ -14,7 +14,7 @@ use crate::pair::Pair;
 // Where the lines start.
 #[inline(always)]
 fn lines_from(state: [u32; 4]) -> [Pair; 4]
-    ensures { four_lines result ≡ lines_from ripemd128 state }
+    ensures { lines_of_four_registers result ≡ lines_from ripemd128 state }
 {
     let [a, b, c, d] = state;
     [

@@ -5,7 +5,7 @@ ghost use Rattle.std.specs.Prelude.{◌≡◌};
 ghost use Rattle.ripemd_block.specs.Standard.Compression.{lines_from, joint_state};
 ghost use Rattle.ripemd_block.specs.Standard.Compression.{compress, ripemd160};
 ghost use Rattle.ripemd_block.specs.States.{AreWords};
-ghost use Rattle.ripemd_block.specs.Code.Lines.{five_lefts, five_rights, five_lines};
+ghost use Rattle.ripemd_block.specs.Code.Lines.{five_lefts, five_rights, lines_of_five_registers};
 
 use crate::five_registers::round;
 use crate::message::message_words;
@@ -14,7 +14,7 @@ use crate::pair::Pair;
 // Where the lines start.
 #[inline(always)]
 fn lines_from(state: [u32; 5]) -> [Pair; 5]
-    ensures { five_lines result ≡ lines_from ripemd160 state }
+    ensures { lines_of_five_registers result ≡ lines_from ripemd160 state }
 {
     let [a, b, c, d, e] = state;
     [

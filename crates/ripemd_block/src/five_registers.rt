@@ -4,11 +4,13 @@
 ghost use Rattle.std.specs.Prelude.{◌≡◌, ◌<◌, ◌≤◌, ◌+◌, ◌-◌, ℕ, List, Some};
 ghost use Rattle.ripemd_block.specs.Standard.Schedule.{boolean_function, left_line, right_line};
 ghost use Rattle.ripemd_block.specs.Standard.Compression.{step, registers_after, round, exchange};
-ghost use Rattle.ripemd_block.specs.Code.Lines.{five_lefts, five_rights, five_lines, message_words};
+ghost use Rattle.ripemd_block.specs.Code.Lines.{five_lefts, five_rights, lines_of_five_registers, message_words};
 
 use crate::message::words_of_step;
 use crate::pair::{DoubledWord, Pair};
-use crate::textbook::{left_constant, left_number, right_constant_of_five, right_number, rotation};
+use crate::textbook::{
+    left_constant, left_number, right_constant_of_five_rounds, right_number, rotation,
+};
 
 // The Boolean functions of round `r`: number `r` of the left words, and number `4 - r` of the right
 // ones, factored so that little waits for `x`, the newest of them.
@@ -38,7 +40,7 @@ fn constants(r: usize) -> Pair
     ensures left { result.left ≡ left_line.constant r }
     ensures right { result.right ≡ (right_line 5).constant r }
 {
-    Pair::of(left_constant(r), right_constant_of_five(r))
+    Pair::of(left_constant(r), right_constant_of_five_rounds(r))
 }
 
 // A step of both lines in round `r`, from the registers A B C D E, with the message words `x`, the
@@ -119,7 +121,8 @@ pub(crate) fn round(r: usize, words: &[DoubledWord; 16], registers: [Pair; 5]) -
 #[inline(always)]
 pub(crate) fn exchange(j: usize, registers: [Pair; 5]) -> [Pair; 5]
     requires { j < 5 }
-    ensures { five_lines result ≡ exchange (Some j) (five_lines registers) }
+    ensures { lines_of_five_registers result
+        ≡ exchange (Some j) (lines_of_five_registers registers) }
 {
     let mut registers = registers;
     registers[j] = registers[j].swap();

@@ -4,11 +4,13 @@
 ghost use Rattle.std.specs.Prelude.{◌≡◌, ◌<◌, ◌≤◌, ◌+◌, ◌-◌, ℕ, List, Some};
 ghost use Rattle.ripemd_block.specs.Standard.Schedule.{boolean_function, left_line, right_line};
 ghost use Rattle.ripemd_block.specs.Standard.Compression.{step, registers_after, round, exchange};
-ghost use Rattle.ripemd_block.specs.Code.Lines.{four_lefts, four_rights, four_lines, message_words};
+ghost use Rattle.ripemd_block.specs.Code.Lines.{four_lefts, four_rights, lines_of_four_registers, message_words};
 
 use crate::message::words_of_step;
 use crate::pair::{DoubledWord, Pair};
-use crate::textbook::{left_constant, left_number, right_constant_of_four, right_number, rotation};
+use crate::textbook::{
+    left_constant, left_number, right_constant_of_four_rounds, right_number, rotation,
+};
 
 // The Boolean functions of round `r`: number `r` of the left words, and number `3 - r` of the right
 // ones, all in the form `(x & m) ^ n`, so that little waits for `x`, the newest of them.
@@ -43,7 +45,7 @@ fn constants(r: usize) -> Pair
     ensures left { result.left ≡ left_line.constant r }
     ensures right { result.right ≡ (right_line 4).constant r }
 {
-    Pair::of(left_constant(r), right_constant_of_four(r))
+    Pair::of(left_constant(r), right_constant_of_four_rounds(r))
 }
 
 // A step of both lines in round `r`, from the registers A B C D, with the message words `x`, the
@@ -124,7 +126,8 @@ pub(crate) fn round(r: usize, words: &[DoubledWord; 16], registers: [Pair; 4]) -
 #[inline(always)]
 pub(crate) fn exchange(j: usize, registers: [Pair; 4]) -> [Pair; 4]
     requires { j < 4 }
-    ensures { four_lines result ≡ exchange (Some j) (four_lines registers) }
+    ensures { lines_of_four_registers result
+        ≡ exchange (Some j) (lines_of_four_registers registers) }
 {
     let mut registers = registers;
     registers[j] = registers[j].swap();

@@ -4,6 +4,7 @@
 
 mod arrays;
 pub mod block_api;
+mod block_core;
 pub mod buffer;
 mod c128;
 mod c160;
@@ -18,4 +19,5 @@ mod pair;
 #[cfg(test)]
 mod tests_by_tables;
 pub mod textbook;
+mod traits;
 mod variants;

@@ -1,13 +1,36 @@
-//! The blocks of a message with its padding, each by its place, so that nothing has to be stored.
+//! The padding, which is that of MD4: the whole blocks of a message, the last blocks, which its tail
+//! and the padding make up, and each of its blocks by its place, so that nothing has to be stored.
 
-ghost use Rattle.std.specs.Prelude.{◌≡◌, length};
+ghost use Rattle.std.specs.Prelude.{◌≡◌, ◌-◌, ◌%◌, ◌<◌, ◌≤◌, ◌↔◌, ◌∷◌, ◌++◌, length, take, replicate, IsSome};
 ghost use Rattle.std.specs.List.{slice_get};
-ghost use Rattle.ripemd_block.specs.Standard.Hashing.{padded_message, blocks};
-
-use crate::buffer::{last_blocks, whole_blocks};
+ghost use Rattle.std.specs.Option.{option_to_list};
+ghost use Rattle.ripemd_block.specs.Standard.Words.{block_size, eight_bytes};
+ghost use Rattle.ripemd_block.specs.Standard.Hashing.{length_place, with_padding};
+ghost use Rattle.ripemd_block.specs.Standard.Hashing.{padded_message, blocks, partial_block};
+ghost use Rattle.ripemd_block.specs.States.{IsTail};
 
 #[cfg(test)]
 mod tests;
+
+/// The last block or the last two blocks of a padded message.
+#[derive(Clone, Copy, PartialEq, Eq, Debug)]
+pub struct Padded {
+    /// The block that begins with the tail.
+    pub first: [u8; 64],
+    /// The block after it, where the tail has 56 bytes or more.
+    pub second: Option<[u8; 64]>,
+}
+
+/// The whole blocks of a message, in order, and its tail, which is its bytes after them: 0 to 63
+/// (1996, with the padding of MD4, which follows the tail). Both stay where they lie.
+#[inline(always)]
+pub fn whole_blocks(message: &[u8]) -> (&[[u8; 64]], &[u8])
+    ensures whole { result.0.now ≡ blocks message.now }
+    ensures tail { result.1.now ≡ partial_block message.now }
+    ensures tail_len { length result.1.now ≡ length message.now % block_size }
+{
+    message.as_chunks::<64>()
+}
 
 /// How many blocks a message has with its padding (1996, with the padding of MD4): its whole blocks
 /// and one more, or two more if its tail has 56 bytes or more.
@@ -34,4 +57,48 @@ pub fn pad_block(message: &[u8], place: usize) -> Option<[u8; 64]>
         1 => padded.second,
         _ => None,
     }
+}
+
+// The one or two blocks of the tail of a message whose length is `bit_len` bits.
+pub(crate) fn last_blocks(tail: &[u8], bit_len: u64) -> Padded
+    requires { length tail.now < block_size }
+    ensures value { result.first ∷ option_to_list result.second
+        ≡ blocks (with_padding tail.now bit_len) }
+    ensures second { IsSome result.second ↔ (length_place ≤ length tail.now) }
+    ensures valid { IsTail tail.now }
+{
+    let marked = marked_block(tail);
+    if tail.len() < 56 {
+        Padded {
+            first: with_length(&marked, bit_len),
+            second: None,
+        }
+    } else {
+        Padded {
+            first: marked,
+            second: Some(with_length(&[0; 64], bit_len)),
+        }
+    }
+}
+
+// The tail, the byte 0x80, and zero bytes to the end of the block.
+fn marked_block(tail: &[u8]) -> [u8; 64]
+    requires { length tail.now < block_size }
+    ensures block { result ≡ tail.now ++ 0x80 ∷ replicate (63 - length tail.now) 0 }
+    ensures valid { IsTail tail.now }
+{
+    let len = tail.len();
+    let mut block = [0; 64];
+    block[..len].copy_from_slice(tail);
+    block[len] = 0x80;
+    block
+}
+
+// The block with the length of a message in place of its last 8 bytes.
+fn with_length(block: &[u8; 64], bit_len: u64) -> [u8; 64]
+    ensures { result ≡ take length_place block.now ++ eight_bytes bit_len }
+{
+    let mut ended = *block;
+    ended[56..].copy_from_slice(&bit_len.to_le_bytes());
+    ended
 }

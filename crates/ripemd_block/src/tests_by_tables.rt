@@ -4,8 +4,8 @@
 ghost use Rattle.std.specs.Prelude.{◌<◌, ◌≤◌};
 
 use crate::textbook::{
-    left_constant, left_number, right_constant_of_five, right_constant_of_four, right_number,
-    rotation,
+    left_constant, left_number, right_constant_of_five_rounds, right_constant_of_four_rounds,
+    right_number, rotation,
 };
 use crate::{c128, c160, c256, c320};
 
@@ -59,9 +59,9 @@ fn lines_after(size: usize, exchanges: &[usize], start: Lines, block: &[u8; 64])
     let mut right = start.right;
     for r in 0..size {
         let right_constant = if size < 5 {
-            right_constant_of_four(r)
+            right_constant_of_four_rounds(r)
         } else {
-            right_constant_of_five(r)
+            right_constant_of_five_rounds(r)
         };
         for i in 0..16 {
             let j = left_number(r, i);

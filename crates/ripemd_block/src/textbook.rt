@@ -35,9 +35,9 @@ static ROTATIONS: [[u32; 16]; 5] = [
 static LEFT_CONSTANTS: [u32; 5] = [0, 0x5a82_7999, 0x6ed9_eba1, 0x8f1b_bcdc, 0xa953_fd4e];
 
 // The constants of the right line's rounds, of which the last has none.
-static RIGHT_CONSTANTS_OF_FIVE: [u32; 5] = [0x50a2_8be6, 0x5c4d_d124, 0x6d70_3ef3, 0x7a6d_76e9, 0];
+static FIVE_RIGHT_CONSTANTS: [u32; 5] = [0x50a2_8be6, 0x5c4d_d124, 0x6d70_3ef3, 0x7a6d_76e9, 0];
 
-static RIGHT_CONSTANTS_OF_FOUR: [u32; 4] = [0x50a2_8be6, 0x5c4d_d124, 0x6d70_3ef3, 0];
+static FOUR_RIGHT_CONSTANTS: [u32; 4] = [0x50a2_8be6, 0x5c4d_d124, 0x6d70_3ef3, 0];
 
 /// The number of the message word that step `i` of round `r` of the left line takes.
 #[inline(always)]
@@ -84,18 +84,18 @@ pub fn left_constant(r: usize) -> u32
 
 /// The constant of round `r` of the right line, of four rounds.
 #[inline(always)]
-pub fn right_constant_of_four(r: usize) -> u32
+pub fn right_constant_of_four_rounds(r: usize) -> u32
     requires { r < 4 }
     ensures { result ≡ (right_line 4).constant r }
 {
-    RIGHT_CONSTANTS_OF_FOUR[r]
+    FOUR_RIGHT_CONSTANTS[r]
 }
 
 /// The constant of round `r` of the right line, of five rounds.
 #[inline(always)]
-pub fn right_constant_of_five(r: usize) -> u32
+pub fn right_constant_of_five_rounds(r: usize) -> u32
     requires { r < 5 }
     ensures { result ≡ (right_line 5).constant r }
 {
-    RIGHT_CONSTANTS_OF_FIVE[r]
+    FIVE_RIGHT_CONSTANTS[r]
 }

@@ -1,302 +1,142 @@
-//! The four variants, and what differs between them: how many words a state has, which these are at
-//! the start, and what a block does to them.
+//! The block functions of the four variants, and their cores.
 
-ghost use Rattle.std.specs.Prelude.{◌≡◌, ℕ, ◌+◌, ◌*◌, ◌^◌, ◌<◌, ◌≤◌, List, ◌++◌, length, codes};
-ghost use Rattle.std.specs.List.{All};
-ghost use Rattle.ripemd_block.specs.Standard.Words.{word_bytes, eight_bytes};
-ghost use Rattle.ripemd_block.specs.Standard.Compression.{Parameters, compress};
+ghost use Rattle.std.specs.Prelude.{◌≡◌, length, codes};
+ghost use Rattle.ripemd_block.specs.Standard.Words.{word_bytes};
+ghost use Rattle.ripemd_block.specs.Standard.Compression.{compress};
 ghost use Rattle.ripemd_block.specs.Standard.Compression.{ripemd128, ripemd160, ripemd256, ripemd320};
-ghost use Rattle.ripemd_block.specs.Standard.Hashing.{walk};
 ghost use Rattle.ripemd_block.specs.States.{AreWords};
 
-use crate::arrays::{self, ByteArray, FromWords, WordArray};
+use crate::arrays::{read_words, write_words};
+use crate::block_core::BlockCore;
+use crate::traits::{AlgorithmName, BlockFunction, HashFunction, ResumableFunction};
 use crate::{c128, c160, c256, c320};
+use std::fmt;
 
-/// What a variant is made of: the words of its state, its digest, and its saved bytes. It has no
-/// functions: those of its types belong to traits that are not exported, so that no other crate can
-/// call them through the bound, but for what every array of bytes has.
-pub trait VariantParts {
-    /// The words of a state.
-    type Words: StateWords;
+/// The block function of RIPEMD-128: four words, and a digest of 16 bytes.
+pub enum Ripemd128Function {}
 
-    /// A digest.
-    type Output: FromWords;
+/// The block function of RIPEMD-160: five words, and a digest of 20 bytes.
+pub enum Ripemd160Function {}
 
-    /// The saved bytes of a core.
-    type SavedCore: FromWords;
+/// The block function of RIPEMD-256: eight words, and a digest of 32 bytes.
+pub enum Ripemd256Function {}
 
-    /// The saved bytes of a hasher.
-    type SavedHasher: ByteArray;
+/// The block function of RIPEMD-320: ten words, and a digest of 40 bytes.
+pub enum Ripemd320Function {}
 
-    // The variant that it is.
-    ghost parameters: { Parameters };
+/// The block core of RIPEMD-128.
+pub type Ripemd128Core = BlockCore<Ripemd128Function>;
 
-    // The characters of its name.
-    ghost name: { List ℕ };
+/// The block core of RIPEMD-160.
+pub type Ripemd160Core = BlockCore<Ripemd160Function>;
 
-    // Its start words are words.
-    ghost start_words: { AreWords (length parameters.start) parameters.start };
+/// The block core of RIPEMD-256.
+pub type Ripemd256Core = BlockCore<Ripemd256Function>;
 
-    // It is the variant of its words.
-    ghost same_parameters: { Self.Words.parameters ≡ parameters };
+/// The block core of RIPEMD-320.
+pub type Ripemd320Core = BlockCore<Ripemd320Function>;
 
-    // That has its name.
-    ghost same_name: { Self.Words.name ≡ name };
+impl BlockFunction for Ripemd128Function {
+    type State = [u32; 4];
 
-    // A digest is the bytes of as many words as the state has.
-    ghost output_size: { Self.Output.LEN ≡ 4 * length parameters.start };
+    type Digest = [u8; 16];
 
-    // That is a block's size at most.
-    ghost output_most: { Self.Output.LEN ≤ 64 };
+    ghost is_state = { AreWords 4 };
 
-    // A core is saved as the bytes of its words and of its count.
-    ghost saved_core_size: { Self.SavedCore.LEN ≡ 4 * length parameters.start + 8 };
+    ghost start_of = { ripemd128.start };
 
-    // A hasher is saved as the bytes of its core and 64 more.
-    ghost saved_hasher_size: { Self.SavedHasher.LEN ≡ Self.SavedCore.LEN + 64 };
+    ghost step_of = { compress ripemd128 };
 
-    // That is 112 bytes at most.
-    ghost saved_hasher_most: { Self.SavedHasher.LEN ≤ 112 };
-}
+    ghost output_of = { word_bytes };
 
-// The words of a state: each variant has its own number of them. Not exported, so that no other
-// crate can call it.
-pub trait StateWords: WordArray {
-    // The variant that has this many.
-    ghost parameters: { Parameters };
-
-    // The characters of its name.
-    ghost name: { List ℕ };
-
-    // The name, as a constant: no contract knows the value of one.
-    const NAME: &'static str;
-
-    // The name.
-    fn alg_name() -> &'static str
-        ensures { result.now ≡ name };
-
-    // The start words.
-    fn start() -> Self
-        ensures { Self.list result ≡ parameters.start };
-
-    // Takes one block into the words.
-    fn compress(&mut self, block: &[u8; 64])
-        ensures state { Self.list self.new ≡ compress parameters (Self.list self.old) block.now }
-        ensures old_words { AreWords (length parameters.start) (Self.list self.old) }
-        ensures new_words { AreWords (length parameters.start) (Self.list self.new) };
-
-    // The words.
-    fn as_words(&self) -> &[u32]
-        ensures words { result.now ≡ Self.list self.now }
-        ensures valid { AreWords (length parameters.start) (Self.list self.now) };
-
-    // The words and the count that have these bytes.
-    fn load(bytes: &[u8]) -> (Self, u64)
-        requires { length bytes.now ≡ 4 * length parameters.start + 8 }
-        ensures bytes { word_bytes (Self.list result.0) ++ eight_bytes result.1 ≡ bytes.now }
-        ensures valid { AreWords (length parameters.start) (Self.list result.0) };
-}
-
-// Takes blocks into the words, in order.
-pub(crate) fn walk<W: StateWords>(words: &mut W, blocks: &[[u8; 64]])
-    ensures walk { W.list words.new ≡ walk (compress W.parameters) (W.list words.old) blocks.now }
-    ensures old_words { AreWords (length W.parameters.start) (W.list words.old) }
-    ensures new_words { AreWords (length W.parameters.start) (W.list words.new) }
-{
-    // What they are before the first block.
-    words.as_words();
-    for block in blocks {
-        words.compress(block);
-    }
-}
-
-/// RIPEMD-128: four words, and a digest of 16 bytes.
-pub enum R128 {}
-
-impl VariantParts for R128 {
-    type Words = [u32; 4];
-
-    type Output = [u8; 16];
-
-    type SavedCore = [u8; 24];
-
-    type SavedHasher = [u8; 88];
-
-    ghost parameters = { ripemd128 };
-
-    ghost name = { codes "Ripemd128" };
-
-    ghost use Rattle.std.proofs.Common.{refl, rules};
-    ghost use Rattle.ripemd_block.specs.Laws.Starting.{start_words_128};
-
-    ghost start_words = { start_words_128 };
-
-    ghost same_parameters = { refl };
-
-    ghost same_name = { refl };
-
-    ghost output_size = { refl };
-
-    ghost output_most = { Prim.search rules };
-
-    ghost saved_core_size = { refl };
-
-    ghost saved_hasher_size = { refl };
-
-    ghost saved_hasher_most = { Prim.search rules };
-}
-
-/// RIPEMD-160: five words, and a digest of 20 bytes.
-pub enum R160 {}
-
-impl VariantParts for R160 {
-    type Words = [u32; 5];
-
-    type Output = [u8; 20];
-
-    type SavedCore = [u8; 28];
-
-    type SavedHasher = [u8; 92];
-
-    ghost parameters = { ripemd160 };
-
-    ghost name = { codes "Ripemd160" };
-
-    ghost use Rattle.std.proofs.Common.{refl, rules};
-    ghost use Rattle.ripemd_block.specs.Laws.Starting.{start_words_160};
-
-    ghost start_words = { start_words_160 };
-
-    ghost same_parameters = { refl };
-
-    ghost same_name = { refl };
-
-    ghost output_size = { refl };
-
-    ghost output_most = { Prim.search rules };
-
-    ghost saved_core_size = { refl };
-
-    ghost saved_hasher_size = { refl };
-
-    ghost saved_hasher_most = { Prim.search rules };
-}
-
-/// RIPEMD-256: eight words, and a digest of 32 bytes.
-pub enum R256 {}
-
-impl VariantParts for R256 {
-    type Words = [u32; 8];
-
-    type Output = [u8; 32];
-
-    type SavedCore = [u8; 40];
-
-    type SavedHasher = [u8; 104];
-
-    ghost parameters = { ripemd256 };
-
-    ghost name = { codes "Ripemd256" };
-
-    ghost use Rattle.std.proofs.Common.{refl, rules};
-    ghost use Rattle.ripemd_block.specs.Laws.Starting.{start_words_256};
-
-    ghost start_words = { start_words_256 };
-
-    ghost same_parameters = { refl };
-
-    ghost same_name = { refl };
-
-    ghost output_size = { refl };
-
-    ghost output_most = { Prim.search rules };
-
-    ghost saved_core_size = { refl };
-
-    ghost saved_hasher_size = { refl };
-
-    ghost saved_hasher_most = { Prim.search rules };
-}
-
-/// RIPEMD-320: ten words, and a digest of 40 bytes.
-pub enum R320 {}
-
-impl VariantParts for R320 {
-    type Words = [u32; 10];
-
-    type Output = [u8; 40];
-
-    type SavedCore = [u8; 48];
-
-    type SavedHasher = [u8; 112];
-
-    ghost parameters = { ripemd320 };
-
-    ghost name = { codes "Ripemd320" };
-
-    ghost use Rattle.std.proofs.Common.{refl, rules};
-    ghost use Rattle.ripemd_block.specs.Laws.Starting.{start_words_320};
-
-    ghost start_words = { start_words_320 };
-
-    ghost same_parameters = { refl };
-
-    ghost same_name = { refl };
-
-    ghost output_size = { refl };
-
-    ghost output_most = { Prim.search rules };
-
-    ghost saved_core_size = { refl };
-
-    ghost saved_hasher_size = { refl };
-
-    ghost saved_hasher_most = { Prim.search rules };
-}
-
-impl StateWords for [u32; 4] {
-    ghost parameters = { ripemd128 };
-
-    ghost name = { codes "Ripemd128" };
-
-    const NAME: &'static str = "Ripemd128";
-
-    fn alg_name() -> &'static str {
-        "Ripemd128"
-    }
-
+    #[tactic(auto, using(crate::specs::Laws::Starting::start_words_128))]
     fn start() -> [u32; 4] {
         [0x6745_2301, 0xefcd_ab89, 0x98ba_dcfe, 0x1032_5476]
     }
 
-    fn compress(&mut self, block: &[u8; 64]) {
-        c128::compress(self, block);
+    #[inline(always)]
+    fn step(state: [u32; 4], block: &[u8; 64]) -> [u32; 4] {
+        let mut words = state;
+        c128::compress(&mut words, block);
+        words
     }
 
-    fn as_words(&self) -> &[u32] {
-        words_fit(self);
-        self
+    fn output(state: [u32; 4]) -> [u8; 16] {
+        let mut digest = [0; 16];
+        write_words(&state, &mut digest);
+        digest
     }
 
-    fn load(bytes: &[u8]) -> ([u32; 4], u64) {
+    ghost use Rattle.ripemd_block.specs.Laws.WordBytes.{one_list};
+    ghost use Rattle.ripemd_block.specs.Laws.Arrays.{equal_words};
+
+    ghost one_output = { one_list 4 };
+
+    ghost same_state = { equal_words };
+}
+
+impl HashFunction for Ripemd128Function {
+    ghost list = { λ words. words };
+
+    ghost are_words = { AreWords 4 };
+
+    ghost step = { compress ripemd128 };
+
+    ghost output = { word_bytes };
+
+    ghost use Rattle.std.proofs.Common.{rules};
+    ghost use Rattle.ripemd_block.specs.Listed.{of_arrays};
+
+    ghost over_lists = { of_arrays };
+
+    ghost digest_most = { Prim.search rules };
+}
+
+impl ResumableFunction for Ripemd128Function {
+    type SavedCore = [u8; 24];
+
+    type SavedHasher = [u8; 88];
+
+    fn from_output(output: [u8; 16]) -> Option<[u32; 4]> {
         let mut words = [0; 4];
-        let count = arrays::read_core(bytes, &mut words);
-        words_fit(&words);
-        (words, count)
+        read_words(&output, &mut words);
+        Some(words)
+    }
+
+    ghost use Rattle.std.specs.Prelude.{refl};
+    ghost use Rattle.ripemd_block.specs.Laws.Saving.{words_told};
+
+    ghost tells_words = { words_told 4 };
+
+    ghost saved_core_size = { refl };
+
+    ghost saved_hasher_size = { refl };
+}
+
+impl AlgorithmName for Ripemd128Function {
+    ghost name = { codes "Ripemd128" };
+
+    const ALG_NAME: &'static str = "Ripemd128";
+
+    fn write_alg_name<W: fmt::Write>(f: &mut fmt::Formatter<W>) -> fmt::Result {
+        f.write_str("Ripemd128")
     }
 }
 
-impl StateWords for [u32; 5] {
-    ghost parameters = { ripemd160 };
+impl BlockFunction for Ripemd160Function {
+    type State = [u32; 5];
 
-    ghost name = { codes "Ripemd160" };
+    type Digest = [u8; 20];
 
-    const NAME: &'static str = "Ripemd160";
+    ghost is_state = { AreWords 5 };
 
-    fn alg_name() -> &'static str {
-        "Ripemd160"
-    }
+    ghost start_of = { ripemd160.start };
 
+    ghost step_of = { compress ripemd160 };
+
+    ghost output_of = { word_bytes };
+
+    #[tactic(auto, using(crate::specs::Laws::Starting::start_words_160))]
     fn start() -> [u32; 5] {
         [
             0x6745_2301,
@@ -307,34 +147,89 @@ impl StateWords for [u32; 5] {
         ]
     }
 
-    fn compress(&mut self, block: &[u8; 64]) {
-        c160::compress(self, block);
+    #[inline(always)]
+    fn step(state: [u32; 5], block: &[u8; 64]) -> [u32; 5] {
+        let mut words = state;
+        c160::compress(&mut words, block);
+        words
     }
 
-    fn as_words(&self) -> &[u32] {
-        words_fit(self);
-        self
+    fn output(state: [u32; 5]) -> [u8; 20] {
+        let mut digest = [0; 20];
+        write_words(&state, &mut digest);
+        digest
     }
 
-    fn load(bytes: &[u8]) -> ([u32; 5], u64) {
+    ghost use Rattle.ripemd_block.specs.Laws.WordBytes.{one_list};
+    ghost use Rattle.ripemd_block.specs.Laws.Arrays.{equal_words};
+
+    ghost one_output = { one_list 5 };
+
+    ghost same_state = { equal_words };
+}
+
+impl HashFunction for Ripemd160Function {
+    ghost list = { λ words. words };
+
+    ghost are_words = { AreWords 5 };
+
+    ghost step = { compress ripemd160 };
+
+    ghost output = { word_bytes };
+
+    ghost use Rattle.std.proofs.Common.{rules};
+    ghost use Rattle.ripemd_block.specs.Listed.{of_arrays};
+
+    ghost over_lists = { of_arrays };
+
+    ghost digest_most = { Prim.search rules };
+}
+
+impl ResumableFunction for Ripemd160Function {
+    type SavedCore = [u8; 28];
+
+    type SavedHasher = [u8; 92];
+
+    fn from_output(output: [u8; 20]) -> Option<[u32; 5]> {
         let mut words = [0; 5];
-        let count = arrays::read_core(bytes, &mut words);
-        words_fit(&words);
-        (words, count)
+        read_words(&output, &mut words);
+        Some(words)
+    }
+
+    ghost use Rattle.std.specs.Prelude.{refl};
+    ghost use Rattle.ripemd_block.specs.Laws.Saving.{words_told};
+
+    ghost tells_words = { words_told 5 };
+
+    ghost saved_core_size = { refl };
+
+    ghost saved_hasher_size = { refl };
+}
+
+impl AlgorithmName for Ripemd160Function {
+    ghost name = { codes "Ripemd160" };
+
+    const ALG_NAME: &'static str = "Ripemd160";
+
+    fn write_alg_name<W: fmt::Write>(f: &mut fmt::Formatter<W>) -> fmt::Result {
+        f.write_str("Ripemd160")
     }
 }
 
-impl StateWords for [u32; 8] {
-    ghost parameters = { ripemd256 };
+impl BlockFunction for Ripemd256Function {
+    type State = [u32; 8];
 
-    ghost name = { codes "Ripemd256" };
+    type Digest = [u8; 32];
 
-    const NAME: &'static str = "Ripemd256";
+    ghost is_state = { AreWords 8 };
 
-    fn alg_name() -> &'static str {
-        "Ripemd256"
-    }
+    ghost start_of = { ripemd256.start };
 
+    ghost step_of = { compress ripemd256 };
+
+    ghost output_of = { word_bytes };
+
+    #[tactic(auto, using(crate::specs::Laws::Starting::start_words_256))]
     fn start() -> [u32; 8] {
         [
             0x6745_2301,
@@ -348,34 +243,89 @@ impl StateWords for [u32; 8] {
         ]
     }
 
-    fn compress(&mut self, block: &[u8; 64]) {
-        c256::compress(self, block);
+    #[inline(always)]
+    fn step(state: [u32; 8], block: &[u8; 64]) -> [u32; 8] {
+        let mut words = state;
+        c256::compress(&mut words, block);
+        words
     }
 
-    fn as_words(&self) -> &[u32] {
-        words_fit(self);
-        self
+    fn output(state: [u32; 8]) -> [u8; 32] {
+        let mut digest = [0; 32];
+        write_words(&state, &mut digest);
+        digest
     }
 
-    fn load(bytes: &[u8]) -> ([u32; 8], u64) {
+    ghost use Rattle.ripemd_block.specs.Laws.WordBytes.{one_list};
+    ghost use Rattle.ripemd_block.specs.Laws.Arrays.{equal_words};
+
+    ghost one_output = { one_list 8 };
+
+    ghost same_state = { equal_words };
+}
+
+impl HashFunction for Ripemd256Function {
+    ghost list = { λ words. words };
+
+    ghost are_words = { AreWords 8 };
+
+    ghost step = { compress ripemd256 };
+
+    ghost output = { word_bytes };
+
+    ghost use Rattle.std.proofs.Common.{rules};
+    ghost use Rattle.ripemd_block.specs.Listed.{of_arrays};
+
+    ghost over_lists = { of_arrays };
+
+    ghost digest_most = { Prim.search rules };
+}
+
+impl ResumableFunction for Ripemd256Function {
+    type SavedCore = [u8; 40];
+
+    type SavedHasher = [u8; 104];
+
+    fn from_output(output: [u8; 32]) -> Option<[u32; 8]> {
         let mut words = [0; 8];
-        let count = arrays::read_core(bytes, &mut words);
-        words_fit(&words);
-        (words, count)
+        read_words(&output, &mut words);
+        Some(words)
+    }
+
+    ghost use Rattle.std.specs.Prelude.{refl};
+    ghost use Rattle.ripemd_block.specs.Laws.Saving.{words_told};
+
+    ghost tells_words = { words_told 8 };
+
+    ghost saved_core_size = { refl };
+
+    ghost saved_hasher_size = { refl };
+}
+
+impl AlgorithmName for Ripemd256Function {
+    ghost name = { codes "Ripemd256" };
+
+    const ALG_NAME: &'static str = "Ripemd256";
+
+    fn write_alg_name<W: fmt::Write>(f: &mut fmt::Formatter<W>) -> fmt::Result {
+        f.write_str("Ripemd256")
     }
 }
 
-impl StateWords for [u32; 10] {
-    ghost parameters = { ripemd320 };
+impl BlockFunction for Ripemd320Function {
+    type State = [u32; 10];
 
-    ghost name = { codes "Ripemd320" };
+    type Digest = [u8; 40];
 
-    const NAME: &'static str = "Ripemd320";
+    ghost is_state = { AreWords 10 };
 
-    fn alg_name() -> &'static str {
-        "Ripemd320"
-    }
+    ghost start_of = { ripemd320.start };
 
+    ghost step_of = { compress ripemd320 };
+
+    ghost output_of = { word_bytes };
+
+    #[tactic(auto, using(crate::specs::Laws::Starting::start_words_320))]
     fn start() -> [u32; 10] {
         [
             0x6745_2301,
@@ -391,24 +341,71 @@ impl StateWords for [u32; 10] {
         ]
     }
 
-    fn compress(&mut self, block: &[u8; 64]) {
-        c320::compress(self, block);
+    #[inline(always)]
+    fn step(state: [u32; 10], block: &[u8; 64]) -> [u32; 10] {
+        let mut words = state;
+        c320::compress(&mut words, block);
+        words
     }
 
-    fn as_words(&self) -> &[u32] {
-        words_fit(self);
-        self
+    fn output(state: [u32; 10]) -> [u8; 40] {
+        let mut digest = [0; 40];
+        write_words(&state, &mut digest);
+        digest
     }
 
-    fn load(bytes: &[u8]) -> ([u32; 10], u64) {
-        let mut words = [0; 10];
-        let count = arrays::read_core(bytes, &mut words);
-        words_fit(&words);
-        (words, count)
-    }
+    ghost use Rattle.ripemd_block.specs.Laws.WordBytes.{one_list};
+    ghost use Rattle.ripemd_block.specs.Laws.Arrays.{equal_words};
+
+    ghost one_output = { one_list 10 };
+
+    ghost same_state = { equal_words };
 }
 
-// Words are below 2^32.
-fn words_fit(words: &[u32])
-    ensures { All (λ w. w < 2 ^ 32) words.now }
-{}
+impl HashFunction for Ripemd320Function {
+    ghost list = { λ words. words };
+
+    ghost are_words = { AreWords 10 };
+
+    ghost step = { compress ripemd320 };
+
+    ghost output = { word_bytes };
+
+    ghost use Rattle.std.proofs.Common.{rules};
+    ghost use Rattle.ripemd_block.specs.Listed.{of_arrays};
+
+    ghost over_lists = { of_arrays };
+
+    ghost digest_most = { Prim.search rules };
+}
+
+impl ResumableFunction for Ripemd320Function {
+    type SavedCore = [u8; 48];
+
+    type SavedHasher = [u8; 112];
+
+    fn from_output(output: [u8; 40]) -> Option<[u32; 10]> {
+        let mut words = [0; 10];
+        read_words(&output, &mut words);
+        Some(words)
+    }
+
+    ghost use Rattle.std.specs.Prelude.{refl};
+    ghost use Rattle.ripemd_block.specs.Laws.Saving.{words_told};
+
+    ghost tells_words = { words_told 10 };
+
+    ghost saved_core_size = { refl };
+
+    ghost saved_hasher_size = { refl };
+}
+
+impl AlgorithmName for Ripemd320Function {
+    ghost name = { codes "Ripemd320" };
+
+    const ALG_NAME: &'static str = "Ripemd320";
+
+    fn write_alg_name<W: fmt::Write>(f: &mut fmt::Formatter<W>) -> fmt::Result {
+        f.write_str("Ripemd320")
+    }
+}

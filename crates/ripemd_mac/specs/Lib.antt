@@ -2,5 +2,3 @@
 pub mod Keyed
 -- To what collisions two texts with one tag lead.
 pub mod MacCollisions
--- The block function of the tests.
-pub mod Sums

@@ -75,7 +75,6 @@ pub fn mac_collision<D: BlockDigest>(
 }
 
 // The digest of a masked key and then some bytes.
-#[tactic(auto, using(ripemd::specs::Laws::fed_twice, ripemd::specs::Laws::finish_fed))]
 fn prefixed_digest<D: BlockDigest>(masked_key: &[u8; 64], bytes: &[u8]) -> D::Output
     ensures { D.bytes_of result ≡ hash D.start D.step D.output (masked_key.now ++ bytes.now) }
 {

@@ -29,7 +29,6 @@ pub fn digests_of(message: &[u8]) -> ([u8; 16], [u8; 20], [u8; 32], [u8; 40])
 }
 
 /// The RIPEMD-160 digest of a message that comes in three pieces.
-#[tactic(auto, using(ripemd::specs::Laws::fed_twice, ripemd::specs::Laws::finish_fed))]
 pub fn digest_of_three(first: &[u8], second: &[u8], third: &[u8]) -> [u8; 20]
     ensures { result ≡ ripemd ripemd160 (first.now ++ second.now ++ third.now) }
 {
@@ -52,7 +51,6 @@ pub fn has_digest(message: &[u8], expected: &[u8; 20]) -> bool
 ghost use Rattle.ripemd.specs.Standard.Hashing.{hash};
 
 /// The digest of a prefix and then a message, by any hash function.
-#[tactic(auto, using(ripemd::specs::Laws::fed_twice, ripemd::specs::Laws::finish_fed))]
 pub fn prefixed_digest<D: Digest>(prefix: &[u8], message: &[u8]) -> D::Output
     ensures { D.bytes_of result ≡ hash D.start D.step D.output (prefix.now ++ message.now) }
 {
@@ -142,6 +140,15 @@ pub fn saved_has_digest(
     Ok(digest == *expected)
 }
 
+/// The digest of a message in two pieces, put aside between them, by any hash function.
+pub fn digest_put_aside<D: Digest + SerializableState>(first: &[u8], second: &[u8]) -> D::Output
+    ensures { D.bytes_of result ≡ hash D.start D.step D.output (first.now ++ second.now) }
+{
+    let saved = D::new_with_prefix(first).serialize();
+    let hasher = D::deserialize(&saved).unwrap();
+    hasher.chain_update(second).finalize()
+}
+
 ghost use Rattle.std.specs.Prelude.{ℕ, ◌<◌, ◌≤◌, length, IfSome, IfNone, OnErr};
 ghost use Rattle.std.specs.Io.KnownBytes.{Consumes, IsAtEnd};
 
@@ -202,45 +209,46 @@ pub fn collision_of_160(a: &[u8], b: &[u8]) -> Option<Collision<[u32; 5]>>
     collision_witness::<Ripemd160Core>(a, b)
 }
 
-ghost use Rattle.std.specs.Prelude.{⊤, slice_index, bit_xor};
+ghost use Rattle.std.specs.Prelude.{◌∷◌, ℕ, slice_index, bit_xor};
 ghost use Rattle.ripemd.specs.Standard.Hashing.{padded_message, blocks};
 ghost use Rattle.ripemd.specs.Collisions.{CollideAt};
 
 use ripemd::witness::BlockFunction;
 
-/// A block function that is easy to break: it reads the first byte of each block alone.
+/// A block function that is easy to break: its state is a byte, and it reads the first byte of each
+/// block alone.
 pub enum FirstBytes {}
 
 impl BlockFunction for FirstBytes {
-    type State = u8;
+    type State = [u8; 1];
 
-    type Digest = u8;
+    type Digest = [u8; 1];
 
-    ghost is_state = { λ _. ⊤ };
+    ghost is_state = { λ state. length state ≡ 1 };
 
-    ghost start_of = { 0 };
+    ghost start_of = { 0 ∷ [] };
 
-    ghost step_of = { λ state block. bit_xor state (slice_index block 0) };
+    ghost step_of = { λ state block. bit_xor (slice_index state 0) (slice_index block 0) ∷ [] };
 
     ghost output_of = { λ state. state };
 
-    fn start() -> u8 {
-        0
+    fn start() -> [u8; 1] {
+        [0]
     }
 
-    fn step(state: u8, block: &[u8; 64]) -> u8 {
-        state ^ block[0]
+    fn step(state: [u8; 1], block: &[u8; 64]) -> [u8; 1] {
+        [state[0] ^ block[0]]
     }
 
-    fn output(state: u8) -> u8 {
+    fn output(state: [u8; 1]) -> [u8; 1] {
         state
     }
 
-    ghost use Rattle.std.proofs.lemmas.Bool.{eqb-true};
+    ghost use Rattle.std.proofs.lemmas.Slice.Eq.{bytes_eq-Decides};
 
     ghost one_output = { λ s t _ _ same. same };
 
-    ghost same_state = { eqb-true };
+    ghost same_state = { λ s t same. (bytes_eq-Decides s t).0 same };
 }
 
 /// Where the walks of two messages through this block function collide.
@@ -248,9 +256,89 @@ pub fn places_of_collision(a: &[u8], b: &[u8]) -> Option<(usize, usize)>
     requires a_short { length a.now < 2 ^ 61 }
     requires b_short { length b.now < 2 ^ 61 }
     ensures { IfSome result (λ places.
-        CollideAt 0 (λ state block. bit_xor state (slice_index block 0))
+        CollideAt (0 ∷ []) (λ state block. bit_xor (slice_index state 0) (slice_index block 0) ∷ [])
         (blocks (padded_message a.now)) (blocks (padded_message b.now)) places.0 places.1) }
 {
     let collision = collision_witness::<FirstBytes>(a, b)?;
     Some((collision.left.place, collision.right.place))
+}
+
+use ripemd::{BlockHasher, HashFunction};
+
+/// Its hasher.
+pub type Toy = BlockHasher<FirstBytes>;
+
+impl HashFunction for FirstBytes {
+    ghost list = { λ state. state };
+
+    ghost are_words = { Self.is_state };
+
+    ghost step = { Self.step_of };
+
+    ghost output = { Self.output_of };
+
+    ghost use Rattle.std.proofs.Common.{rules};
+    ghost use Rattle.ripemd.specs.Listed.{of_arrays};
+
+    ghost over_lists = { of_arrays };
+
+    ghost digest_most = { Prim.search rules };
+}
+
+/// The toy digest of a message that comes in two pieces.
+pub fn toy_digest(first: &[u8], second: &[u8]) -> [u8; 1]
+    ensures { result ≡ hash (0 ∷ [])
+        (λ state block. bit_xor (slice_index state 0) (slice_index block 0) ∷ []) (λ state. state)
+        (first.now ++ second.now) }
+{
+    Toy::new_with_prefix(first).chain_update(second).finalize()
+}
+
+use ripemd::ResumableFunction;
+
+impl ResumableFunction for FirstBytes {
+    type SavedCore = [u8; 9];
+
+    type SavedHasher = [u8; 73];
+
+    fn from_output(output: [u8; 1]) -> Option<[u8; 1]> {
+        Some(output)
+    }
+
+    ghost use Rattle.std.specs.Prelude.{refl};
+
+    ghost tells_words = { record { size = λ xs valid. valid; one = λ xs ys _ _ same. same } };
+
+    ghost saved_core_size = { refl };
+
+    ghost saved_hasher_size = { refl };
+}
+
+/// The same, by the toy.
+pub fn toy_put_aside(first: &[u8], second: &[u8]) -> [u8; 1]
+    ensures { result ≡ hash (0 ∷ [])
+        (λ state block. bit_xor (slice_index state 0) (slice_index block 0) ∷ []) (λ state. state)
+        (first.now ++ second.now) }
+{
+    digest_put_aside::<Toy>(first, second)
+}
+
+ghost use Rattle.ripemd.specs.States.{IsUnderWay, core_and_tail};
+ghost use Rattle.ripemd.specs.Replay.{Gives};
+
+use ripemd::replay::{Command, ReplayError, replay};
+use std::alloc::Global;
+
+/// The toy digests of a list of commands.
+///
+/// # Errors
+///
+/// Those of `replay`.
+pub fn toy_replay(alloc: Global, commands: &[Command]) -> Result<Vec<[u8; 1]>, ReplayError>
+    ensures { IfOk result (λ digests. Gives (0 ∷ [])
+        (λ state block. bit_xor (slice_index state 0) (slice_index block 0) ∷ []) (λ state. state)
+        (IsUnderWay (λ state. length state ≡ 1)) (core_and_tail (λ state. state))
+        commands.now digests.items) }
+{
+    replay::<Toy>(alloc, commands)
 }

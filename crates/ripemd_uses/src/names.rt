@@ -2,17 +2,18 @@
 // which a caller in another crate writes it, used at least once.
 
 use ripemd::block_api::{
-    AlgorithmName, BlockFunction, BlockSizeUser, BufferKindUser, ByteArray, DeserializeStateError,
-    Eager, FixedOutputCore, HashMarker, HashMeaning, OutputSizeUser, R128, R160, R256, R320, Reset,
-    Ripemd128Core, Ripemd160Core, Ripemd256Core, Ripemd320Core, RipemdCore, SerializableState,
-    UpdateCore, VariantParts,
+    AlgorithmName, BlockCore, BlockFunction, BlockSizeUser, BufferKindUser, ByteArray,
+    DeserializeStateError, Eager, FixedOutputCore, HashMarker, HashMeaning, OutputSizeUser, Reset,
+    ResumableFunction, Ripemd128Core, Ripemd128Function, Ripemd160Core, Ripemd160Function,
+    Ripemd256Core, Ripemd256Function, Ripemd320Core, Ripemd320Function, SerializableState,
+    UpdateCore,
 };
 use ripemd::buffer::{Buffer, Padded};
 use ripemd::digest::BlockDigest;
-use ripemd::padding::{block_count, pad_block};
+use ripemd::padding::{block_count, pad_block, whole_blocks};
 use ripemd::replay::{Command, ReplayError, replay};
 use ripemd::witness::{Collision, Meeting, check_collision, collision_witness};
-use ripemd::{Digest, Ripemd128, Ripemd160, Ripemd256, Ripemd320, RipemdHasher};
+use ripemd::{BlockHasher, Digest, Ripemd128, Ripemd160, Ripemd256, Ripemd320};
 use ripemd_batch::{BatchDigest, digest_each};
 use ripemd_block::textbook;
 use ripemd_mac::{Hmac, MacCollision, mac_collision};
@@ -32,18 +33,12 @@ const ABC_320: &str =
 // Whether the bytes are these digits in lower case hexadecimal, two for each.
 fn is_written(bytes: &[u8], digits: &str) -> bool {
     let signs = b"0123456789abcdef";
-    let digits = digits.as_bytes();
-    if digits.len() / 2 != bytes.len() || digits.len() % 2 != 0 {
-        return false;
-    }
-    for (i, byte) in bytes.iter().enumerate() {
-        let high = signs[(*byte / 16) as usize];
-        let low = signs[(*byte % 16) as usize];
-        if digits[2 * i] != high || digits[2 * i + 1] != low {
-            return false;
-        }
-    }
-    true
+    let (pairs, rest) = digits.as_bytes().as_chunks::<2>();
+    rest.is_empty()
+        && pairs.len() == bytes.len()
+        && pairs.iter().zip(bytes).all(|(pair, byte)| {
+            *pair == [signs[(byte / 16) as usize], signs[(byte % 16) as usize]]
+        })
 }
 
 // Whether each way of hashing "abc" by a hasher gives this digest, and each call leaves the hasher
@@ -86,8 +81,8 @@ fn digests(rt: HostRuntime) {
 
 // Whether the other traits of a hasher keep what it was fed, "abc" with this digest, in so many
 // bytes where it is saved.
-fn keeps_abc<V: VariantParts>(digits: &str, saved_size: usize) -> bool {
-    let mut hasher = RipemdHasher::<V>::default();
+fn keeps_abc<F: ResumableFunction>(digits: &str, saved_size: usize) -> bool {
+    let mut hasher = BlockHasher::<F>::default();
     hasher.update(b"abc");
     let Ok(clone) = hasher.clone() else {
         return false;
@@ -95,13 +90,13 @@ fn keeps_abc<V: VariantParts>(digits: &str, saved_size: usize) -> bool {
     let saved = hasher.serialize();
     Reset::reset(&mut hasher);
     hasher.update(b"abc");
-    let Ok(loaded) = RipemdHasher::<V>::deserialize(&saved) else {
+    let Ok(loaded) = BlockHasher::<F>::deserialize(&saved) else {
         return false;
     };
-    let Ok(loaded_slice) = RipemdHasher::<V>::load_slice(saved.as_bytes()) else {
+    let Ok(loaded_slice) = BlockHasher::<F>::load_slice(saved.as_bytes()) else {
         return false;
     };
-    let is_abc = |digest: &V::Output| is_written(digest.as_bytes(), digits);
+    let is_abc = |digest: &F::Digest| is_written(digest.as_bytes(), digits);
     let digests = (
         clone.finalize(),
         hasher.finalize(),
@@ -113,17 +108,16 @@ fn keeps_abc<V: VariantParts>(digits: &str, saved_size: usize) -> bool {
         && is_abc(&digests.2)
         && is_abc(&digests.3)
         && saved.as_bytes().len() == saved_size
-        && RipemdHasher::<V>::load_slice(&saved.as_bytes()[1..]).err()
-            == Some(DeserializeStateError)
-        && RipemdHasher::<V>::BLOCK_SIZE == 64
+        && BlockHasher::<F>::load_slice(&saved.as_bytes()[1..]).err() == Some(DeserializeStateError)
+        && BlockHasher::<F>::BLOCK_SIZE == 64
 }
 
 #[test]
 fn hashers(rt: HostRuntime) {
-    assert!(rt; keeps_abc::<R128>(ABC_128, 88));
-    assert!(rt; keeps_abc::<R160>(ABC_160, 92));
-    assert!(rt; keeps_abc::<R256>(ABC_256, 104));
-    assert!(rt; keeps_abc::<R320>(ABC_320, 112));
+    assert!(rt; keeps_abc::<Ripemd128Function>(ABC_128, 88));
+    assert!(rt; keeps_abc::<Ripemd160Function>(ABC_160, 92));
+    assert!(rt; keeps_abc::<Ripemd256Function>(ABC_256, 104));
+    assert!(rt; keeps_abc::<Ripemd320Function>(ABC_320, 112));
     assert_eq!(rt; Ripemd128::OID, "1.3.36.3.2.2");
     assert_eq!(rt; Ripemd160::OID, "1.3.36.3.2.1");
     assert_eq!(rt; Ripemd256::OID, "1.3.36.3.2.3");
@@ -143,18 +137,18 @@ where
 }
 
 // Whether a core and its copies give this digest of "abc", and are saved in so many bytes.
-fn core_hashes_abc<V: VariantParts>(digits: &str, saved_size: usize) -> bool {
-    let mut core = RipemdCore::<V>::default();
+fn core_hashes_abc<F: ResumableFunction>(digits: &str, saved_size: usize) -> bool {
+    let mut core = BlockCore::<F>::default();
     core.update_blocks(&[[0; 64]]);
     let Ok(mut used) = core.clone() else {
         return false;
     };
     used.reset();
     let saved = used.serialize();
-    let Ok(mut loaded) = RipemdCore::<V>::load_slice(saved.as_bytes()) else {
+    let Ok(mut loaded) = BlockCore::<F>::load_slice(saved.as_bytes()) else {
         return false;
     };
-    let Ok(again) = RipemdCore::<V>::deserialize(&saved) else {
+    let Ok(again) = BlockCore::<F>::deserialize(&saved) else {
         return false;
     };
     let mut copy = again.duplicate();
@@ -164,23 +158,24 @@ fn core_hashes_abc<V: VariantParts>(digits: &str, saved_size: usize) -> bool {
         return false;
     }
     let mut other = buffer.duplicate();
-    let mut first = V::Output::zeros();
+    let mut first = F::Digest::zeros();
     loaded.finalize_fixed_core(&mut buffer, &mut first);
-    let mut second = V::Output::zeros();
+    let mut second = F::Digest::zeros();
     copy.finalize_fixed_core(&mut other, &mut second);
     is_written(first.as_bytes(), digits)
         && is_written(second.as_bytes(), digits)
         && saved.as_bytes().len() == saved_size
-        && RipemdCore::<V>::OUTPUT_SIZE == digits.len() / 2
-        && V::Output::from_slice(first.as_bytes()).is_some()
+        && BlockCore::<F>::OUTPUT_SIZE == digits.len() / 2
+        && F::Digest::from_slice(first.as_bytes()).is_some()
+        && F::Digest::from_slices(first.as_bytes(), &[0]).is_none()
 }
 
 #[test]
 fn cores(rt: HostRuntime) {
-    assert!(rt; core_hashes_abc::<R128>(ABC_128, 24));
-    assert!(rt; core_hashes_abc::<R160>(ABC_160, 28));
-    assert!(rt; core_hashes_abc::<R256>(ABC_256, 40));
-    assert!(rt; core_hashes_abc::<R320>(ABC_320, 48));
+    assert!(rt; core_hashes_abc::<Ripemd128Function>(ABC_128, 24));
+    assert!(rt; core_hashes_abc::<Ripemd160Function>(ABC_160, 28));
+    assert!(rt; core_hashes_abc::<Ripemd256Function>(ABC_256, 40));
+    assert!(rt; core_hashes_abc::<Ripemd320Function>(ABC_320, 48));
     assert!(rt; is_core::<Ripemd128Core>() && is_core::<Ripemd160Core>());
     assert!(rt; is_core::<Ripemd256Core>() && is_core::<Ripemd320Core>());
 }
@@ -212,24 +207,31 @@ fn texts(rt: HostRuntime) -> Result<(), Fail> {
 }
 
 // Whether a block function leads through the blocks of the padded "abc" to this digest.
-fn walks_abc<V: VariantParts>(digits: &str) -> bool {
-    let mut state = RipemdCore::<V>::start();
+fn walks_abc<F: ResumableFunction>(digits: &str) -> bool {
+    let mut state = BlockCore::<F>::start();
     for place in 0..block_count(b"abc") {
         let Some(block) = pad_block(b"abc", place) else {
             return false;
         };
-        state = RipemdCore::<V>::step(state, &block);
+        state = BlockCore::<F>::step(state, &block);
     }
-    is_written(RipemdCore::<V>::output(state).as_bytes(), digits)
+    let output = BlockCore::<F>::output(state);
+    let of_function = F::output(F::step(F::start(), &[0; 64]));
+    let of_core = BlockCore::<F>::output(BlockCore::<F>::step(BlockCore::<F>::start(), &[0; 64]));
+    is_written(output.as_bytes(), digits)
+        && F::from_output(output).is_some_and(|again| again == state)
+        && of_function.as_bytes() == of_core.as_bytes()
 }
 
 #[test]
 fn padding_and_block_functions(rt: HostRuntime) {
-    assert!(rt; walks_abc::<R128>(ABC_128));
-    assert!(rt; walks_abc::<R160>(ABC_160));
-    assert!(rt; walks_abc::<R256>(ABC_256));
-    assert!(rt; walks_abc::<R320>(ABC_320));
+    assert!(rt; walks_abc::<Ripemd128Function>(ABC_128));
+    assert!(rt; walks_abc::<Ripemd160Function>(ABC_160));
+    assert!(rt; walks_abc::<Ripemd256Function>(ABC_256));
+    assert!(rt; walks_abc::<Ripemd320Function>(ABC_320));
     assert!(rt; pad_block(b"abc", 1).is_none());
+    let (whole, tail) = whole_blocks(&[7; 130]);
+    assert!(rt; whole == [[7; 64]; 2].as_slice() && tail == [7; 2].as_slice());
     let Some(mut buffer) = Buffer::try_new(b"abc") else {
         assert!(rt; false, "three bytes are a tail");
         return;
@@ -245,8 +247,8 @@ fn tables(rt: HostRuntime) {
     assert_eq!(rt; textbook::right_number(0, 0), 5);
     assert_eq!(rt; textbook::rotation(0, 0), 11);
     assert_eq!(rt; textbook::left_constant(4), 0xa953_fd4e);
-    assert_eq!(rt; textbook::right_constant_of_four(3), 0);
-    assert_eq!(rt; textbook::right_constant_of_five(3), 0x7a6d_76e9);
+    assert_eq!(rt; textbook::right_constant_of_four_rounds(3), 0);
+    assert_eq!(rt; textbook::right_constant_of_five_rounds(3), 0x7a6d_76e9);
 }
 
 #[test]

@@ -7,7 +7,6 @@ ghost use Rattle.ripemd.specs.Standard.Hashing.{ripemd};
 use ripemd::{Digest, Ripemd160};
 
 /// The RIPEMD-160 digest of a message that comes in two pieces.
-#[tactic(auto, using(ripemd::specs::Laws::fed_twice, ripemd::specs::Laws::finish_fed))]
 pub fn digest_of_two(first: &[u8], second: &[u8]) -> [u8; 20]
     ensures { result ≡ ripemd ripemd160 (first.now ++ second.now) }
 {

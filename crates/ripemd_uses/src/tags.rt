@@ -40,61 +40,9 @@ pub fn has_tag_by<D: BlockDigest>(key: &[u8], text: &[u8], tag: &[u8]) -> bool
     mac.verify(tag)
 }
 
-ghost use Rattle.std.specs.Prelude.{[], ◌∷◌, ⊤, slice_index, bit_xor};
+ghost use Rattle.std.specs.Prelude.{[], ◌∷◌, slice_index, bit_xor};
 
-use ripemd::digest::BlockFunction;
-use ripemd::{BlockHasher, HashFunction};
-
-/// The hasher of the toy.
-pub type Toy = BlockHasher<ToyBlocks>;
-
-/// The block function of the toy: its state is a byte.
-pub enum ToyBlocks {}
-
-impl BlockFunction for ToyBlocks {
-    type State = [u8; 1];
-
-    type Digest = [u8; 1];
-
-    ghost is_state = { λ _. ⊤ };
-
-    ghost start_of = { 0 ∷ [] };
-
-    ghost step_of = { λ state block. bit_xor (slice_index state 0) (slice_index block 0) ∷ [] };
-
-    ghost output_of = { λ state. state };
-
-    fn start() -> [u8; 1] {
-        [0]
-    }
-
-    fn step(state: [u8; 1], block: &[u8; 64]) -> [u8; 1] {
-        [state[0] ^ block[0]]
-    }
-
-    fn output(state: [u8; 1]) -> [u8; 1] {
-        state
-    }
-
-    ghost use Rattle.std.proofs.lemmas.Slice.Eq.{bytes_eq-Decides};
-
-    ghost one_output = { λ s t _ _ same. same };
-
-    ghost same_state = { λ s t same. (bytes_eq-Decides s t).0 same };
-}
-
-impl HashFunction for ToyBlocks {
-    ghost list = { λ state. state };
-
-    ghost from_list = { λ list. list };
-
-    ghost use Rattle.std.specs.Prelude.{refl};
-    ghost use Rattle.std.proofs.Common.{rules};
-
-    ghost from_own_list = { λ state. refl };
-
-    ghost digest_most = { Prim.search rules };
-}
+use crate::calling::Toy;
 
 /// The tag of a text by the toy.
 pub fn toy_tag(key: &[u8], text: &[u8]) -> [u8; 1]

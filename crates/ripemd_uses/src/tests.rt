@@ -1,13 +1,15 @@
 use crate::batch;
 use crate::block::digest_of_short;
 use crate::calling::{
-    collision_of_160, digest_of, digest_of_reader, digest_of_three, digests_of, has_digest,
-    has_digest_by, places_of_collision, prefixed_digest, prefixed_digest_160,
+    collision_of_160, digest_of, digest_of_reader, digest_of_three, digest_put_aside, digests_of,
+    has_digest, has_digest_by, places_of_collision, prefixed_digest, prefixed_digest_160,
+    toy_digest, toy_put_aside, toy_replay,
 };
 use crate::commands::digests_of_ends;
 use crate::readme::digest_of_two;
 use crate::tags::{has_tag, has_tag_by, tag_of_two, toy_tag};
-use ripemd::Ripemd128;
+use ripemd::replay::Command;
+use ripemd::{Ripemd128, Ripemd160};
 use std::io;
 use std::io::Read;
 
@@ -102,6 +104,31 @@ fn collisions(rt: HostRuntime) {
     b[0] = 2;
     b[64] = 1;
     assert_eq!(rt; places_of_collision(&a, &b), Some((1, 1)));
+}
+
+// The toy's digest is what the first bytes of the blocks make up: of 64 bytes, the first of these and
+// the first of the padding.
+#[test]
+fn toys(rt: HostRuntime) {
+    assert_eq!(rt; toy_digest(b"a", b"bc"), [b'a']);
+    assert_eq!(rt; toy_digest(&[b'x'; 60], &[b'x'; 4]), [b'x' ^ 0x80]);
+    assert_eq!(rt; toy_put_aside(b"a", b"bc"), [b'a']);
+    assert_eq!(rt; toy_put_aside(&[b'x'; 60], &[b'x'; 4]), [b'x' ^ 0x80]);
+    assert_eq!(rt; digest_put_aside::<Ripemd160>(b"a", b"bc"), ABC);
+    let commands = [
+        Command::New,
+        Command::Update {
+            hasher: 0,
+            bytes: b"abc",
+        },
+        Command::Save { hasher: 0 },
+        Command::Load { saved: 0 },
+        Command::Finish { hasher: 1 },
+    ];
+    match toy_replay(rt.alloc(), &commands) {
+        Ok(digests) => assert_eq!(rt; digests.as_slice(), [[b'a']].as_slice()),
+        Err(_) => assert!(rt; false, "a list without a bad command is run"),
+    }
 }
 
 // What RFC 2286 publishes.

@@ -17,8 +17,8 @@ abbrev pub four_rights : List WordPair → List ℕ
 four_rights v = (register v 0).right ∷ (register v 1).right ∷ (register v 2).right ∷ (register v 3).right ∷ []
 
 -- both lines of four registers
-abbrev pub four_lines : List WordPair → Lines
-four_lines v = record { left = four_lefts v; right = four_rights v }
+abbrev pub lines_of_four_registers : List WordPair → Lines
+lines_of_four_registers v = record { left = four_lefts v; right = four_rights v }
 
 -- five registers of the left line, and of the right line
 abbrev pub five_lefts : List WordPair → List ℕ
@@ -32,8 +32,8 @@ five_rights v =
     ∷ (register v 4).right ∷ []
 
 -- both lines of five registers
-abbrev pub five_lines : List WordPair → Lines
-five_lines v = record { left = five_lefts v; right = five_rights v }
+abbrev pub lines_of_five_registers : List WordPair → Lines
+lines_of_five_registers v = record { left = five_lefts v; right = five_rights v }
 
 -- the sixteen message words of a block
 unfoldable pub message_words : List ℕ → List ℕ

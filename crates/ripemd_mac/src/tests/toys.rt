@@ -1,16 +1,13 @@
 //! A hash function whose state and digest are two bytes: collisions of it are easy to make.
 
-ghost use Rattle.std.specs.Prelude.{◌≡◌, ◌+◌, ◌%◌, [], ◌∷◌, slice_index, ⊤};
-ghost use Rattle.std.specs.List.{fold};
-ghost use Rattle.ripemd.specs.States.{Meaning};
-ghost use Rattle.ripemd.specs.Listed.{IsUnderWay};
-ghost use Rattle.ripemd_mac.specs.Sums.{sums};
+ghost use Rattle.std.specs.Prelude.{◌+◌, ◌%◌, [], ◌∷◌, slice_index, ⊤};
+ghost use Rattle.ripemd.specs.States.{Meaning, IsUnderWay};
 
 use ripemd::digest::{BlockDigest, BlockFunction, Digest, HashMeaning, OutputSizeUser};
 use ripemd::{BlockHasher, HashFunction};
 use std::marker::Model;
 
-/// The block function: a step adds the bytes of the block to the one byte, and its last byte to the
+/// The block function: a step adds the first byte of the block to the one byte, and the last to the
 /// other.
 pub(super) enum SumsCore {}
 
@@ -23,7 +20,9 @@ impl BlockFunction for SumsCore {
 
     ghost start_of = { 0 ∷ 0 ∷ [] };
 
-    ghost step_of = { sums };
+    ghost step_of = { λ state block.
+        (slice_index state 0 + slice_index block 0) % 256
+        ∷ (slice_index state 1 + slice_index block 63) % 256 ∷ [] };
 
     ghost output_of = { λ state. state };
 
@@ -32,7 +31,10 @@ impl BlockFunction for SumsCore {
     }
 
     fn step(state: [u8; 2], block: &[u8; 64]) -> [u8; 2] {
-        [sum_from(state[0], block), state[1].wrapping_add(block[63])]
+        [
+            state[0].wrapping_add(block[0]),
+            state[1].wrapping_add(block[63]),
+        ]
     }
 
     fn output(state: [u8; 2]) -> [u8; 2] {
@@ -49,12 +51,16 @@ impl BlockFunction for SumsCore {
 impl HashFunction for SumsCore {
     ghost list = { λ state. state };
 
-    ghost from_list = { λ list. list };
+    ghost are_words = { Self.is_state };
 
-    ghost use Rattle.std.specs.Prelude.{refl};
+    ghost step = { Self.step_of };
+
+    ghost output = { Self.output_of };
+
     ghost use Rattle.std.proofs.Common.{rules};
+    ghost use Rattle.ripemd.specs.Listed.{of_arrays};
 
-    ghost from_own_list = { λ state. refl };
+    ghost over_lists = { of_arrays };
 
     ghost digest_most = { Prim.search rules };
 }
@@ -74,7 +80,7 @@ impl Model for Sums {
 impl HashMeaning for Sums {
     ghost meaning = { λ h. h };
 
-    ghost is_valid = { IsUnderWay };
+    ghost is_valid = { IsUnderWay (λ _. ⊤) };
 }
 
 impl OutputSizeUser for Sums {
@@ -92,7 +98,9 @@ impl OutputSizeUser for Sums {
 impl Digest for Sums {
     ghost start = { 0 ∷ 0 ∷ [] };
 
-    ghost step = { sums };
+    ghost step = { λ state block.
+        (slice_index state 0 + slice_index block 0) % 256
+        ∷ (slice_index state 1 + slice_index block 63) % 256 ∷ [] };
 
     ghost output = { λ state. state };
 
@@ -126,22 +134,11 @@ impl Digest for Sums {
 
     ghost use Rattle.ripemd.specs.Laws.{fed_nothing};
 
-    ghost fed_nothing = { λ h valid. fed_nothing sums h valid.count valid.tail.short };
+    ghost fed_nothing = { λ h valid. fed_nothing _ h valid.count valid.tail.short };
 }
 
 impl BlockDigest for Sums {
     type Core = SumsCore;
 
     ghost digest_is = { λ message digest is. is };
-}
-
-// The sum of a number and bytes, modulo 256.
-fn sum_from(start: u8, bytes: &[u8]) -> u8
-    ensures { result ≡ fold (λ sum byte. (sum + byte) % 256) start bytes.now }
-{
-    let mut sum = start;
-    for byte in bytes {
-        sum = sum.wrapping_add(*byte);
-    }
-    sum
 }

@@ -1,6 +1,10 @@
-use Rattle.std.proofs.Common.{◌∙◌}
-use Rattle.ripemd.proofs.Saving.{put_tail}
+use Rattle.std.proofs.Common.{◌≡◌, ◌-◌, ℕ, length, drop, replicate, refl, ap, ◌∙◌}
+use Rattle.std.proofs.lemmas.List.{drop-replicate}
 use Rattle.ripemd.proofs.state.save_tail.Goals as goal
 
-pub returns-clause-saved : goal.returns-clause-saved
-returns-clause-saved c = c.put.ensures ∙ put_tail c.args.tail.now c.requires
+pub returns : goal.returns
+returns c =
+    let n = length c.args.tail.now in
+    let zeros : drop n c.split_at_mut-len.result.1.now ≡ replicate (63 - n) 0 =
+    ap (drop n) c.split_at_mut-len.ensures.back ∙ drop-replicate {X = ℕ} n 63 0 in
+    rw (c.split_at_mut-len.ensures.front, c.copy_from_slice.ensures.after, zeros) refl

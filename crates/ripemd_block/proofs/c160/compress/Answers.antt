@@ -1,29 +1,15 @@
-use Rattle.std.proofs.Common.{◌∙◌}
-use Rattle.ripemd_block.specs.Standard.Compression.{lines_from, ripemd160}
-use Rattle.ripemd_block.specs.Code.Lines.{five_lines}
-use Rattle.ripemd_block.proofs.Stepping.{no_rounds, one_more_round, compress_from}
+use Rattle.std.proofs.Common.{refl, ◌∙◌}
+use Rattle.ripemd_block.specs.Standard.Compression.{ripemd160}
+use Rattle.ripemd_block.proofs.Stepping.{no_rounds, next_round, compress_from}
 use Rattle.ripemd_block.proofs.c160.compress.Goals as goal
 
 pub returns-clause-state : goal.returns-clause-state
 returns-clause-state c =
-    let state = c.args.state.now in
-    let block = c.args.block.now in
     let words = c.message_words-words.ensures in
-    let left_1 = c.round-lines.ensures.left block words in
-    let right_1 = c.round-lines.ensures.right block words in
-    let left_2 = c.round-lines-2.ensures.left block words in
-    let right_2 = c.round-lines-2.ensures.right block words in
-    let left_3 = c.round-lines-3.ensures.left block words in
-    let right_3 = c.round-lines-3.ensures.right block words in
-    let left_4 = c.round-lines-4.ensures.left block words in
-    let right_4 = c.round-lines-4.ensures.right block words in
-    let left_5 = c.round-lines-5.ensures.left block words in
-    let right_5 = c.round-lines-5.ensures.right block words in
-    let from = lines_from ripemd160 state in
-    let after_0 = no_rounds ripemd160 block c.lines_from-lines.ensures in
-    let after_1 = one_more_round ripemd160 block from 0 after_0 left_1 right_1 in
-    let after_2 = one_more_round ripemd160 block from 1 after_1 left_2 right_2 in
-    let after_3 = one_more_round ripemd160 block from 2 after_2 left_3 right_3 in
-    let after_4 = one_more_round ripemd160 block from 3 after_3 left_4 right_4 in
-    let after_5 = one_more_round ripemd160 block from 4 after_4 left_5 right_5 in
-    c.joint_state.ensures ∙ compress_from ripemd160 state block (five_lines c.round-lines-5.result) after_5
+    c.joint_state.ensures ∙ compress_from (next_round (next_round (next_round (next_round (next_round
+    (no_rounds ripemd160 c.args.state.now c.args.block.now c.lines_from-lines.ensures)
+    c.round-lines.ensures.left c.round-lines.ensures.right refl words)
+    c.round-lines-2.ensures.left c.round-lines-2.ensures.right refl words)
+    c.round-lines-3.ensures.left c.round-lines-3.ensures.right refl words)
+    c.round-lines-4.ensures.left c.round-lines-4.ensures.right refl words)
+    c.round-lines-5.ensures.left c.round-lines-5.ensures.right refl words)

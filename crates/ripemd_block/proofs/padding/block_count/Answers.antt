@@ -1,5 +1,5 @@
 use Rattle.std.proofs.Common.{arith, ap, length}
-use Rattle.ripemd_block.proofs.BlockLaws.{length-blocks}
+use Rattle.ripemd_block.specs.Laws.Blocks.{length-blocks}
 use Rattle.ripemd_block.proofs.PaddedBlocks.{length-padded_blocks}
 use Rattle.ripemd_block.proofs.padding.block_count.Goals as goal
 use Rattle.ripemd_block.proofs.padding.block_count.Goals.{then-tail-lt56, else-tail-lt56}

@@ -12,7 +12,7 @@ returns-in-0 c =
     let padded = c.last_blocks-padded in
     let whole = ap length c.whole_blocks.ensures.whole in
     let last = last_block c.args.message.now c.args.place padded.result.second padded.ensures.value
-    c.whole_blocks.ensures.rest (omega arith) (omega arith) in
+    c.whole_blocks.ensures.tail (omega arith) (omega arith) in
     rw (← whole, c.in-0.is) at last
 
 pub returns-in-1 : goal.returns-in-1
@@ -20,7 +20,7 @@ returns-in-1 c =
     let padded = c.last_blocks-padded in
     let whole = ap length c.whole_blocks.ensures.whole in
     let last = last_block c.args.message.now c.args.place padded.result.second padded.ensures.value
-    c.whole_blocks.ensures.rest (omega arith) (omega arith) in
+    c.whole_blocks.ensures.tail (omega arith) (omega arith) in
     second_block padded.result.first padded.result.second ∙ rw (← whole, c.in-1.is) at last
 
 pub returns-in_default : goal.returns-in_default
@@ -28,5 +28,5 @@ returns-in_default c =
     let padded = c.last_blocks-padded in
     let whole = ap length c.whole_blocks.ensures.whole in
     let last = last_block c.args.message.now c.args.place padded.result.second padded.ensures.value
-    c.whole_blocks.ensures.rest (omega arith) (omega arith) in
+    c.whole_blocks.ensures.tail (omega arith) (omega arith) in
     no_third_block padded.result.first padded.result.second _ (omega arith) ∙ last

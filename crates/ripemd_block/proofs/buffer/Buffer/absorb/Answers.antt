@@ -58,5 +58,5 @@ returns-clause-buffer g c =
             rw (← c.self.view_is, empty) refl
       ]
     ] in
-    rw (c.put_behind-2.ensures, c.whole_blocks-2.ensures.rest)
+    rw (c.put_behind-2.ensures, c.whole_blocks-2.ensures.tail)
     (take_put len kept rest (drop (len + length rest) kept) held ∙ whole)

@@ -1,0 +1,16 @@
+use Rattle.std.proofs.Common.{◌≡◌, sym, ap, ◌∙◌}
+use Rattle.ripemd_block.specs.States.{Meaning, with_tail, output_and_count, core_and_tail}
+use Rattle.ripemd_block.specs.Laws.Saving.{tail_bytes, core_and_tail-split}
+use Rattle.ripemd.proofs.state.BlockHasherSerializableState.serialize.Goals as goal
+
+pub returns-clause-bytes : goal.returns-clause-bytes
+unfolding output_and_count
+returns-clause-bytes g c =
+    let output = g.F.HashFunction.output in
+    let h : Meaning = with_tail c.self.inside.core c.self.inside.buffer in
+    let of_core : c.as_bytes.result.now ≡ output_and_count output h =
+    rw c.serialize-core.ensures.bytes at c.as_bytes.ensures.bytes in
+    let of_tail : c.save_tail-tail.result ≡ tail_bytes h.tail =
+    rw c.get_data.ensures.bytes at c.save_tail-tail.ensures in
+    rw c.unwrap.ensures at c.from_slices.ensures.same ∙ rw (of_core, of_tail) (sym (core_and_tail-split output h))
+    ∙ ap (core_and_tail output) c.self.view_is

@@ -1,0 +1,80 @@
+-- Laws of the states of a hash under way, for every block function: however bytes come in, the
+-- state is that of all of them, and a finished state gives the hash.
+use Rattle.std.proofs.Common.{◌≡◌, ℕ, ◌+◌, ◌*◌, ◌%◌, ◌^◌, ◌<◌, refl, ap, arith}
+use Rattle.std.proofs.Common.{List, [], ◌∷◌, ◌++◌, length, replicate}
+use Rattle.std.proofs.lemmas.List.{append_assoc, append-nil}
+use Rattle.std.proofs.lemmas.List.Sums.{fold-append}
+use Rattle.ripemd_block.specs.Standard.Words.{word_bytes, eight_bytes}
+use Rattle.ripemd_block.specs.Standard.Compression.{Parameters, compress}
+use Rattle.ripemd_block.specs.Standard.Hashing.{zero_count, with_padding, blocks, partial_block, hash, ripemd}
+use Rattle.ripemd_block.specs.Laws.Blocks.{blocks_of_short, left_over_of_short, blocks_of_one, left_over_of_one}
+use Rattle.ripemd_block.specs.Laws.Blocks.{length-blocks, length-partial_block, blocks-append, partial_block-append}
+use Rattle.ripemd_block.specs.States.{Meaning, initial_state, new_state, after_blocks, with_tail, fed, finish}
+use Rattle.ripemd_block.specs.Laws.Walking.{after_joined_blocks}
+
+-- ---- bytes
+
+module _ (step : List ℕ → List ℕ → List ℕ) (h : Meaning) where
+  -- no bytes change nothing
+  pub fed_nothing : h.count < 2 ^ 64 → length h.tail < 64 → fed step h [] ≡ h
+  unfolding fed
+  fed_nothing count short =
+      let same : (h.count + 0) % 2 ^ 64 ≡ h.count = omega arith in
+      rw (append-nil h.tail, blocks_of_short h.tail short, left_over_of_short h.tail short, same) refl
+
+  -- some bytes and then others are both, joined
+  pub fed_twice : (x y : List ℕ) → fed step (fed step h x) y ≡ fed step h (x ++ y)
+  unfolding fed
+  fed_twice x y =
+      let bytes : List ℕ = h.tail ++ x in
+      let rest : List ℕ = partial_block bytes ++ y in
+      let joined = after_joined_blocks step h (blocks bytes) (blocks rest) in
+      let same = ap (λ (m : Meaning). with_tail m (partial_block rest)) joined in
+      rw (← append_assoc h.tail x y, blocks-append bytes y, partial_block-append bytes y) same
+
+  -- bytes that leave the tail short of a block
+  pub fed_short : (x : List ℕ) → h.count < 2 ^ 64 → length (h.tail ++ x) < 64
+      → fed step h x ≡ with_tail h (h.tail ++ x)
+  unfolding fed
+  fed_short x count short =
+      let same : (h.count + 0) % 2 ^ 64 ≡ h.count = omega arith in
+      rw (blocks_of_short (h.tail ++ x) short, left_over_of_short (h.tail ++ x) short, same) refl
+
+  -- bytes that fill a block
+  pub fed_block : (x : List ℕ) → length (h.tail ++ x) ≡ 64
+      → fed step h x ≡ with_tail (after_blocks step h ((h.tail ++ x) ∷ [])) []
+  unfolding fed
+  fed_block x full = rw (blocks_of_one (h.tail ++ x) full, left_over_of_one (h.tail ++ x) full) refl
+
+-- ---- the end
+
+-- the padding of a whole message follows what is left after its whole blocks
+pub with_padding_rest : (m : List ℕ) (n : ℕ)
+    → blocks (with_padding m n) ≡ blocks m ++ blocks (with_padding (partial_block m) n)
+unfolding with_padding
+with_padding_rest m n =
+    let rest : List ℕ = partial_block m in
+    let zeros : zero_count (length m) ≡ zero_count (length rest) = omega (arith, length-partial_block m) in
+    let padding : List ℕ = 0x80 ∷ replicate (zero_count (length rest)) 0 in
+    let split = blocks-append m (padding ++ eight_bytes n) in
+    rw (zeros, append_assoc m padding (eight_bytes n), append_assoc rest padding (eight_bytes n)) split
+
+-- a state that was fed a whole message from the start finishes as its hash: the count may have
+-- wrapped, and 8 * 64 * 2 ^ 64 is a multiple of 2 ^ 64
+pub finish_fed : {D : Type 0} (start : List ℕ) (step : List ℕ → List ℕ → List ℕ) (output : List ℕ → D)
+    (m : List ℕ) → finish step output (fed step (initial_state start) m) ≡ hash start step output m
+unfolding finish fed hash
+finish_fed start step output m =
+    let n : ℕ = 8 * length m % 2 ^ 64 in
+    let bits : 8 * (length (partial_block m) + 64 * ((0 + length (blocks m)) % 2 ^ 64)) % 2 ^ 64 ≡ n =
+    omega (arith, length-partial_block m, length-blocks m) in
+    let walks = fold-append step start (blocks m) (blocks (with_padding (partial_block m) n)) in
+    rw (bits, with_padding_rest m n, walks) refl
+
+-- the digest of a message shorter than a block, from a new state with the message as its tail
+pub finish_short : (v : Parameters) (m : List ℕ)
+    → finish (compress v) word_bytes (with_tail (new_state v) m) ≡ ripemd v m
+unfolding finish hash
+finish_short v m =
+    let bits : 8 * (length m + 64 * 0) % 2 ^ 64 ≡ 8 * length m % 2 ^ 64 = omega arith in
+    rw bits refl

@@ -1,0 +1,252 @@
+//! The block core: a state of a block function, and the count of the blocks that it took in.
+
+ghost use Rattle.std.specs.Prelude.{◌≡◌, List, [], ⊤};
+ghost use Rattle.ripemd_block.specs.Standard.Hashing.{walk};
+ghost use Rattle.ripemd_block.specs.States.{Meaning, IsWithoutTail, output_and_count};
+ghost use Rattle.ripemd_block.specs.States.{initial_state, after_blocks, with_tail, finish};
+
+use crate::arrays::{ByteArray, read_count};
+use crate::buffer::Buffer;
+use crate::traits::{
+    AlgorithmName, BlockFunction, BlockSizeUser, BufferKindUser, DeserializeStateError, Eager,
+    FixedOutputCore, HashFunction, HashMarker, HashMeaning, OutputSizeUser, Reset,
+    ResumableFunction, SerializableState, UpdateCore,
+};
+use std::alloc::AllocError;
+use std::fmt;
+use std::marker::Model;
+
+#[cfg(test)]
+mod tests;
+
+/// The block core of a block function: it takes in the whole blocks of a message, and leaves its
+/// tail to a [`Buffer`]. It has a state, and the count of the blocks so far, modulo 2^64. Contracts
+/// see these, with an empty tail.
+#[derive(Drop)]
+pub struct BlockCore<F: HashFunction> {
+    state: F::State,
+    block_count: u64,
+}
+
+impl<F: HashFunction> Model for BlockCore<F> {
+    ghost Value = { Meaning };
+
+    ghost view = { λ c. record { words = F.list c.state; count = c.block_count; tail = [] } };
+
+    ghost invariant = { λ c. F.is_state c.state };
+}
+
+impl<F: HashFunction> BlockCore<F> {
+    /// A core with the same state and count.
+    pub fn duplicate(&self) -> Self
+        ensures { result ≡ self.now }
+    {
+        BlockCore {
+            state: self.state,
+            block_count: self.block_count,
+        }
+    }
+}
+
+impl<F: HashFunction> Default for BlockCore<F> {
+    ghost is_default = { λ c. c ≡ initial_state (F.list F.start_of) };
+
+    fn default() -> BlockCore<F> {
+        BlockCore {
+            state: F::start(),
+            block_count: 0,
+        }
+    }
+}
+
+impl<F: HashFunction> Clone for BlockCore<F> {
+    ghost is_clone = { λ x y. y ≡ x };
+
+    ghost is_infallible = { λ _. ⊤ };
+
+    fn clone(&self) -> Result<BlockCore<F>, AllocError> {
+        Ok(self.duplicate())
+    }
+}
+
+/// Writes the name of the hash function and no more, as `Ripemd160Core { ... }`.
+impl<F: HashFunction + AlgorithmName> fmt::Debug for BlockCore<F> {
+    fn fmt<W: fmt::Write>(&self, f: &mut fmt::Formatter<W>) -> fmt::Result {
+        F::write_alg_name(f)?;
+        f.write_str("Core { ... }")
+    }
+}
+
+impl<F: HashFunction + AlgorithmName> AlgorithmName for BlockCore<F> {
+    ghost name = { F.name };
+
+    const ALG_NAME: &'static str = <F as AlgorithmName>::ALG_NAME;
+
+    fn write_alg_name<W: fmt::Write>(f: &mut fmt::Formatter<W>) -> fmt::Result {
+        F::write_alg_name(f)
+    }
+}
+
+impl<F: HashFunction> HashMarker for BlockCore<F> {}
+
+impl<F: HashFunction> HashMeaning for BlockCore<F> {
+    ghost meaning = { λ c. c };
+
+    ghost is_valid = { IsWithoutTail F.are_words };
+}
+
+impl<F: HashFunction> Reset for BlockCore<F> {
+    fn reset(&mut self) {
+        *self = BlockCore::default();
+    }
+}
+
+impl<F: HashFunction> BlockSizeUser for BlockCore<F> {
+    ghost BLOCK_SIZE = { 64 };
+
+    ghost use Rattle.std.specs.Prelude.{refl};
+
+    ghost block_size_is = { refl };
+
+    const BLOCK_SIZE: usize = 64;
+}
+
+impl<F: HashFunction> OutputSizeUser for BlockCore<F> {
+    type Output = F::Digest;
+
+    ghost bytes_of = { F.Digest.bytes };
+
+    ghost OUTPUT_SIZE = { F.Digest.LEN };
+
+    const OUTPUT_SIZE: usize = <F::Digest as ByteArray>::LEN;
+
+    ghost same_digest = { F.Digest.same_array };
+}
+
+impl<F: HashFunction> BufferKindUser for BlockCore<F> {
+    type BufferKind = Eager;
+}
+
+impl<F: HashFunction> UpdateCore for BlockCore<F> {
+    ghost is_core = { IsWithoutTail F.are_words };
+
+    ghost after = { after_blocks F.step };
+
+    fn update_blocks(&mut self, blocks: &[[u8; 64]]) {
+        self.state = walk::<F>(self.state, blocks);
+        self.block_count = self.block_count.wrapping_add(blocks.len() as u64);
+    }
+
+    ghost use Rattle.ripemd_block.specs.Laws.Walking.{after_no_blocks, after_joined_blocks};
+
+    ghost after_none = { after_no_blocks F.step F.are_words };
+
+    ghost after_joined = { λ core xs ys valid.
+        after_joined_blocks F.step core xs ys };
+}
+
+impl<F: HashFunction> FixedOutputCore for BlockCore<F> {
+    ghost digest_of = { λ core tail. finish F.step F.output (with_tail core tail) };
+
+    fn finalize_fixed_core(&mut self, buffer: &mut Buffer, out: &mut F::Digest) {
+        let tail_len = buffer.get_pos() as u64;
+        let bit_len = self
+            .block_count
+            .wrapping_mul(512)
+            .wrapping_add(8 * tail_len);
+        let padded = buffer.len64_padding_le(bit_len);
+        let first = padded.first;
+        let mut state = walk::<F>(self.state, &[first]);
+        if let Some(second) = padded.second {
+            state = walk::<F>(state, &[second]);
+        }
+        *out = F::output(state);
+        // It has the size of a digest.
+        out.as_bytes();
+    }
+}
+
+// The state after blocks in order. Not inlined, so that a hash function's steps stand once in a
+// program.
+#[inline(never)]
+fn walk<F: HashFunction>(state: F::State, blocks: &[[u8; 64]]) -> F::State
+    requires { F.is_state state }
+    ensures value { result ≡ walk F.step_of state blocks.now }
+    ensures valid { F.is_state result }
+{
+    let mut state = state;
+    for block in blocks {
+        state = F::step(state, block);
+    }
+    state
+}
+
+impl<F: ResumableFunction> SerializableState for BlockCore<F> {
+    type Saved = F::SavedCore;
+
+    ghost saved_bytes = { F.SavedCore.bytes };
+
+    ghost state_bytes = { output_and_count F.output };
+
+    fn serialize(&self) -> F::SavedCore {
+        let output = F::output(self.state);
+        let count = self.block_count.to_le_bytes();
+        F::SavedCore::from_slices(output.as_bytes(), &count).unwrap()
+    }
+
+    fn deserialize(saved: &F::SavedCore) -> Result<BlockCore<F>, DeserializeStateError> {
+        BlockCore::load_slice(saved.as_bytes())
+    }
+
+    fn load_slice(bytes: &[u8]) -> Result<BlockCore<F>, DeserializeStateError> {
+        if bytes.len() != <F::SavedCore as ByteArray>::LEN {
+            return Err(DeserializeStateError);
+        }
+        let (output, count) = bytes.split_at(<F::Digest as ByteArray>::LEN);
+        let output = F::Digest::from_slice(output).unwrap();
+        match F::from_output(output) {
+            Some(state) => Ok(BlockCore {
+                state,
+                block_count: read_count(count),
+            }),
+            None => Err(DeserializeStateError),
+        }
+    }
+
+    ghost use Rattle.ripemd_block.specs.Laws.Saving.{one_saved_core};
+
+    ghost one_state = { one_saved_core F.tells_words };
+
+    ghost same_saved = { F.SavedCore.same_array };
+}
+
+/// The block function of the core.
+impl<F: HashFunction> BlockFunction for BlockCore<F> {
+    type State = F::State;
+
+    type Digest = F::Digest;
+
+    ghost is_state = { F.is_state };
+
+    ghost start_of = { F.start_of };
+
+    ghost step_of = { F.step_of };
+
+    ghost output_of = { F.output_of };
+
+    fn start() -> F::State {
+        F::start()
+    }
+
+    fn step(state: F::State, block: &[u8; 64]) -> F::State {
+        F::step(state, block)
+    }
+
+    fn output(state: F::State) -> F::Digest {
+        F::output(state)
+    }
+
+    ghost one_output = { F.one_output };
+
+    ghost same_state = { F.same_state };
+}

@@ -1,0 +1,275 @@
+//! The traits of block cores and of block functions.
+
+ghost use Rattle.std.specs.Prelude.{◌≡◌, ◌≢◌, ℕ, ◌+◌, ◌≤◌, List, [], ◌++◌, length, IfOk, IfErr, IfSome, IfNone, true};
+ghost use Rattle.std.specs.Fmt.{WritesOnOk};
+ghost use Rattle.ripemd_block.specs.Standard.Words.{block_size};
+ghost use Rattle.ripemd_block.specs.States.{Meaning, IsTail};
+ghost use Rattle.ripemd_block.specs.Listed.{IsOverLists, TellsWords};
+
+use crate::arrays::ByteArray;
+use crate::buffer::Buffer;
+use std::fmt;
+use thiserror::Error;
+
+/// The kind of buffer that hands a block on as soon as it holds a whole one.
+#[derive(Clone, Copy, PartialEq, Eq, Debug)]
+pub struct Eager;
+
+/// A type that works on blocks.
+pub trait BlockSizeUser {
+    ghost BLOCK_SIZE: { ℕ };
+
+    ghost block_size_is: { BLOCK_SIZE ≡ block_size };
+
+    /// How many bytes a block has: 64.
+    const BLOCK_SIZE: usize;
+}
+
+/// A type that has a digest.
+pub trait OutputSizeUser {
+    /// The digest, an array of bytes.
+    type Output: Copy;
+
+    // The bytes of a digest.
+    ghost bytes_of: { Self.Output → List ℕ };
+
+    ghost OUTPUT_SIZE: { ℕ };
+
+    /// How many bytes a digest has.
+    const OUTPUT_SIZE: usize;
+
+    // Equal bytes are equal digests.
+    ghost same_digest: { (a b : Self.Output) → bytes_of a ≡ bytes_of b → a ≡ b };
+}
+
+/// A type that is a hash function, or a core of one. It has no items.
+pub trait HashMarker {}
+
+/// A type that has the name of a hash function.
+pub trait AlgorithmName {
+    // The characters of the name.
+    ghost name: { List ℕ };
+
+    /// The name, such as `Ripemd160`.
+    const ALG_NAME: &'static str;
+
+    /// Writes the name.
+    ///
+    /// # Errors
+    ///
+    /// The error of the writer.
+    fn write_alg_name<W: fmt::Write>(f: &mut fmt::Formatter<W>) -> fmt::Result
+        ensures { WritesOnOk W.write_str_gives f.old result name f.new };
+}
+
+/// A core or a hasher that contracts see as a hash under way: words, a count of blocks and a tail.
+pub trait HashMeaning {
+    // What it stands for.
+    ghost meaning: { Self → Meaning };
+
+    // What can occur of that.
+    ghost is_valid: { Meaning → Type 0 };
+}
+
+/// The error of bytes that no state is saved as.
+#[derive(Clone, Copy, PartialEq, Eq, Debug, Error)]
+#[error("Deserialization error")]
+pub struct DeserializeStateError;
+
+/// A core or a hasher that can be saved as bytes, and made from them again.
+pub trait SerializableState: HashMeaning {
+    /// The saved bytes, an array.
+    type Saved: Copy;
+
+    // The bytes of a saved array.
+    ghost saved_bytes: { Self.Saved → List ℕ };
+
+    // The bytes that a state is saved as.
+    ghost state_bytes: { Meaning → List ℕ };
+
+    /// Saves the state.
+    fn serialize(&self) -> Self::Saved
+        ensures bytes { saved_bytes result ≡ state_bytes (Self.meaning self.now) }
+        ensures valid { Self.is_valid (Self.meaning self.now) };
+
+    /// Makes the state that was saved as these bytes.
+    ///
+    /// # Errors
+    ///
+    /// `DeserializeStateError` if no state is saved as these bytes.
+    fn deserialize(saved: &Self::Saved) -> Result<Self, DeserializeStateError>
+        ensures ok { IfOk result
+            (λ value. state_bytes (Self.meaning value) ≡ saved_bytes saved.now) }
+        ensures valid { IfOk result (λ value. Self.is_valid (Self.meaning value)) }
+        ensures err { IfErr result
+            (λ _. (h : Meaning) → Self.is_valid h → state_bytes h ≢ saved_bytes saved.now) };
+
+    /// Makes the state that was saved as these bytes, which are all the bytes of the array.
+    ///
+    /// # Errors
+    ///
+    /// `DeserializeStateError` if no state is saved as these bytes, so for any other number of them
+    /// than the array has.
+    fn load_slice(bytes: &[u8]) -> Result<Self, DeserializeStateError>
+        ensures ok { IfOk result (λ value. state_bytes (Self.meaning value) ≡ bytes.now) }
+        ensures valid { IfOk result (λ value. Self.is_valid (Self.meaning value)) }
+        ensures err { IfErr result
+            (λ _. (h : Meaning) → Self.is_valid h → state_bytes h ≢ bytes.now) };
+
+    // States that are saved as the same bytes are the same: what was saved loads to the state that
+    // it was.
+    ghost one_state: { (g h : Meaning) → Self.is_valid g → Self.is_valid h
+        → state_bytes g ≡ state_bytes h → g ≡ h };
+
+    // Equal bytes are equal arrays: what was loaded saves to the array that it was.
+    ghost same_saved: { (a b : Self.Saved) → saved_bytes a ≡ saved_bytes b → a ≡ b };
+}
+
+/// A value that can be made new again.
+pub trait Reset: Default {
+    /// Makes the value as new: as `default()` gives it.
+    fn reset(&mut self)
+        ensures { Self.is_default self.new };
+}
+
+/// A type that says what kind of buffer it needs.
+pub trait BufferKindUser: BlockSizeUser {
+    /// The kind of buffer.
+    type BufferKind;
+}
+
+/// A core that takes in whole blocks.
+pub trait UpdateCore: BlockSizeUser {
+    // The cores that can occur.
+    ghost is_core: { Self → Type 0 };
+
+    // A core after some blocks.
+    ghost after: { Self → List (List ℕ) → Self };
+
+    /// Takes in blocks in order. The count of blocks is taken modulo 2^64.
+    fn update_blocks(&mut self, blocks: &[[u8; 64]])
+        ensures after { self.new ≡ after self.old blocks.now }
+        ensures valid_old { is_core self.old }
+        ensures valid_new { is_core self.new };
+
+    // No blocks change nothing.
+    ghost after_none: { (core : Self) → is_core core → after core [] ≡ core };
+
+    // Some blocks and then others are both, joined.
+    ghost after_joined: { (core : Self) (xs ys : List (List ℕ)) → is_core core
+        → after (after core xs) ys ≡ after core (xs ++ ys) };
+}
+
+/// A core that gives a digest.
+pub trait FixedOutputCore: UpdateCore + BufferKindUser + OutputSizeUser {
+    // The bytes of the digest of a core and the tail of the message after its blocks.
+    ghost digest_of: { Self → List ℕ → List ℕ };
+
+    /// Writes to `out` the digest of the message that the core's blocks and then the buffer's bytes
+    /// make up; its length in bits is taken modulo 2^64. The core stays as it was, so that more
+    /// blocks can follow, and the buffer is empty afterwards.
+    fn finalize_fixed_core(&mut self, buffer: &mut Buffer, out: &mut Self::Output)
+        ensures digest { Self.bytes_of out.new ≡ digest_of self.old buffer.old }
+        ensures size { length (Self.bytes_of out.new) ≡ Self.OUTPUT_SIZE }
+        ensures same_core { self.new ≡ self.old }
+        ensures empty { buffer.new ≡ [] }
+        ensures valid { Self.is_core self.old }
+        ensures valid_tail { IsTail buffer.old };
+}
+
+/// A block function: a state to start from, a step that takes a state and a block to a state, and
+/// an output of the last state. The hash of a message is the output after a walk through the blocks
+/// of the message with its padding. Its calls are functions of what they are given, and none takes
+/// memory.
+pub trait BlockFunction {
+    /// A state.
+    type State: Copy + Eq;
+
+    /// What it gives of the last state.
+    type Digest;
+
+    // The states that can occur.
+    ghost is_state: { Self.State → Type 0 };
+
+    // The state to start from.
+    ghost start_of: { Self.State };
+
+    // The state after a block.
+    ghost step_of: { Self.State → List ℕ → Self.State };
+
+    // The output of a state.
+    ghost output_of: { Self.State → Self.Digest };
+
+    /// The state to start from.
+    fn start() -> Self::State
+        ensures value { result ≡ start_of }
+        ensures valid { is_state result };
+
+    /// The state after a block.
+    fn step(state: Self::State, block: &[u8; 64]) -> Self::State
+        ensures value { result ≡ step_of state block.now }
+        ensures valid_old { is_state state }
+        ensures valid_new { is_state result };
+
+    /// The output of a state. Different states have different outputs.
+    fn output(state: Self::State) -> Self::Digest
+        ensures value { result ≡ output_of state }
+        ensures valid { is_state state };
+
+    // States with one output are one.
+    ghost one_output: { (s t : Self.State) → is_state s → is_state t
+        → output_of s ≡ output_of t → s ≡ t };
+
+    // States that are equal by `==` are one.
+    ghost same_state: { (s t : Self.State) → Self.State.eq s t ≡ true → s ≡ t };
+}
+
+/// A block function that a hasher can be made of: its states are lists of numbers, and its digests
+/// are arrays of at most 64 bytes.
+pub trait HashFunction: BlockFunction<Digest: ByteArray> {
+    // The numbers of a state.
+    ghost list: { Self.State → List ℕ };
+
+    // The lists that are states.
+    ghost are_words: { List ℕ → Type 0 };
+
+    // The list after a block.
+    ghost step: { List ℕ → List ℕ → List ℕ };
+
+    // The bytes of the output of a list.
+    ghost output: { List ℕ → List ℕ };
+
+    // They are those of the block function.
+    ghost over_lists: { IsOverLists list Self.is_state Self.step_of Self.output_of
+        Self.Digest.bytes are_words step output };
+
+    // A digest is a block's size at most.
+    ghost digest_most: { Self.Digest.LEN ≤ 64 };
+}
+
+/// A block function that gives a state back from its output, so that a hash under way can be saved
+/// as bytes and taken up again: it is saved as its state's output, the count of its blocks, and its
+/// tail.
+pub trait ResumableFunction: HashFunction {
+    /// The saved bytes of a core: 8 more than a digest has.
+    type SavedCore: ByteArray;
+
+    /// The saved bytes of a hasher: 64 more than those of a core.
+    type SavedHasher: ByteArray;
+
+    /// The state that has this output; `None` exactly if no state has it.
+    fn from_output(output: Self::Digest) -> Option<Self::State>
+        ensures some { IfSome result (λ state. Self.output_of state ≡ output) }
+        ensures valid { IfSome result Self.is_state }
+        ensures none { IfNone result ((words : List ℕ) → Self.are_words words
+            → Self.output words ≢ Self.Digest.bytes output) };
+
+    // An output has the size of a digest, and tells the words that it is of.
+    ghost tells_words: { TellsWords Self.are_words Self.output Self.Digest.LEN };
+
+    // A core is saved in 8 bytes more than a digest has.
+    ghost saved_core_size: { Self.SavedCore.LEN ≡ Self.Digest.LEN + 8 };
+
+    // A hasher is saved in 64 bytes more than a core.
+    ghost saved_hasher_size: { Self.SavedHasher.LEN ≡ Self.SavedCore.LEN + 64 };
+}
