@@ -1,13 +1,16 @@
 -- What the authors published of the four variants, as facts that these definitions compute to:
--- digests, the tables of the two lines, and the constants. Then some saved bytes.
-use Rattle.std.specs.Prelude.{◌≡◌, ℕ, ◌+◌, ◌*◌, ◌/◌, ◌%◌, ◌^◌, ◌<◌, ◌≤◌, codes}
+-- digests, the tables of the two lines, and the constants. Then states under way: finishing where the
+-- length or the count wraps, saved bytes, and which states can occur.
+use Rattle.std.specs.Prelude.{◌≡◌, ℕ, ◌+◌, ◌-◌, ◌*◌, ◌/◌, ◌%◌, ◌^◌, ◌<◌, ◌≤◌, codes}
 use Rattle.std.specs.Prelude.{List, [], ◌∷◌, ◌++◌, replicate, drop, map, slice_index}
 use Rattle.std.specs.List.{flat_map, range_with_len}
 use Rattle.ripemd_block.specs.Standard.Schedule.{Line, left_line, right_line}
 use Rattle.ripemd_block.specs.Standard.Schedule.{prime, square_root_constant, cube_root_constant}
+use Rattle.ripemd_block.specs.Standard.Words.{word_bytes}
 use Rattle.ripemd_block.specs.Standard.Compression.{ripemd128, ripemd160, ripemd256, ripemd320, compress}
 use Rattle.ripemd_block.specs.Standard.Hashing.{ripemd}
-use Rattle.ripemd_block.specs.States.{new_state, fed, core_bytes, hasher_bytes}
+use Rattle.ripemd_block.specs.States.{Meaning, IsState, IsCoreState, new_state, with_tail, fed, finish}
+use Rattle.ripemd_block.specs.States.{core_bytes, hasher_bytes}
 
 -- ---- digests
 
@@ -46,6 +49,15 @@ DigestsOfTwoBlocks = HasDigests (codes "abcdbcdecdefdefgefghfghighijhijkijkljklm
     (codes "12a053384a9c0c88e405a06c27dcf49ada62eb2b")
     (codes "3843045583aac6c8c8d9128573e7a9809afb2a0f34ccc36ea9e72f16f6368e3f")
     (codes "d034a7950cf722021ba4b84df769a5de2060e259df4c9bb4a4268c0e935bbc7470a969c9d072a1ac")
+
+-- 80 bytes, of which none in the first block is zero, so that every byte of a block counts
+abbrev pub DigestsOfDigits : Type 0
+DigestsOfDigits = HasDigests
+    (codes "12345678901234567890123456789012345678901234567890123456789012345678901234567890")
+    (codes "3f45ef194732c2dbb2c4a2c769795fa3")
+    (codes "9b752e45573d4b39f4dbd3323cab82bf63326bfb")
+    (codes "06fdcc7a409548aaf91368c06a6275b553e3f099bf0ea4edfd6778df89a890dd")
+    (codes "557888af5f6d8ed62ab66945c6d2a0a47ecd5341e915eb8fea1d0524955f825dc717e4a008ab2d42")
 
 -- ---- the order of the message words
 
@@ -117,3 +129,35 @@ abbrev pub SavedBlockAndTail : Type 0
 SavedBlockAndTail =
     drop 20 (hasher_bytes (fed (compress ripemd160) (new_state ripemd160) (replicate 65 0x61)))
     ≡ 1 ∷ replicate 7 0 ++ 1 ∷ 0x61 ∷ replicate 62 0
+
+-- ---- the end of long messages
+
+-- a RIPEMD-160 hasher after 2 ^ 64 - 1 blocks, whose words are the start words again
+abbrev pub after_most_blocks : Meaning
+after_most_blocks = record (new_state ripemd160) { count = 2 ^ 64 - 1 }
+
+-- the digests that it gives after three bytes more, and after 67, with which the count wraps. OpenSSL
+-- gives them too, when its count of bits is set to 2 ^ 64 - 512
+pub record EndsOfLongMessages : Type 0 where
+  pub same_count : hexadecimal (finish (compress ripemd160) word_bytes (with_tail after_most_blocks (codes "abc")))
+      ≡ codes "5b3fd7f108829cfbfa70100129a6e5780873ae9a"
+  pub wrapped : (fed (compress ripemd160) after_most_blocks (replicate 67 0x61)).count ≡ 0
+  pub wrapped_count :
+      hexadecimal
+      (finish (compress ripemd160) word_bytes (fed (compress ripemd160) after_most_blocks (replicate 67 0x61)))
+      ≡ codes "cc15afa7a251ed184f13b62b5163ba9cb1c2c4af"
+
+-- ---- which states can occur
+
+-- the greatest state of RIPEMD-160, and six that are one past it or have another number of words
+pub record StatesThatOccur : Type 0 where
+  pub greatest : IsState ripemd160
+      (record { words = replicate 5 (2 ^ 32 - 1); count = 2 ^ 64 - 1; tail = replicate 63 255 })
+  pub no_missing_word : ¬ IsState ripemd160 (record (new_state ripemd160) { words = replicate 4 0 })
+  pub no_further_word : ¬ IsState ripemd160 (record (new_state ripemd160) { words = replicate 6 0 })
+  pub no_greater_word : ¬ IsState ripemd160 (record (new_state ripemd160) { words = replicate 5 (2 ^ 32) })
+  pub no_greater_count : ¬ IsState ripemd160 (record (new_state ripemd160) { count = 2 ^ 64 })
+  pub no_longer_tail : ¬ IsState ripemd160 (with_tail (new_state ripemd160) (replicate 64 0))
+  pub no_greater_byte : ¬ IsState ripemd160 (with_tail (new_state ripemd160) (256 ∷ []))
+  pub core : IsCoreState ripemd160 (new_state ripemd160)
+  pub no_core_with_tail : ¬ IsCoreState ripemd160 (with_tail (new_state ripemd160) (0 ∷ []))

@@ -4,9 +4,6 @@ ghost use Rattle.std.specs.Prelude.{◌≡◌, ℕ, ◌+◌, ◌*◌, ◌^◌, �
 ghost use Rattle.std.specs.List.{All};
 ghost use Rattle.ripemd_block.specs.Standard.Words.{word_bytes, eight_bytes};
 
-#[cfg(test)]
-mod tests;
-
 /// An array of bytes: `[u8; N]`, for any length `N`.
 pub trait ByteArray: Copy {
     // Its bytes.

@@ -16,9 +16,6 @@ use std::alloc::AllocError;
 use std::fmt;
 use std::marker::Model;
 
-#[cfg(test)]
-mod tests;
-
 /// The block core of a block function: it takes in the whole blocks of a message, and leaves its
 /// tail to a [`Buffer`]. It has a state, and the count of the blocks so far, modulo 2^64. Contracts
 /// see these, with an empty tail.

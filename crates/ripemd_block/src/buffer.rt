@@ -12,9 +12,6 @@ use crate::padding::{last_blocks, whole_blocks};
 use crate::traits::UpdateCore;
 use std::marker::Model;
 
-#[cfg(test)]
-mod tests;
-
 /// The tail of a message: fewer than 64 bytes. Contracts see the list of them.
 #[derive(Drop)]
 pub struct Buffer {

@@ -10,14 +10,18 @@ ghost use Rattle.ripemd_block.specs.Standard.Hashing.{length_place, zero_count, 
 ghost use Rattle.ripemd_block.specs.Standard.Hashing.{blocks, hash, ripemd};
 ghost use Rattle.ripemd_block.specs.States.{Meaning, AreWords};
 ghost use Rattle.ripemd_block.specs.States.{initial_state, new_state, fed, finish};
-ghost use Rattle.ripemd_block.specs.Published.{DigestsOfEmpty, DigestsOfAbc, DigestsOfTwoBlocks, OrderOfLeftLine, OrderOfRightLine, ConstantsOfLines, AreWholeRoots, SavedCores, SavedHasher, SavedBlockAndTail};
+ghost use Rattle.ripemd_block.specs.Published.{DigestsOfEmpty, DigestsOfAbc, DigestsOfTwoBlocks, DigestsOfDigits};
+ghost use Rattle.ripemd_block.specs.Published.{OrderOfLeftLine, OrderOfRightLine, ConstantsOfLines, AreWholeRoots};
+ghost use Rattle.ripemd_block.specs.Published.{SavedCores, SavedHasher, SavedBlockAndTail, EndsOfLongMessages, StatesThatOccur};
 
-/// The definitions give the digests that the authors published of the empty message, of "abc" and
-/// of a message of 56 bytes, whose padding needs a second block, for each of the four variants.
+/// The definitions give the digests that the authors published of the empty message, of "abc", of a
+/// message of 56 bytes, whose padding needs a second block, and of "1234567890" eight times, for
+/// each of the four variants.
 pub fn published_digests()
     ensures empty { DigestsOfEmpty }
     ensures abc { DigestsOfAbc }
     ensures two_blocks { DigestsOfTwoBlocks }
+    ensures digits { DigestsOfDigits }
 {}
 
 /// The definitions give the published orders of the message words and the published constants, and
@@ -38,6 +42,17 @@ pub fn saved_states()
     ensures cores { SavedCores }
     ensures hasher { SavedHasher }
     ensures block_and_tail { SavedBlockAndTail }
+{}
+
+/// Where the length in bits passes 2^64, and where the count of blocks does, the definitions give the
+/// digest that OpenSSL gives.
+pub fn long_messages()
+    ensures { EndsOfLongMessages }
+{}
+
+/// The greatest words, count and tail are those of a state that can occur; one more of each is not.
+pub fn states()
+    ensures { StatesThatOccur }
 {}
 
 /// The start words of each variant are words, as many as its state has.

@@ -16,8 +16,6 @@ mod four_registers;
 mod message;
 pub mod padding;
 mod pair;
-#[cfg(test)]
-mod tests_by_tables;
 pub mod textbook;
 mod traits;
 mod variants;

@@ -9,9 +9,6 @@ ghost use Rattle.ripemd_block.specs.Standard.Hashing.{length_place, with_padding
 ghost use Rattle.ripemd_block.specs.Standard.Hashing.{padded_message, blocks, partial_block};
 ghost use Rattle.ripemd_block.specs.States.{IsTail};
 
-#[cfg(test)]
-mod tests;
-
 /// The last block or the last two blocks of a padded message.
 #[derive(Clone, Copy, PartialEq, Eq, Debug)]
 pub struct Padded {

@@ -1,7 +1,7 @@
 //! The traits of block cores and of block functions.
 
 ghost use Rattle.std.specs.Prelude.{◌≡◌, ◌≢◌, ℕ, ◌+◌, ◌≤◌, List, [], ◌++◌, length, IfOk, IfErr, IfSome, IfNone, true};
-ghost use Rattle.std.specs.Fmt.{WritesOnOk};
+ghost use Rattle.std.specs.Fmt.{WritesOnOk, WritesStyledOnOk};
 ghost use Rattle.ripemd_block.specs.Standard.Words.{block_size};
 ghost use Rattle.ripemd_block.specs.States.{Meaning, IsTail};
 ghost use Rattle.ripemd_block.specs.Listed.{IsOverLists, TellsWords};
@@ -53,13 +53,14 @@ pub trait AlgorithmName {
     /// The name, such as `Ripemd160`.
     const ALG_NAME: &'static str;
 
-    /// Writes the name.
+    /// Writes the name, and nothing for the width or another option of the formatter.
     ///
     /// # Errors
     ///
-    /// The error of the writer.
+    /// The error of the writer. What it then took is not known.
     fn write_alg_name<W: fmt::Write>(f: &mut fmt::Formatter<W>) -> fmt::Result
-        ensures { WritesOnOk W.write_str_gives f.old result name f.new };
+        ensures writes { WritesOnOk W.write_str_gives f.old result name f.new }
+        ensures styled { WritesStyledOnOk W.write_str_gives f.old result name f.new };
 }
 
 /// A core or a hasher that contracts see as a hash under way: words, a count of blocks and a tail.

@@ -15,3 +15,7 @@ returns-clause-abc c = record { of128 = refl; of160 = refl; of256 = refl; of320 
 pub returns-clause-two_blocks : goal.returns-clause-two_blocks
 unfolding registers_after lines_after compress with_padding blocks hash
 returns-clause-two_blocks c = record { of128 = refl; of160 = refl; of256 = refl; of320 = refl }
+
+pub returns-clause-digits : goal.returns-clause-digits
+unfolding registers_after lines_after compress with_padding blocks hash
+returns-clause-digits c = record { of128 = refl; of160 = refl; of256 = refl; of320 = refl }

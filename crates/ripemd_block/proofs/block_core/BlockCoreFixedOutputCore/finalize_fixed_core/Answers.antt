@@ -1,4 +1,4 @@
-use Rattle.std.proofs.Common.{◌≡◌, ◌∷◌, arith, ap, ◌∙◌, sym, refl, List, ℕ}
+use Rattle.std.proofs.Common.{◌≡◌, ◌∷◌, arith, ap, ◌∙◌, refl}
 use Rattle.std.specs.Option.{option_to_list}
 use Rattle.ripemd_block.specs.Standard.Hashing.{walk}
 use Rattle.ripemd_block.specs.States.{Meaning}
