@@ -2,9 +2,13 @@
 pub use Rattle.ripemd_block.specs.Standard
 pub use Rattle.ripemd_block.specs.States
 pub use Rattle.ripemd_block.specs.Listed
+-- What the authors published, and worked values.
+pub use Rattle.ripemd_block.specs.Published
 -- What has to be believed besides: the machine of `replay`, and collisions of block functions.
 pub mod Replay
 pub mod Collisions
+-- Worked examples of these.
+pub mod Worked
 -- Hashers of messages: words for callers.
 pub mod Messages
 -- Words about the code's own vectors: proved, not to be believed.

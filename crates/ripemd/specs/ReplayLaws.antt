@@ -1,10 +1,11 @@
 -- The laws of the machine of `replay`, for its callers.
-use Rattle.std.proofs.Common.{◌≡◌, ◌≢◌, ℕ, zero, suc, ◌<◌, inl, inr, refl, sym, ◌∙◌, ap, subst, arith}
-use Rattle.std.proofs.Common.{List, [], ◌∷◌, length, take, Some}
+use Rattle.std.proofs.Common.{◌≡◌, ◌≢◌, ℕ, zero, suc, ◌+◌, ◌<◌, inl, inr, refl, sym, ◌∙◌, ap, subst, arith}
+use Rattle.std.proofs.Common.{List, [], ◌∷◌, length, take, length-append, Some}
 use Rattle.std.specs.Prelude.{⊤}
 use Rattle.std.proofs.Math.Seq.{take-length}
 use Rattle.std.proofs.lemmas.Bool.{cases_lt}
 use Rattle.std.proofs.lemmas.Option.{slice_get_within}
+use Rattle.std.proofs.lemmas.List.{length-set}
 use Rattle.std.specs.List.{slice_get}
 use Rattle.ripemd_block.specs.Standard.Words.{word_bytes}
 use Rattle.ripemd_block.specs.Standard.Compression.{Parameters, compress}
@@ -16,7 +17,7 @@ use Rattle.ripemd.specs.declared.replay.Command.TheVariants.{New, Update, Reset,
 use Rattle.ripemd.specs.declared.replay.ReplayError.{ReplayError}
 use Rattle.ripemd.specs.declared.replay.ReplayError.TheVariants.{NoHasher, NoSaved, BadState, OutOfMemory}
 use Rattle.ripemd.specs.Replay.{Machine, empty_machine, from_state, feed, add_hasher, digest}
-use Rattle.ripemd.specs.Replay.{hasher_of, saved_of, imported, Does, Runs, Gives, Explains, Stops}
+use Rattle.ripemd.specs.Replay.{hasher_of, saved_of, imported, Grows, Does, Runs, Gives, Explains, Stops}
 
 -- the digest of a history that began as new is the hash of its bytes
 pub digest_of_new : (start : List ℕ) (step : List ℕ → List ℕ → List ℕ) (output : List ℕ → List ℕ) (bytes : List ℕ)
@@ -28,9 +29,32 @@ pub ripemd_of_new : (v : Parameters) (bytes : List ℕ)
     → digest (compress v) word_bytes (feed (from_state (new_state v)) bytes) ≡ ripemd v bytes
 ripemd_of_new v = finish_fed v.start (compress v) word_bytes
 
+-- how many things a machine has
+abbrev pub size : Machine → ℕ
+size m = length m.hashers + length m.saved + length m.digests
+
 module _ (start : List ℕ) (step : List ℕ → List ℕ → List ℕ) (output : List ℕ → List ℕ)
     (is_valid : Meaning → Type 0) (state_bytes : Meaning → List ℕ) where
   -- ---- what memory was refused to
+
+  -- a command that needs room adds one thing
+  pub grows : (c : Command) (m n : Machine) → Does start step output is_valid state_bytes c m n → Grows c
+      → size n ≡ size m + 1
+  grows New m n does room = rw does (omega (arith, length-append m.hashers))
+  grows (Update i x) m n does room = absurd room
+  grows (Reset i) m n does room = absurd room
+  grows (Finish i) m n does room = rw does.1 (omega (arith, length-append m.digests, length-set m.hashers))
+  grows (Fork i) m n does room = rw does.1 (omega (arith, length-append m.hashers))
+  grows (Save i) m n does room = rw does.1 (omega (arith, length-append m.saved))
+  grows (Load i) m n does room = rw does.1 (omega (arith, length-append m.hashers))
+  grows (Import x) m n (h, valid, same, is) room = rw is (omega (arith, length-append m.hashers))
+
+  -- any other adds nothing
+  pub keeps_its_size : (c : Command) (m n : Machine) → Does start step output is_valid state_bytes c m n → ¬ Grows c
+      → size n ≡ size m
+  keeps_its_size (Update i x) m n does room = rw does.1 (omega (arith, length-set m.hashers))
+  keeps_its_size (Reset i) m n does room = rw does.1 (omega (arith, length-set m.hashers))
+  keeps_its_size _ m n does room = absurd (room tt)
 
   -- the commands that are good at the start
   abbrev pub IsGoodFirst : Command → Type 0

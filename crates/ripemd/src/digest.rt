@@ -54,11 +54,13 @@ pub trait Digest: OutputSizeUser + HashMeaning + Drop {
     /// Forgets the message so far, and leaves the hasher as `new()` makes it.
     fn reset(&mut self)
         ensures meaning { Self.meaning self.new ≡ initial_state start }
-        ensures valid { Self.is_valid (Self.meaning self.new) };
+        ensures valid_old { Self.is_valid (Self.meaning self.old) }
+        ensures valid_new { Self.is_valid (Self.meaning self.new) };
 
     /// A second hasher of the same message. From then on each goes its own way.
     fn duplicate(&self) -> Self
-        ensures same { result ≡ self.now };
+        ensures same { result ≡ self.now }
+        ensures valid { Self.is_valid (Self.meaning self.now) };
 
     /// The bytes of a digest: as many as `output_size()` says, and at most 64.
     fn output_bytes(out: &Self::Output) -> &[u8]
@@ -87,7 +89,8 @@ pub trait Digest: OutputSizeUser + HashMeaning + Drop {
         ensures message { (message : List ℕ)
             → IsHashing Self.start Self.step message (Self.meaning self)
             → IsHashing Self.start Self.step (message ++ bytes.now) (Self.meaning result) }
-        ensures valid { Self.is_valid (Self.meaning result) }
+        ensures valid_old { Self.is_valid (Self.meaning self) }
+        ensures valid_new { Self.is_valid (Self.meaning result) }
     {
         let mut hasher = self;
         hasher.update(bytes);
@@ -103,6 +106,7 @@ pub trait Digest: OutputSizeUser + HashMeaning + Drop {
             → IsHashing Self.start Self.step message (Self.meaning self)
             → Self.bytes_of result ≡ hash Self.start Self.step Self.output message }
         ensures size { length (Self.bytes_of result) ≡ Self.OUTPUT_SIZE }
+        ensures valid { Self.is_valid (Self.meaning self) }
     {
         let mut hasher = self;
         hasher.finalize_reset()
@@ -115,6 +119,7 @@ pub trait Digest: OutputSizeUser + HashMeaning + Drop {
         ensures digest { Self.bytes_of out.new
             ≡ finish Self.step Self.output (Self.meaning self) }
         ensures size { length (Self.bytes_of out.new) ≡ Self.OUTPUT_SIZE }
+        ensures valid { Self.is_valid (Self.meaning self) }
     {
         *out = self.finalize();
     }

@@ -55,6 +55,8 @@ impl<F: HashFunction> Model for BlockHasher<F> {
     ghost Value = { Meaning };
 
     ghost view = { λ h. with_tail h.core h.buffer };
+
+    ghost invariant = { λ h. IsUnderWay F.are_words (with_tail h.core h.buffer) };
 }
 
 impl<F: HashFunction> Default for BlockHasher<F> {
@@ -157,7 +159,8 @@ impl<F: HashFunction> Digest for BlockHasher<F> {
     }
 
     fn reset(&mut self) {
-        *self = BlockHasher::default();
+        self.core = BlockCore::default();
+        self.buffer = Buffer::default();
     }
 
     fn duplicate(&self) -> BlockHasher<F> {

@@ -3,6 +3,7 @@
 #![tactic(auto)]
 
 pub mod digest;
+pub mod facts;
 pub mod hashers;
 pub mod replay;
 pub mod state;
@@ -12,6 +13,3 @@ pub use digest::Digest;
 pub use hashers::{BlockHasher, Ripemd128, Ripemd160, Ripemd256, Ripemd320};
 pub use ripemd_block::block_api::{HashFunction, ResumableFunction};
 pub use ripemd_block::{block_api, buffer, padding};
-
-#[cfg(test)]
-mod tests;

@@ -9,9 +9,6 @@ use ripemd_block::block_api::SerializableState;
 use std::alloc::Global;
 use thiserror::Error;
 
-#[cfg(test)]
-mod tests;
-
 /// A command to numbered hashers and numbered saved states. Both are numbered from 0, in the order
 /// in which they are made.
 #[derive(Clone, Copy, Debug)]

@@ -9,9 +9,6 @@ pub use ripemd_block::block_api::DeserializeStateError;
 use ripemd_block::block_api::{BlockCore, ByteArray, ResumableFunction, SerializableState};
 use ripemd_block::buffer::Buffer;
 
-#[cfg(test)]
-mod tests;
-
 impl<F: ResumableFunction> SerializableState for BlockHasher<F> {
     type Saved = F::SavedHasher;
 

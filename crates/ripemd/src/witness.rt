@@ -12,9 +12,6 @@ ghost use Rattle.ripemd.specs.Collisions.{pair_of, state_after, IsCollision, IsO
 pub use ripemd_block::block_api::BlockFunction;
 use ripemd_block::padding::{block_count, pad_block};
 
-#[cfg(test)]
-mod tests;
-
 /// A place on the walk of a block function through a message with its padding: the state before a
 /// block, and the block.
 #[derive(Clone, Copy, PartialEq, Eq, Debug)]

@@ -1,0 +1,86 @@
+use Rattle.std.proofs.Common.{◌≡◌, ℕ, zero, suc, ◌+◌, ◌<◌, List, [], ◌∷◌, refl, ap, arith}
+use Rattle.std.specs.Prelude.{slice_index}
+use Rattle.ripemd_block.specs.Standard.Hashing.{padded_message, blocks, with_padding}
+use Rattle.ripemd.specs.Collisions.{Pair, pair_at}
+use Rattle.ripemd.specs.Worked.{parity, block_of, message_of, Collide, Met, met}
+use Rattle.ripemd.proofs.facts.collisions.Goals as goal
+
+-- the first byte of a pair's block
+abbrev first_byte : Pair ℕ → ℕ
+first_byte pair = slice_index pair.1 0
+
+-- the pair at a place of the walk through such a message
+abbrev walked : List ℕ → ℕ → Pair ℕ
+walked bytes place = pair_at 0 parity (blocks (padded_message (message_of bytes))) place
+
+first : Collide (1 ∷ 2 ∷ []) (3 ∷ 2 ∷ []) 0 0
+unfolding blocks with_padding
+first = record {
+  left_place = omega arith;
+  right_place = omega arith;
+  same_rest = refl;
+  different = λ same. omega (arith, ap first_byte same);
+  one_step = refl;
+  later_agree = later;
+}
+  where
+    later : (i : ℕ) → 0 < i → i < 3 → walked (1 ∷ 2 ∷ []) (0 + i) ≡ walked (3 ∷ 2 ∷ []) (0 + i)
+    later zero some less = absurd (omega (arith, some))
+    later (suc zero) some less = refl
+    later (suc (suc zero)) some less = refl
+    later (suc (suc (suc i))) some less = absurd (omega (arith, less))
+
+last_difference : Collide (1 ∷ 2 ∷ []) (3 ∷ 4 ∷ []) 1 1
+unfolding blocks with_padding
+last_difference = record {
+  left_place = omega arith;
+  right_place = omega arith;
+  same_rest = refl;
+  different = λ same. omega (arith, ap first_byte same);
+  one_step = refl;
+  later_agree = later;
+}
+  where
+    later : (i : ℕ) → 0 < i → i < 2 → walked (1 ∷ 2 ∷ []) (1 + i) ≡ walked (3 ∷ 4 ∷ []) (1 + i)
+    later zero some less = absurd (omega (arith, some))
+    later (suc zero) some less = refl
+    later (suc (suc i)) some less = absurd (omega (arith, less))
+
+unlike_lengths : Collide (0 ∷ 1 ∷ []) (1 ∷ []) 2 1
+unfolding blocks with_padding
+unlike_lengths = record {
+  left_place = omega arith;
+  right_place = omega arith;
+  same_rest = refl;
+  different = λ same. omega (arith, ap (λ (pair : Pair ℕ). slice_index pair.1 57) same);
+  one_step = refl;
+  later_agree = λ i some less. absurd (omega (arith, some, less));
+}
+
+pub returns-clause-places : goal.returns-clause-places
+unfolding blocks with_padding
+returns-clause-places c = record {
+  first = first;
+  last_difference = last_difference;
+  unlike_lengths = unlike_lengths;
+  no_difference = λ collide. collide.different refl;
+  not_one_step = λ collide. omega (arith, collide.one_step);
+  another_later = λ collide. omega (arith, ap first_byte (collide.later_agree 1 (omega arith) (omega arith)));
+  another_rest = λ collide. omega (arith, collide.same_rest);
+  past_the_ends = λ collide. omega (arith, collide.left_place);
+}
+
+one : Met (met 0 (block_of 1) 0 (block_of 3))
+unfolding blocks with_padding
+one = record { left = refl; right = refl; collide = first }
+
+pub returns-clause-answers : goal.returns-clause-answers
+unfolding blocks with_padding
+returns-clause-answers c = record {
+  one = one;
+  another_left_state = λ met. omega (arith, ap (λ (pair : Pair ℕ). pair.0) met.left);
+  another_left_block = λ met. omega (arith, ap first_byte met.left);
+  another_right_state = λ met. omega (arith, ap (λ (pair : Pair ℕ). pair.0) met.right);
+  another_right_block = λ met. omega (arith, ap first_byte met.right);
+  not_none = λ only. cc (only _ one);
+}
