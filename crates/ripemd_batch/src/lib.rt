@@ -7,6 +7,7 @@ mod c256;
 mod c320;
 pub mod digests;
 mod eight;
+pub mod facts;
 mod five_registers;
 mod four_registers;
 mod four_words;
@@ -16,6 +17,3 @@ mod states;
 mod steps;
 
 pub use digests::{BatchDigest, digest_each};
-
-#[cfg(test)]
-mod tests;

@@ -8,6 +8,7 @@ ghost use Rattle.ripemd.specs.Standard.Hashing.{ripemd};
 ghost use Rattle.ripemd_c.specs.Records.{records};
 
 mod each;
+pub mod facts;
 
 use crate::each::digest_records;
 use ripemd::{Digest, Ripemd128, Ripemd160, Ripemd256, Ripemd320};

@@ -1,7 +1,10 @@
+ghost use Rattle.std.specs.Prelude.{◌≡◌, ◌*◌, ◌≤◌, ◌<◌, length};
+
 use crate::{
     nattizhu_ripemd128, nattizhu_ripemd128_each, nattizhu_ripemd160, nattizhu_ripemd160_each,
     nattizhu_ripemd256, nattizhu_ripemd256_each, nattizhu_ripemd320, nattizhu_ripemd320_each,
 };
+use ripemd::{Digest, Ripemd128, Ripemd160, Ripemd256, Ripemd320};
 
 // The authors' digests of "abc".
 const BY_128: [u8; 16] = [
@@ -28,56 +31,128 @@ const BY_320: [u8; 40] = [
 fn one_message(rt: HostRuntime) {
     let mut by_128 = [0; 16];
     nattizhu_ripemd128(b"abc", &mut by_128);
-    assert_eq!(rt; by_128, BY_128);
+    assert!(rt; by_128 == BY_128);
     let mut by_160 = [0; 20];
     nattizhu_ripemd160(b"abc", &mut by_160);
-    assert_eq!(rt; by_160, BY_160);
+    assert!(rt; by_160 == BY_160);
     let mut by_256 = [0; 32];
     nattizhu_ripemd256(b"abc", &mut by_256);
-    assert_eq!(rt; by_256, BY_256);
+    assert!(rt; by_256 == BY_256);
     let mut by_320 = [0; 40];
     nattizhu_ripemd320(b"abc", &mut by_320);
-    assert_eq!(rt; by_320, BY_320);
+    assert!(rt; by_320 == BY_320);
 }
 
-// 300 records, of which those at the ends of what is handed on at once are "abc".
+// Bytes that differ from record to record.
+fn bytes() -> [u8; 9_030] {
+    let mut bytes = [0; 9_030];
+    for i in 0..9_030 {
+        bytes[i] = ((i * i / 7 + i) % 256) as u8;
+    }
+    bytes
+}
+
+// Whether each record has the digest that it has alone.
+fn have_digests<D: Digest>(records: &[u8], size: usize, digests: &[D::Output]) -> bool
+    requires { 0 < size }
+{
+    let records = records.chunks(size);
+    if records.len() != digests.len() {
+        return false;
+    }
+    for (record, digest) in records.zip(digests) {
+        let wanted = D::digest(record);
+        if D::output_bytes(digest) != D::output_bytes(&wanted) {
+            return false;
+        }
+    }
+    true
+}
+
+// Whether this is so of up to 300 records, by RIPEMD-128.
+fn agree_by_128(records: &[u8], size: usize, count: usize) -> bool
+    requires length { length records.now ≡ count * size }
+    requires size { 0 < size }
+    requires count { count ≤ 300 }
+{
+    let mut digests = [[0; 16]; 300];
+    let digests = &mut digests[..count];
+    nattizhu_ripemd128_each(records, size, digests);
+    have_digests::<Ripemd128>(records, size, digests)
+}
+
+// The same by RIPEMD-160.
+fn agree_by_160(records: &[u8], size: usize, count: usize) -> bool
+    requires length { length records.now ≡ count * size }
+    requires size { 0 < size }
+    requires count { count ≤ 300 }
+{
+    let mut digests = [[0; 20]; 300];
+    let digests = &mut digests[..count];
+    nattizhu_ripemd160_each(records, size, digests);
+    have_digests::<Ripemd160>(records, size, digests)
+}
+
+// The same by RIPEMD-256.
+fn agree_by_256(records: &[u8], size: usize, count: usize) -> bool
+    requires length { length records.now ≡ count * size }
+    requires size { 0 < size }
+    requires count { count ≤ 300 }
+{
+    let mut digests = [[0; 32]; 300];
+    let digests = &mut digests[..count];
+    nattizhu_ripemd256_each(records, size, digests);
+    have_digests::<Ripemd256>(records, size, digests)
+}
+
+// The same by RIPEMD-320.
+fn agree_by_320(records: &[u8], size: usize, count: usize) -> bool
+    requires length { length records.now ≡ count * size }
+    requires size { 0 < size }
+    requires count { count ≤ 300 }
+{
+    let mut digests = [[0; 40]; 300];
+    let digests = &mut digests[..count];
+    nattizhu_ripemd320_each(records, size, digests);
+    have_digests::<Ripemd320>(records, size, digests)
+}
+
+// Whether this is so by each hasher, of so many records of so many bytes.
+fn all_agree(count: usize, size: usize) -> bool
+    requires size { 0 < size }
+    requires count { count ≤ 300 }
+{
+    let bytes = bytes();
+    let Some(len) = count.checked_mul(size) else {
+        return false;
+    };
+    let Some(records) = bytes.get(..len) else {
+        return false;
+    };
+    agree_by_128(records, size, count)
+        && agree_by_160(records, size, count)
+        && agree_by_256(records, size, count)
+        && agree_by_320(records, size, count)
+}
+
+// Many records of three bytes; records longer than a block, as many as are handed on at once, and
+// one more.
 #[test]
 fn many_records(rt: HostRuntime) {
-    let mut bytes = [b'x'; 900];
-    for i in [0usize, 127, 128, 299] {
-        bytes[3 * i] = b'a';
-        bytes[3 * i + 1] = b'b';
-        bytes[3 * i + 2] = b'c';
-    }
-    let mut by_128 = [[0; 16]; 300];
-    nattizhu_ripemd128_each(&bytes, 3, &mut by_128);
-    let mut by_160 = [[0; 20]; 300];
-    nattizhu_ripemd160_each(&bytes, 3, &mut by_160);
-    let mut by_256 = [[0; 32]; 300];
-    nattizhu_ripemd256_each(&bytes, 3, &mut by_256);
-    let mut by_320 = [[0; 40]; 300];
-    nattizhu_ripemd320_each(&bytes, 3, &mut by_320);
-    for i in [0usize, 127, 128, 299] {
-        assert_eq!(rt; by_128[i], BY_128);
-        assert_eq!(rt; by_160[i], BY_160);
-        assert_eq!(rt; by_256[i], BY_256);
-        assert_eq!(rt; by_320[i], BY_320);
-    }
+    assert!(rt; all_agree(300, 3));
+    assert!(rt; all_agree(128, 70));
+    assert!(rt; all_agree(129, 70));
 }
 
 // Records of no bytes: each digest is that of the empty message, as published.
+const EMPTY_128: [u8; 16] = [
+    0xcd, 0xf2, 0x62, 0x13, 0xa1, 0x50, 0xdc, 0x3e, 0xcb, 0x61, 0x0f, 0x18, 0xf6, 0xb3, 0x8b, 0x46,
+];
+
 #[test]
 fn empty_records(rt: HostRuntime) {
     let mut digests = [[0; 16]; 9];
     nattizhu_ripemd128_each(&[], 0, &mut digests);
-    for digest in &digests {
-        assert_eq!(rt;
-            *digest,
-            [
-                0xcd, 0xf2, 0x62, 0x13, 0xa1, 0x50, 0xdc, 0x3e, 0xcb, 0x61, 0x0f, 0x18, 0xf6, 0xb3,
-                0x8b, 0x46,
-            ]
-        );
-    }
+    assert!(rt; digests == [EMPTY_128; 9]);
     nattizhu_ripemd128_each(&[], 7, &mut []);
 }

@@ -2,3 +2,5 @@
 pub mod Keyed
 -- To what collisions two texts with one tag lead.
 pub mod MacCollisions
+-- Worked examples of both.
+pub mod Worked

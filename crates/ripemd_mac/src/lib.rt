@@ -2,11 +2,9 @@
 //! collisions to those of the block function.
 #![tactic(auto)]
 
+pub mod facts;
 pub mod keyed;
 pub mod reduction;
 
 pub use keyed::Hmac;
 pub use reduction::{MacCollision, mac_collision};
-
-#[cfg(test)]
-mod tests;

@@ -1,0 +1,14 @@
+//! What is proved of the definition of records. The function does nothing; its contract is the fact.
+
+ghost use Rattle.std.specs.Prelude.{◌≡◌, [], ◌∷◌, ◌++◌, replicate};
+ghost use Rattle.ripemd_c.specs.Records.{records};
+
+/// Three records of two bytes, with a byte behind them; two that are longer than a block; and two
+/// empty ones.
+pub fn worked_records()
+    ensures short { records 3 2 (1 ∷ 2 ∷ 3 ∷ 4 ∷ 5 ∷ 6 ∷ 7 ∷ [])
+        ≡ (1 ∷ 2 ∷ []) ∷ (3 ∷ 4 ∷ []) ∷ (5 ∷ 6 ∷ []) ∷ [] }
+    ensures long { records 2 65 (1 ∷ replicate 65 2 ++ 3 ∷ replicate 63 4)
+        ≡ (1 ∷ replicate 64 2) ∷ (2 ∷ 3 ∷ replicate 63 4) ∷ [] }
+    ensures empty { records 2 0 [] ≡ [] ∷ [] ∷ [] }
+{}

@@ -1,0 +1,61 @@
+-- Worked examples, as facts of these definitions: tags, and collisions of a small block function.
+use Rattle.std.specs.Prelude.{◌≡◌, ℕ, ◌+◌, ◌-◌, ◌*◌, ◌%◌, codes, List, [], ◌∷◌, replicate, slice_index_or}
+use Rattle.ripemd.specs.Standard.Compression.{ripemd128, ripemd160}
+use Rattle.ripemd.specs.Published.{hexadecimal}
+use Rattle.ripemd.specs.Standard.Hashing.{padded_message, blocks, hash, ripemd}
+use Rattle.ripemd.specs.Worked.{block_of}
+use Rattle.ripemd.specs.declared.witness.Collision.{Collision}
+use Rattle.ripemd_mac.specs.declared.reduction.MacCollision.{MacCollision}
+use Rattle.ripemd_mac.specs.declared.reduction.MacCollision.TheVariants.{Inner, Outer}
+use Rattle.ripemd_mac.specs.Keyed.{hmac, inner_message, outer_message}
+use Rattle.ripemd_mac.specs.MacCollisions.{InnerAgree, IsMacCollision}
+
+-- ---- tags
+
+abbrev pub long_key_text : List ℕ
+long_key_text = codes "Test Using Larger Than Block-Size Key - Hash Key First"
+
+-- those of RFC 2286 under keys of 16, 20 and 80 bytes, and under a key of 64 bytes the one that OpenSSL gives
+pub record WorkedTags : Type 0 where
+  pub of128 : hexadecimal (hmac (ripemd ripemd128) (replicate 16 0x0b) (codes "Hi There"))
+      ≡ codes "fbf61f9492aa4bbf81c172e84e0734db"
+  pub of160 : hexadecimal (hmac (ripemd ripemd160) (replicate 20 0x0b) (codes "Hi There"))
+      ≡ codes "24cb4bd67d20fc1a5d2ed7732dcc39377f0a5668"
+  pub long_key_of128 : hexadecimal (hmac (ripemd ripemd128) (replicate 80 0xaa) long_key_text)
+      ≡ codes "dc732928de98104a1f59d373c150acbb"
+  pub long_key_of160 : hexadecimal (hmac (ripemd ripemd160) (replicate 80 0xaa) long_key_text)
+      ≡ codes "6466ca07ac5eac29e1bd523e5ada7605b791fd8b"
+  pub whole_block : hexadecimal (hmac (ripemd ripemd160) (replicate 64 0xaa) (codes "Hi There"))
+      ≡ codes "551147982017d1c4764ecba3a5f5ea96153b0c5d"
+
+-- ---- collisions
+
+-- a block function over numbers: 0 if the block's first byte is odd, and else its sum with the state, modulo 4
+abbrev pub even_sum : ℕ → List ℕ → ℕ
+even_sum state block = (state + slice_index_or block 0 0) * (1 - slice_index_or block 0 0 % 2) % 4
+
+-- its hash, which is odd
+abbrev pub small_hash : List ℕ → List ℕ
+small_hash = hash 0 even_sum (λ state. (2 * state + 1) ∷ [])
+
+-- the answer for two texts of one block, under the empty key
+abbrev pub Meets : ℕ → ℕ → MacCollision ℕ → Type 0
+Meets a b = IsMacCollision small_hash 0 even_sum [] (block_of a) (block_of b)
+
+-- a collision at the second blocks of two messages, after the same state
+abbrev pub second_blocks : ℕ → List ℕ → List ℕ → Collision ℕ
+second_blocks state a b = record {
+  left = record { place = 1; state = state; block = slice_index_or (blocks (padded_message a)) 1 [] };
+  right = record { place = 1; state = state; block = slice_index_or (blocks (padded_message b)) 1 [] };
+}
+
+-- of the texts with the bytes 1 and 3, whose inner hashes agree, and 0 and 2, whose inner hashes do not
+pub record WorkedMacCollisions : Type 0 where
+  pub agree : InnerAgree small_hash [] (block_of 1) (block_of 3)
+  pub differ : ¬ InnerAgree small_hash [] (block_of 0) (block_of 2)
+  pub inner : Meets 1 3
+      (Inner (second_blocks 2 (inner_message small_hash [] (block_of 1)) (inner_message small_hash [] (block_of 3))))
+  pub outer : Meets 0 2
+      (Outer (second_blocks 0 (outer_message small_hash [] (block_of 0)) (outer_message small_hash [] (block_of 2))))
+  pub no_outer : (c : Collision ℕ) → ¬ Meets 1 3 (Outer c)
+  pub no_inner : (c : Collision ℕ) → ¬ Meets 0 2 (Inner c)

@@ -1,0 +1,15 @@
+//! Worked examples of the definitions, proved. The functions do nothing; their contracts are the
+//! facts.
+
+ghost use Rattle.ripemd_mac.specs.Worked.{WorkedTags, WorkedMacCollisions};
+
+/// The definition gives the tags of RFC 2286 under keys shorter and longer than a block, and what
+/// OpenSSL gives under a key of a whole block.
+pub fn tags()
+    ensures { WorkedTags }
+{}
+
+/// Collisions of a small block function, inside the inner messages and inside the outer ones.
+pub fn mac_collisions()
+    ensures { WorkedMacCollisions }
+{}
