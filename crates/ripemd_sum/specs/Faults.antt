@@ -1,12 +1,12 @@
 -- What the errors of a run say of its reader and its writer.
-use Rattle.std.specs.Prelude.{◌≡◌, ℕ, List, true, codes, Option}
+use Rattle.std.specs.Prelude.{◌≡◌, ℕ, List, true, codes, Option, Result, MatchResult}
 use Rattle.ripemd_sum.specs.declared.fault.ReadFault.{ReadFault}
 use Rattle.ripemd_sum.specs.declared.fault.ReadFault.TheVariants as reading
 use Rattle.ripemd_sum.specs.declared.fault.RunFault.{RunFault}
 use Rattle.ripemd_sum.specs.declared.fault.RunFault.TheVariants.{Read, TooLong, Write}
 use Rattle.ripemd_sum.specs.declared.tracked.Tracked.{Tracked}
 use Rattle.ripemd_sum.specs.Track.{has_failed}
-use Rattle.ripemd_sum.specs.Runs.{GivesAll, FailsToGive, GivesTooMuch}
+use Rattle.ripemd_sum.specs.Runs.{GivesAll, FailsToGive, GivesTooMuch, Gets}
 
 -- the line that the program prints for an error
 abbrev pub message_of : RunFault → List ℕ
@@ -31,3 +31,11 @@ ExplainsRun remaining old new writer written limit (Read e) = FailsToGive remain
 ExplainsRun remaining old new writer written limit TooLong = GivesTooMuch remaining old new limit × (written ≡ writer)
 ExplainsRun remaining old new writer written limit (Write e) =
     ((message : List ℕ) × GivesAll remaining old new limit message) × (has_failed written ≡ true)
+
+-- a run of this limit and this outcome: the writer got the line of the message that the reader gave, or
+-- the error says how far they came
+abbrev pub IsRun : {R W T : Type 0} → (R → Option (List ℕ)) → (W → Option (List ℕ)) → Tracked R → Tracked R
+    → Tracked W → Tracked W → ℕ → (List ℕ → List ℕ) → Result T RunFault → Type 0
+IsRun remaining contents old new writer written limit line outcome = MatchResult outcome
+    (λ _. (message : List ℕ) × GivesAll remaining old new limit message × Gets contents writer written (line message))
+    (ExplainsRun remaining old new writer written limit)

@@ -3,7 +3,7 @@ use Rattle.std.specs.Prelude.{◌≡◌, ℕ, ◌*◌, ◌≤◌, List, [], ◌�
 use Rattle.std.specs.List.{AllPass}
 use Rattle.hex.specs.Hex.{decode_of, is_hex_digit}
 use Rattle.ripemd_sum.specs.declared.variant.Variant.{Variant}
-use Rattle.ripemd_sum.specs.Variants.{name_of}
+use Rattle.ripemd_sum.specs.Variants.{name_of, Chooses}
 
 -- two hexadecimal digits, of either case, for each of so many bytes, at most 64
 pub record IsKeyText (text : List ℕ) (count : ℕ) : Type 0 where
@@ -20,3 +20,8 @@ ChoosesMac _ v count = ⊥
 abbrev pub HasKey : List (List ℕ) → List ℕ → Type 0
 HasKey (name ∷ word ∷ text ∷ []) key = decode_of text ≡ Ok key
 HasKey _ key = ⊥
+
+-- these arguments ask for nothing
+pub record AsksNothing (arguments : List (List ℕ)) : Type 0 where
+  pub no_digest : (v : Variant) → ¬ Chooses arguments v
+  pub no_tag : (v : Variant) (count : ℕ) → ¬ ChoosesMac arguments v count

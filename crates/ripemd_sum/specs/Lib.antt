@@ -3,5 +3,7 @@ pub mod Variants
 pub mod Keys
 pub mod Runs
 pub mod Faults
+-- Worked cases of these.
+pub mod Worked
 -- What a `Tracked` shows.
 pub mod Track

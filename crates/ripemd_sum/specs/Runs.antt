@@ -1,5 +1,5 @@
 -- What a run of the program reads and writes.
-use Rattle.std.specs.Prelude.{◌≡◌, ℕ, ◌+◌, ◌<◌, ◌≤◌, true, false, List, ◌++◌, length, codes, Option}
+use Rattle.std.specs.Prelude.{◌≡◌, ℕ, ◌+◌, ◌-◌, ◌^◌, ◌<◌, ◌≤◌, true, false, List, ◌++◌, length, codes, Option}
 use Rattle.std.specs.Io.KnownBytes.{Appends, Consumes, IsAtEnd}
 use Rattle.hex.specs.Hex.{encode_lower}
 use Rattle.ripemd.specs.Standard.Compression.{Parameters, ripemd128, ripemd160, ripemd256, ripemd320}
@@ -24,6 +24,14 @@ digest_line v message = encode_lower (ripemd (parameters_of v) message) ++ codes
 -- the line of a message under a key: its tag in lower case hexadecimal, and a newline
 abbrev pub tag_line : Variant → List ℕ → List ℕ → List ℕ
 tag_line v key message = encode_lower (hmac (ripemd (parameters_of v)) key message) ++ codes "\n"
+
+-- the longest input, in bytes: the length in bits of a longer one does not fit into 64 bits
+abbrev pub most_bytes : ℕ
+most_bytes = 2 ^ 61 - 1
+
+-- the longest with a key, whose block of 64 bytes is hashed in front of the input
+abbrev pub most_bytes_under_a_key : ℕ
+most_bytes_under_a_key = most_bytes - 64
 
 -- between two of its states a reader gave these bytes, and they were counted
 pub record Gives {R : Type 0} (remaining : R → Option (List ℕ)) (old new : Tracked R) (bytes : List ℕ) : Type 0 where

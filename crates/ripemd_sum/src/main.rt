@@ -3,6 +3,7 @@
 #![tactic(auto)]
 
 mod engine;
+mod facts;
 mod fault;
 mod key;
 mod summing;
@@ -11,8 +12,13 @@ mod tests;
 mod tracked;
 mod variant;
 
-ghost use Rattle.std.specs.Prelude.{◌≡◌, IfNone, false};
+ghost use Rattle.std.specs.Prelude.{◌≡◌, ◌↔◌, ℕ, List, IsNone, IfNone, IfSome, false, map, string_bytes};
 ghost use Rattle.ripemd_sum.specs.Track.{has_failed, taken_of};
+ghost use Rattle.ripemd_sum.specs.Variants.{Chooses};
+ghost use Rattle.ripemd_sum.specs.Keys.{ChoosesMac, HasKey, AsksNothing};
+ghost use Rattle.ripemd_sum.specs.Runs.{digest_line, tag_line, most_bytes, most_bytes_under_a_key};
+ghost use Rattle.ripemd_sum.specs.Faults.{IsRun};
+ghost use Rattle.ripemd_sum.specs.declared.variant.Variant.{Variant};
 
 use engine::{run, run_mac};
 use fault::RunFault;
@@ -46,7 +52,8 @@ fn complain(rt: &HostRuntime, line: &str) {
     let _ = eprintln!(rt; "{line}");
 }
 
-// Does what the arguments ask for. It is `None` if they are not known, and then nothing is read.
+// Does what the arguments ask for. It is `None` exactly if they ask for nothing, and then nothing is
+// read or written.
 fn perform<R: Read, W: Write>(
     arguments: &[String],
     reader: &mut Tracked<R>,
@@ -55,7 +62,16 @@ fn perform<R: Read, W: Write>(
     requires reader_works { has_failed reader.old ≡ false }
     requires reader_fresh { taken_of reader.old ≡ 0 }
     requires writer_works { has_failed writer.old ≡ false }
-    ensures { IfNone result ((reader.new ≡ reader.old) × (writer.new ≡ writer.old)) }
+    ensures digest { (v : Variant) → Chooses (map string_bytes arguments.now) v
+        → IfSome result (IsRun R.remaining W.contents reader.old reader.new writer.old writer.new
+        most_bytes (digest_line v)) }
+    ensures tag { (v : Variant) (count : ℕ) (key : List ℕ)
+        → ChoosesMac (map string_bytes arguments.now) v count
+        → HasKey (map string_bytes arguments.now) key
+        → IfSome result (IsRun R.remaining W.contents reader.old reader.new writer.old writer.new
+        most_bytes_under_a_key (tag_line v key)) }
+    ensures none { IsNone result ↔ AsksNothing (map string_bytes arguments.now) }
+    ensures untouched { IfNone result ((reader.new ≡ reader.old) × (writer.new ≡ writer.old)) }
 {
     if arguments.len() < 3 {
         let variant = choose(arguments)?;

@@ -1,10 +1,11 @@
 mod digests;
-mod doubles;
+pub mod doubles;
+mod hashing;
 mod keys;
+mod performing;
 mod reading;
 mod tags;
 mod texts;
-mod tracking;
 mod writing;
 
 use crate::engine::{run, run_mac};
@@ -18,6 +19,8 @@ use std::{io, str};
 
 // A limit that no message here comes near.
 const AMPLE: u64 = (1 << 61) - 1;
+
+const VARIANTS: [Variant; 4] = [Variant::R128, Variant::R160, Variant::R256, Variant::R320];
 
 const HELLO: &[u8] = b"Hello world!";
 
@@ -83,6 +86,11 @@ impl<R> Finished<R> {
         }
     }
 
+    /// Whether the line is this digest's or tag's, and so many bytes were taken for it.
+    fn gives(&self, digest: &str, taken: u128) -> bool {
+        self.digest() == Some(digest) && self.taken == taken
+    }
+
     /// Whether the writer was never called, and did not fail.
     fn wrote_nothing(&self) -> bool {
         self.writer.calls == 0 && !self.writer_failed
@@ -115,6 +123,16 @@ impl<R> Finished<R> {
             }
             _ => Ok(false),
         }
+    }
+}
+
+/// The argument that names a variant.
+fn name_of(variant: Variant) -> &'static str {
+    match variant {
+        Variant::R128 => "128",
+        Variant::R160 => "160",
+        Variant::R256 => "256",
+        Variant::R320 => "320",
     }
 }
 

@@ -7,6 +7,9 @@ ghost use Rattle.std.specs.Io.KnownBytes.{ReadConsumes, Appends};
 use std::io;
 use std::io::{Read, Write};
 
+#[cfg(test)]
+mod tests;
+
 /// A reader or a writer, and with it whether a call has failed and how many bytes it has given.
 pub struct Tracked<T> {
     inner: T,

@@ -1,22 +1,11 @@
-//! Digests that others give, in hexadecimal.
+//! Digests and tags that others give, in hexadecimal.
 
 use crate::variant::Variant;
 
-/// The digests of one variant. Those of "", "a", "abc" and a million times "a" are the authors';
-/// for the rest, as for these, at least four other implementations give the same answer.
-#[derive(Clone, Copy)]
+/// Digests by one variant. At least four other implementations give the same answers.
 pub struct Digests {
-    pub variant: Variant,
-    /// How many bytes its line has.
-    pub line_length: usize,
     /// Of "".
     pub empty: &'static str,
-    /// Of "a".
-    pub a: &'static str,
-    /// Of "abc".
-    pub abc: &'static str,
-    /// Of 1,000,000 times "a".
-    pub million: &'static str,
     /// Of "Hello world!".
     pub hello: &'static str,
     /// Of the bytes 0 to 199.
@@ -32,12 +21,7 @@ pub struct Digests {
 }
 
 const OF_128: Digests = Digests {
-    variant: Variant::R128,
-    line_length: 33,
     empty: "cdf26213a150dc3ecb610f18f6b38b46",
-    a: "86be7afa339d0fc7cfc785e72f578d33",
-    abc: "c14a12199c66e4ba84636b0f69144c77",
-    million: "4a7f5723f954eba1216c9d8f6320431f",
     hello: "d917d92bc5591a0915f70acebbc2b126",
     ramp: "f79936837b8fdc6d9af2dd8551f9df8d",
     a_4096: "bc55fa6b10cf7e5dea3d456f782cb582",
@@ -47,12 +31,7 @@ const OF_128: Digests = Digests {
 };
 
 const OF_160: Digests = Digests {
-    variant: Variant::R160,
-    line_length: 41,
     empty: "9c1185a5c5e9fc54612808977ee8f548b2258d31",
-    a: "0bdc9d2d256b3ee9daae347be6f4dc835a467ffe",
-    abc: "8eb208f7e05d987a9b044a8e98c6b087f15a0bfc",
-    million: "52783243c1697bdbe16d37f97f68f08325dc1528",
     hello: "7f772647d88750add82d8e1a7a3e5c0902a346a3",
     ramp: "c315823ea8fe07a2dd18de4e545255afe3af0738",
     a_4096: "e296be12671b8befb23b617baa53f7277d91e9ba",
@@ -62,12 +41,7 @@ const OF_160: Digests = Digests {
 };
 
 const OF_256: Digests = Digests {
-    variant: Variant::R256,
-    line_length: 65,
     empty: "02ba4c4e5f8ecd1877fc52d64d30e37a2d9774fb1e5d026380ae0168e3c5522d",
-    a: "f9333e45d857f5d90a91bab70a1eba0cfb1be4b0783c9acfcd883a9134692925",
-    abc: "afbd6e228b9d8cbbcef5ca2d03e6dba10ac0bc7dcbe4680e1e42d2e975459b65",
-    million: "ac953744e10e31514c150d4d8d7b677342e33399788296e43ae4850ce4f97978",
     hello: "2700f1122c7bd5df165b0615efbbbc54f551aef2401738811a5aea19ccb9233a",
     ramp: "44af9893eef1d3d9eb7101a909c1bc2a739aba8f2dd54f12c11f3d47fb2bdcc2",
     a_4096: "c5823781a1c5de3a3b49beae42a5cde33aa5b1d5ab93ef80fb42b5efe66cba04",
@@ -77,12 +51,7 @@ const OF_256: Digests = Digests {
 };
 
 const OF_320: Digests = Digests {
-    variant: Variant::R320,
-    line_length: 81,
     empty: "22d65d5661536cdc75c1fdf5c6de7b41b9f27325ebc61e8557177d705a0ec880151c3a32a00899b8",
-    a: "ce78850638f92658a5a585097579926dda667a5716562cfcf6fbe77f63542f99b04705d6970dff5d",
-    abc: "de4c01b3054f8930a79d09ae738e92301e5a17085beffdc1b8d116713e74f82fa942d64cdbc4682d",
-    million: "bdee37f4371e20646b8b0d862dda16292ae36f40965e8c8509e63d1dbddecc503e2b63eb9245bb66",
     hello: "f1c1c231d301abcf2d7daae0269ff3e7bc68e623ad723aa068d316b056d26b7d1bb6f0cc0f28336d",
     ramp: "59125064f71257d1fda677d9dccb4b0762636ae44a61d1c6c4bbd8ac7c0dda0a4b7984dafa6e04bc",
     a_4096: "5b5c6dc0ef58ab7ff5befa128269865cbcccf3701184ec7d67d56b22802af3cc08257e0e728e58e8",
@@ -91,7 +60,24 @@ const OF_320: Digests = Digests {
     a_8193: "cdacf6c8ce0f7b5e1fcb712794751fa8ae14781a98be7353515307efaf48ffbeb9ec71df0724c583",
 };
 
-/// The digests of the four variants.
-pub fn known_digests() -> [Digests; 4] {
-    [OF_128, OF_160, OF_256, OF_320]
+/// The digests by a variant.
+pub fn digests_by(variant: Variant) -> &'static Digests {
+    match variant {
+        Variant::R128 => &OF_128,
+        Variant::R160 => &OF_160,
+        Variant::R256 => &OF_256,
+        Variant::R320 => &OF_320,
+    }
+}
+
+impl Digests {
+    /// How many times "a", and the digest of it.
+    pub fn of_letters(&self) -> [(usize, &'static str); 4] {
+        [
+            (4096, self.a_4096),
+            (4097, self.a_4097),
+            (8192, self.a_8192),
+            (8193, self.a_8193),
+        ]
+    }
 }

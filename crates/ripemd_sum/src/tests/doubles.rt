@@ -52,12 +52,30 @@ impl Read for SliceReader<'_> {
     }
 }
 
+/// The bytes 0 to 199.
+pub fn ramp() -> [u8; 200] {
+    let mut bytes = [0; 200];
+    for i in 0..200 {
+        bytes[usize::from(i)] = i;
+    }
+    bytes
+}
+
 /// Gives one byte again and again, at most `step` at a call, until none is left.
 #[derive(Drop)]
 pub struct RepeatingReader {
     pub byte: u8,
     pub left: usize,
     pub step: usize,
+}
+
+/// A reader of so many bytes "a", at most `step` at a call.
+pub fn letters(count: usize, step: usize) -> RepeatingReader {
+    RepeatingReader {
+        byte: b'a',
+        left: count,
+        step,
+    }
 }
 
 impl Read for RepeatingReader {
