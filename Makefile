@@ -22,9 +22,13 @@ PROGRAM = crates/ripemd_sum/out/ripemd_sum
 
 .PHONY: all check quick bench install clean
 
-# `rt run` proves, builds and then runs the program, here on no input.
+# `rt run` proves, builds and then runs the program, here on no input. The libraries are proved first,
+# where they have changed.
 all:
-	@cd crates/ripemd_sum && rt run $(if $(CPU),--cpu $(CPU)) </dev/null >/dev/null
+	@[ -e $(PROGRAM) ] || echo 'make: proving and building the program: some minutes the first time' >&2
+	@tests/tell $$$$ >&2 & teller=$$!; \
+	(cd crates/ripemd_sum && rt run $(if $(CPU),--cpu $(CPU)) </dev/null >/dev/null); status=$$?; \
+	kill $$teller; exit $$status
 
 check:
 	tests/check rt ci

@@ -6,8 +6,6 @@ pub mod batch;
 pub mod block;
 pub mod calling;
 pub mod commands;
-#[cfg(test)]
-mod names;
 pub mod readme;
 pub mod tags;
 #[cfg(test)]

@@ -25,23 +25,20 @@ const ABC_128: [u8; 16] = [
 
 #[test]
 fn digests(rt: HostRuntime) {
-    assert_eq!(rt; digest_of_short(b"abc"), ABC);
-    assert_eq!(rt; digest_of(b"abc"), ABC);
+    assert!(rt; digest_of_short(b"abc") == ABC);
+    assert!(rt; digest_of(b"abc") == ABC);
     let (by_128, by_160, _, _) = digests_of(b"abc");
-    assert_eq!(rt; by_128, ABC_128);
-    assert_eq!(rt; by_160, ABC);
-    assert_eq!(rt; digest_of_two(b"a", b"bc"), ABC);
-    assert_eq!(rt; digest_of_three(b"a", b"", b"bc"), ABC);
-    assert_eq!(rt; prefixed_digest_160(b"ab", b"c"), ABC);
-    assert_eq!(rt; prefixed_digest::<Ripemd128>(b"ab", b"c"), ABC_128);
+    assert!(rt; by_128 == ABC_128 && by_160 == ABC);
+    assert!(rt; digest_of_two(b"a", b"bc") == ABC);
+    assert!(rt; digest_of_three(b"a", b"", b"bc") == ABC);
+    assert!(rt; prefixed_digest_160(b"ab", b"c") == ABC);
+    assert!(rt; prefixed_digest::<Ripemd128>(b"ab", b"c") == ABC_128);
 }
 
 #[test]
 fn commands(rt: HostRuntime) {
-    match digests_of_ends(rt.alloc(), b"a", b"bc", b"bc") {
-        Ok(digests) => assert_eq!(rt; digests.as_slice(), [ABC, ABC].as_slice()),
-        Err(_) => assert!(rt; false, "memory was refused"),
-    }
+    let digests = digests_of_ends(rt.alloc(), b"a", b"bc", b"bc");
+    assert!(rt; digests.is_ok_and(|digests| digests.as_slice() == [ABC, ABC].as_slice()));
 }
 
 #[test]
@@ -82,12 +79,12 @@ fn digest_within(failing: u8, limit: u64) -> Option<Option<[u8; 20]>> {
 
 #[test]
 fn readers(rt: HostRuntime) {
-    assert_eq!(rt; digest_within(9, 3), Some(Some(ABC)));
-    assert_eq!(rt; digest_within(9, 2), Some(None));
-    assert_eq!(rt; digest_within(2, 3), None);
-    assert_eq!(rt; digest_within(3, 3), None);
+    assert!(rt; digest_within(9, 3) == Some(Some(ABC)));
+    assert!(rt; digest_within(9, 2) == Some(None));
+    assert!(rt; digest_within(2, 3).is_none());
+    assert!(rt; digest_within(3, 3).is_none());
     let mut memory: &[u8] = b"abc";
-    assert_eq!(rt; digest_of_reader(&mut memory, 3).ok(), Some(Some(ABC)));
+    assert!(rt; digest_of_reader(&mut memory, 3).ok() == Some(Some(ABC)));
 }
 
 // The block function of the page reads the first byte of each block alone.
@@ -95,66 +92,71 @@ fn readers(rt: HostRuntime) {
 fn collisions(rt: HostRuntime) {
     assert!(rt; collision_of_160(b"abc", b"abd").is_none());
     assert!(rt; collision_of_160(b"abc", b"abc").is_none());
-    assert_eq!(rt; places_of_collision(b"abc", b"axx"), Some((0, 0)));
-    assert_eq!(rt; places_of_collision(b"abc", b"xbc"), None);
+    assert!(rt; places_of_collision(b"abc", b"axx") == Some((0, 0)));
+    assert!(rt; places_of_collision(b"abc", b"xbc").is_none());
     let mut a = [0; 65];
     a[0] = 1;
     a[64] = 2;
     let mut b = [0; 65];
     b[0] = 2;
     b[64] = 1;
-    assert_eq!(rt; places_of_collision(&a, &b), Some((1, 1)));
+    assert!(rt; places_of_collision(&a, &b) == Some((1, 1)));
 }
 
 // The toy's digest is what the first bytes of the blocks make up: of 64 bytes, the first of these and
 // the first of the padding.
 #[test]
 fn toys(rt: HostRuntime) {
-    assert_eq!(rt; toy_digest(b"a", b"bc"), [b'a']);
-    assert_eq!(rt; toy_digest(&[b'x'; 60], &[b'x'; 4]), [b'x' ^ 0x80]);
-    assert_eq!(rt; toy_put_aside(b"a", b"bc"), [b'a']);
-    assert_eq!(rt; toy_put_aside(&[b'x'; 60], &[b'x'; 4]), [b'x' ^ 0x80]);
-    assert_eq!(rt; digest_put_aside::<Ripemd160>(b"a", b"bc"), ABC);
-    let commands = [
-        Command::New,
-        Command::Update {
-            hasher: 0,
-            bytes: b"abc",
-        },
-        Command::Save { hasher: 0 },
-        Command::Load { saved: 0 },
-        Command::Finish { hasher: 1 },
-    ];
-    match toy_replay(rt.alloc(), &commands) {
-        Ok(digests) => assert_eq!(rt; digests.as_slice(), [[b'a']].as_slice()),
-        Err(_) => assert!(rt; false, "a list without a bad command is run"),
-    }
+    assert!(rt; toy_digest(b"a", b"bc") == [b'a']);
+    assert!(rt; toy_digest(&[b'x'; 60], &[b'x'; 4]) == [b'x' ^ 0x80]);
+    assert!(rt; toy_put_aside(b"a", b"bc") == [b'a']);
+    assert!(rt; toy_put_aside(&[b'x'; 60], &[b'x'; 4]) == [b'x' ^ 0x80]);
+    assert!(rt; digest_put_aside::<Ripemd160>(b"a", b"bc") == ABC);
+}
+
+// A hasher that was saved and loaded.
+static LOADED: [Command; 5] = [
+    Command::New,
+    Command::Update {
+        hasher: 0,
+        bytes: b"abc",
+    },
+    Command::Save { hasher: 0 },
+    Command::Load { saved: 0 },
+    Command::Finish { hasher: 1 },
+];
+
+#[test]
+fn toy_commands(rt: HostRuntime) {
+    let digests = toy_replay(rt.alloc(), &LOADED);
+    assert!(rt; digests.is_ok_and(|digests| digests.as_slice() == [[b'a']].as_slice()));
 }
 
 // What RFC 2286 publishes.
+const TAG: [u8; 20] = [
+    0x24, 0xcb, 0x4b, 0xd6, 0x7d, 0x20, 0xfc, 0x1a, 0x5d, 0x2e, 0xd7, 0x73, 0x2d, 0xcc, 0x39, 0x37,
+    0x7f, 0x0a, 0x56, 0x68,
+];
+
+const TAG_128: [u8; 16] = [
+    0xfb, 0xf6, 0x1f, 0x94, 0x92, 0xaa, 0x4b, 0xbf, 0x81, 0xc1, 0x72, 0xe8, 0x4e, 0x07, 0x34, 0xdb,
+];
+
 #[test]
 fn tags(rt: HostRuntime) {
-    let tag = [
-        0x24, 0xcb, 0x4b, 0xd6, 0x7d, 0x20, 0xfc, 0x1a, 0x5d, 0x2e, 0xd7, 0x73, 0x2d, 0xcc, 0x39,
-        0x37, 0x7f, 0x0a, 0x56, 0x68,
-    ];
-    let tag_128 = [
-        0xfb, 0xf6, 0x1f, 0x94, 0x92, 0xaa, 0x4b, 0xbf, 0x81, 0xc1, 0x72, 0xe8, 0x4e, 0x07, 0x34,
-        0xdb,
-    ];
     let key = [0x0b; 20];
-    assert_eq!(rt; tag_of_two(&key, b"Hi", b" There"), tag);
-    assert!(rt; has_tag(&key, b"Hi There", &tag));
-    assert!(rt; !has_tag(&key, b"Hi There", &tag[..19]));
-    assert!(rt; !has_tag(&key, b"Hi there", &tag));
-    assert!(rt; has_tag_by::<Ripemd128>(&key[..16], b"Hi There", &tag_128));
+    assert!(rt; tag_of_two(&key, b"Hi", b" There") == TAG);
+    assert!(rt; has_tag(&key, b"Hi There", &TAG));
+    assert!(rt; !has_tag(&key, b"Hi There", &TAG[..19]));
+    assert!(rt; !has_tag(&key, b"Hi there", &TAG));
+    assert!(rt; has_tag_by::<Ripemd128>(&key[..16], b"Hi There", &TAG_128));
 }
 
 // The expected values come from Python's `hmac` over a textbook program of the toy.
 #[test]
 fn toy_tags(rt: HostRuntime) {
-    assert_eq!(rt; toy_tag(&[0x0b; 20], b"Hi There"), [0x22]);
-    assert_eq!(rt; toy_tag(&[], &[]), [0xea]);
+    assert!(rt; toy_tag(&[0x0b; 20], b"Hi There") == [0x22]);
+    assert!(rt; toy_tag(&[], &[]) == [0xea]);
 }
 
 // Records, of which one has not the digest that is wanted.

@@ -1,0 +1,72 @@
+//! The calls that take memory, `replay` and `mac_collision`, where a growth may be refused. Each call
+//! has to give the right answer, or the error of memory; where it was refused, the same call has to
+//! give the right answer afterwards.
+//!
+//! For each byte on standard input it first takes memory once and gives it back, so that a run can
+//! have any growth of these calls refused, whichever allocation it is that fails.
+#![tactic(auto)]
+
+mod lists;
+mod texts;
+mod toy;
+
+use std::alloc::Global;
+use std::io;
+use std::io::Read;
+
+// What became of a call: answered; refused, and answered when it was made again; or neither.
+#[derive(Clone, Copy)]
+enum Outcome {
+    Answered,
+    Refused,
+    Wrong,
+}
+
+impl Outcome {
+    // Of a call that was not refused, where its answer was right or not.
+    fn of_answer(is_right: bool) -> Outcome {
+        if is_right {
+            Outcome::Answered
+        } else {
+            Outcome::Wrong
+        }
+    }
+
+    // Of a call that was refused, where the second one was refused too or its answer right or not.
+    fn of_second(is_right: Option<bool>) -> Outcome {
+        if is_right == Some(true) {
+            Outcome::Refused
+        } else {
+            Outcome::Wrong
+        }
+    }
+
+    fn text(self) -> &'static str {
+        match self {
+            Outcome::Answered => "answered",
+            Outcome::Refused => "refused",
+            Outcome::Wrong => "WRONG",
+        }
+    }
+}
+
+// Takes memory, if it is not refused, and gives it back.
+fn take_memory(alloc: Global) {
+    let mut bytes = Vec::new(alloc);
+    let _ = bytes.push(0u8);
+}
+
+fn main(rt: HostRuntime) -> io::Result<()> {
+    let alloc = rt.alloc();
+    let mut before = [0; 64];
+    for _ in 0..rt.stdin().read(&mut before)? {
+        take_memory(alloc);
+    }
+    for (name, outcome) in lists::outcomes(alloc) {
+        println!(rt; "replay of {name}: {}", outcome.text())?;
+    }
+    for (name, outcome) in texts::outcomes(alloc) {
+        println!(rt; "mac_collision of {name}: {}", outcome.text())?;
+    }
+    Ok(())
+}

@@ -1,0 +1,142 @@
+//! A hash function whose state and digest are two bytes: collisions of it are easy to make.
+
+ghost use Rattle.std.specs.Prelude.{◌+◌, ◌%◌, [], ◌∷◌, slice_index, ⊤};
+ghost use Rattle.std.specs.List.{fold};
+ghost use Rattle.ripemd.specs.States.{Meaning, IsUnderWay};
+
+use crate::witness::toys::sum_from;
+use ripemd::digest::{BlockDigest, BlockFunction, Digest, HashMeaning, OutputSizeUser};
+use ripemd::{BlockHasher, HashFunction};
+use std::marker::Model;
+
+/// The block function: a step adds all bytes of the block to the one byte, and the last to the other.
+pub(super) enum SumsCore {}
+
+impl BlockFunction for SumsCore {
+    type State = [u8; 2];
+
+    type Digest = [u8; 2];
+
+    ghost is_state = { λ _. ⊤ };
+
+    ghost start_of = { 0 ∷ 0 ∷ [] };
+
+    ghost step_of = { λ state block.
+        fold (λ sum byte. (sum + byte) % 256) (slice_index state 0) block
+        ∷ (slice_index state 1 + slice_index block 63) % 256 ∷ [] };
+
+    ghost output_of = { λ state. state };
+
+    fn start() -> [u8; 2] {
+        [0, 0]
+    }
+
+    fn step(state: [u8; 2], block: &[u8; 64]) -> [u8; 2] {
+        [sum_from(state[0], block), state[1].wrapping_add(block[63])]
+    }
+
+    fn output(state: [u8; 2]) -> [u8; 2] {
+        state
+    }
+
+    ghost use Rattle.std.proofs.lemmas.Slice.Eq.{bytes_eq-Decides};
+
+    ghost one_output = { λ s t _ _ same. same };
+
+    ghost same_state = { λ s t same. (bytes_eq-Decides s t).0 same };
+}
+
+impl HashFunction for SumsCore {
+    ghost list = { λ state. state };
+
+    ghost are_words = { Self.is_state };
+
+    ghost step = { Self.step_of };
+
+    ghost output = { Self.output_of };
+
+    ghost use Rattle.std.proofs.Common.{rules};
+    ghost use Rattle.ripemd.specs.Listed.{of_arrays};
+
+    ghost over_lists = { of_arrays };
+
+    ghost digest_most = { Prim.search rules };
+}
+
+/// The hasher. It implements `Digest` and `BlockDigest` itself, as any other crate can.
+#[derive(Drop)]
+pub(super) struct Sums {
+    hasher: BlockHasher<SumsCore>,
+}
+
+impl Model for Sums {
+    ghost Value = { Meaning };
+
+    ghost view = { λ sums. sums.hasher };
+}
+
+impl HashMeaning for Sums {
+    ghost meaning = { λ h. h };
+
+    ghost is_valid = { IsUnderWay (λ _. ⊤) };
+}
+
+impl OutputSizeUser for Sums {
+    type Output = [u8; 2];
+
+    ghost bytes_of = { λ digest. digest };
+
+    ghost OUTPUT_SIZE = { 2 };
+
+    const OUTPUT_SIZE: usize = 2;
+
+    ghost same_digest = { λ c d same. same };
+}
+
+impl Digest for Sums {
+    ghost start = { 0 ∷ 0 ∷ [] };
+
+    ghost step = { λ state block.
+        fold (λ sum byte. (sum + byte) % 256) (slice_index state 0) block
+        ∷ (slice_index state 1 + slice_index block 63) % 256 ∷ [] };
+
+    ghost output = { λ state. state };
+
+    fn new() -> Sums {
+        Sums {
+            hasher: BlockHasher::new(),
+        }
+    }
+
+    fn update(&mut self, bytes: &[u8]) {
+        self.hasher.update(bytes);
+    }
+
+    fn finalize_reset(&mut self) -> [u8; 2] {
+        self.hasher.finalize_reset()
+    }
+
+    fn reset(&mut self) {
+        self.hasher.reset();
+    }
+
+    fn duplicate(&self) -> Sums {
+        Sums {
+            hasher: self.hasher.duplicate(),
+        }
+    }
+
+    fn output_bytes(out: &[u8; 2]) -> &[u8] {
+        out
+    }
+
+    ghost use Rattle.ripemd.specs.Laws.{fed_nothing};
+
+    ghost fed_nothing = { λ h valid. fed_nothing _ h valid.count valid.tail.short };
+}
+
+impl BlockDigest for Sums {
+    type Core = SumsCore;
+
+    ghost digest_is = { λ message digest is. is };
+}

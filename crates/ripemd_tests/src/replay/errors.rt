@@ -1,0 +1,109 @@
+//! The errors of lists with a bad command.
+
+ghost use Rattle.std.specs.Prelude.{◌≤◌};
+
+use super::{START_WORDS, gives, state_160, stops};
+use ripemd::Ripemd160;
+use ripemd::replay::{Command, ReplayError};
+use std::alloc::{AllocError, Global};
+use std::test::Fail;
+
+// Whether the commands stop at this place, at a hasher of this number that is not there.
+fn lacks_hasher(alloc: Global, commands: &[Command], at: usize, hasher: usize) -> bool {
+    stops(alloc, commands, ReplayError::NoHasher { at, hasher })
+}
+
+// The same of a saved state.
+fn lacks_saved(alloc: Global, commands: &[Command], at: usize, saved: usize) -> bool {
+    stops(alloc, commands, ReplayError::NoSaved { at, saved })
+}
+
+static NO_HASHER: [Command; 1] = [Command::Update {
+    hasher: 0,
+    bytes: b"x",
+}];
+
+static NO_SECOND_HASHER: [Command; 3] = [
+    Command::New,
+    Command::Finish { hasher: 0 },
+    Command::Fork { hasher: 1 },
+];
+
+static TWO_BAD: [Command; 3] = [
+    Command::New,
+    Command::Finish { hasher: 3 },
+    Command::Load { saved: 5 },
+];
+
+static NO_SAVED: [Command; 2] = [Command::New, Command::Load { saved: 0 }];
+
+static NO_SECOND_SAVED: [Command; 3] = [
+    Command::New,
+    Command::Save { hasher: 0 },
+    Command::Load { saved: 1 },
+];
+
+#[test]
+fn bad_commands(rt: HostRuntime) {
+    let alloc = rt.alloc();
+    assert!(rt; gives::<Ripemd160>(alloc, &[], &[]));
+    assert!(rt; lacks_hasher(alloc, &NO_HASHER, 0, 0));
+    assert!(rt; lacks_hasher(alloc, &NO_SECOND_HASHER, 2, 1));
+    assert!(rt; lacks_hasher(alloc, &TWO_BAD, 1, 3));
+    assert!(rt; lacks_saved(alloc, &NO_SAVED, 1, 0));
+    assert!(rt; lacks_saved(alloc, &NO_SAVED[1..], 0, 0));
+    assert!(rt; lacks_saved(alloc, &NO_SECOND_SAVED, 2, 1));
+}
+
+// Whether the bytes are refused as a state handed in, by the first command and by the second.
+fn is_bad_state(alloc: Global, bytes: &[u8]) -> bool {
+    let commands = [Command::New, Command::Import { bytes }];
+    stops(alloc, &commands[1..], ReplayError::BadState { at: 0 })
+        && stops(alloc, &commands, ReplayError::BadState { at: 1 })
+}
+
+// Whether so many bytes of a state are refused.
+fn is_bad_start(alloc: Global, state: &[u8; 92], len: usize) -> bool
+    requires { len ≤ 92 }
+{
+    is_bad_state(alloc, &state[..len])
+}
+
+#[test]
+fn bad_states(rt: HostRuntime) {
+    let alloc = rt.alloc();
+    let abc = state_160(START_WORDS, 0, 3, b"abc");
+    let too_far = state_160(START_WORDS, 0, 64, b"abc");
+    assert!(rt; is_bad_start(alloc, &abc, 0));
+    assert!(rt; is_bad_start(alloc, &abc, 91));
+    assert!(rt; is_bad_state(alloc, &[0; 93]));
+    assert!(rt; is_bad_state(alloc, &too_far));
+    let commands = [
+        Command::Import { bytes: &abc },
+        Command::Update {
+            hasher: 1,
+            bytes: b"x",
+        },
+    ];
+    assert!(rt; lacks_hasher(alloc, &commands, 1, 1));
+}
+
+// Whether an error has this text.
+fn is_shown(alloc: Global, error: &ReplayError, text: &str) -> Result<bool, AllocError> {
+    Ok(format!(in alloc; "{error}")?.as_str() == text)
+}
+
+#[test]
+fn messages(rt: HostRuntime) -> Result<(), Fail> {
+    let alloc = rt.alloc();
+    let error = ReplayError::NoHasher { at: 0, hasher: 0 };
+    assert!(rt; is_shown(alloc, &error, "command 0: no hasher 0")?);
+    let error = ReplayError::NoSaved { at: 1, saved: 0 };
+    assert!(rt; is_shown(alloc, &error, "command 1: no saved state 0")?);
+    let error = ReplayError::NoHasher { at: 2, hasher: 1 };
+    assert!(rt; is_shown(alloc, &error, "command 2: no hasher 1")?);
+    let error = ReplayError::BadState { at: 0 };
+    assert!(rt; is_shown(alloc, &error, "command 0: bad state")?);
+    assert!(rt; is_shown(alloc, &ReplayError::OutOfMemory, "out of memory")?);
+    Ok(())
+}
