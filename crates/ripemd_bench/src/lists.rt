@@ -1,11 +1,21 @@
-//! Lists of messages of unlike lengths, hashed at once and one after another: how many lists have
-//! the same digests both ways, and how long the one way takes, as a part of the other, for lists
-//! whose groups would leave lanes without work.
+//! Lists of messages of unlike lengths, at once and one after another: how many lists have the same
+//! digests and the same tags both ways, and how long the one way takes, as a part of the other, for
+//! lists whose groups would leave lanes without work.
 
-use ripemd::{Digest, Ripemd128, Ripemd160, Ripemd256, Ripemd320};
-use ripemd_batch::{BatchDigest, digest_each};
+use ripemd::{Ripemd128, Ripemd160, Ripemd256, Ripemd320};
+use ripemd_batch::{BatchDigest, digest_each, tag_each};
+use ripemd_mac::Hmac;
 use std::io;
 use std::time::Instant;
+
+// What is made of each message of a list: its digest, or its tag under the key.
+#[derive(Clone, Copy)]
+pub(super) enum What {
+    Digests,
+    Tags,
+}
+
+static KEY: [u8; 20] = [0x0b; 20];
 
 // Lists of messages: so many of so many bytes, and then so many of so many.
 static LISTS: [[usize; 4]; 11] = [
@@ -47,18 +57,45 @@ fn digest_one_by_one<D: BatchDigest>(messages: &[&[u8]], digests: &mut [D::Outpu
     }
 }
 
-// Whether a list has the same digests both ways. There are as many places as messages.
-fn agrees<D: BatchDigest>(messages: &[&[u8]], places: &mut [D::Output]) -> bool {
-    if places.len() != messages.len() {
-        return false;
+// Writes the tags one after another, from copies of one keyed state.
+fn tag_one_by_one<D: BatchDigest>(texts: &[&[u8]], tags: &mut [D::Output]) {
+    let keyed = Hmac::<D>::new(&KEY);
+    for i in 0..texts.len() {
+        if i < tags.len() {
+            let mut mac = keyed.duplicate();
+            mac.update(texts[i]);
+            let tag = mac.finalize();
+            tags[i] = tag;
+        }
     }
-    digest_each::<D>(messages, places);
+}
+
+// Writes what is made of a list, the one way or the other. There are as many places as messages.
+fn write<D: BatchDigest>(what: What, at_once: bool, messages: &[&[u8]], places: &mut [D::Output]) {
+    match what {
+        What::Digests if !at_once => digest_one_by_one::<D>(messages, places),
+        What::Tags if !at_once => tag_one_by_one::<D>(messages, places),
+        _ if places.len() != messages.len() => {}
+        What::Digests => digest_each::<D>(messages, places),
+        What::Tags => tag_each::<D>(&KEY, messages, places),
+    }
+}
+
+// Whether a list has the same digests or tags both ways. `other` has as many places as `places`.
+fn agrees<D: BatchDigest>(
+    what: What,
+    messages: &[&[u8]],
+    places: &mut [D::Output],
+    other: &mut [D::Output],
+) -> bool {
+    write::<D>(what, true, messages, places);
+    write::<D>(what, false, messages, other);
     for i in 0..messages.len() {
-        if i < places.len() {
-            let wanted = D::digest(messages[i]);
-            if D::output_bytes(&places[i]) != D::output_bytes(&wanted) {
-                return false;
-            }
+        if i >= places.len()
+            || i >= other.len()
+            || D::output_bytes(&places[i]) != D::output_bytes(&other[i])
+        {
+            return false;
         }
     }
     true
@@ -67,6 +104,7 @@ fn agrees<D: BatchDigest>(messages: &[&[u8]], places: &mut [D::Output]) -> bool 
 // The time of as many calls, in nanoseconds, of the one way or the other.
 fn time_of<D: BatchDigest>(
     rt: &HostRuntime,
+    what: What,
     at_once: bool,
     calls: u32,
     messages: &[&[u8]],
@@ -74,11 +112,7 @@ fn time_of<D: BatchDigest>(
 ) -> io::Result<u64> {
     let start = Instant::now(rt)?;
     for _ in 0..calls {
-        if !at_once {
-            digest_one_by_one::<D>(messages, places);
-        } else if places.len() == messages.len() {
-            digest_each::<D>(messages, places);
-        }
+        write::<D>(what, at_once, messages, places);
     }
     Ok(start.elapsed(rt)?.as_nanos().min(u64::MAX.into()) as u64)
 }
@@ -87,22 +121,28 @@ fn time_of<D: BatchDigest>(
 // first is of the second.
 fn hundredths<D: BatchDigest>(
     rt: &HostRuntime,
+    what: What,
     messages: &[&[u8]],
     places: &mut [D::Output],
 ) -> io::Result<u64> {
     let mut at_once = u64::MAX;
     let mut one_by_one = u64::MAX;
-    let first = time_of::<D>(rt, false, 10, messages, places)?;
+    let first = time_of::<D>(rt, what, false, 10, messages, places)?;
     let calls = (10_000_000 / first.max(1)).clamp(1, 100_000) as u32;
     for _ in 0..200 {
-        at_once = at_once.min(time_of::<D>(rt, true, calls, messages, places)?);
-        one_by_one = one_by_one.min(time_of::<D>(rt, false, calls, messages, places)?);
+        at_once = at_once.min(time_of::<D>(rt, what, true, calls, messages, places)?);
+        one_by_one = one_by_one.min(time_of::<D>(rt, what, false, calls, messages, places)?);
     }
     Ok(at_once.saturating_mul(100) / one_by_one.max(1))
 }
 
 // Prints a row of the table: the list, and the part for each variant.
-fn print_row(rt: &HostRuntime, list: &[usize; 4], bytes: &[u8; 64_000]) -> io::Result<()> {
+fn print_row(
+    rt: &HostRuntime,
+    what: What,
+    list: &[usize; 4],
+    bytes: &[u8; 64_000],
+) -> io::Result<()> {
     let (messages, count) = messages_of(list, bytes);
     if count > 32 {
         return Ok(());
@@ -113,10 +153,10 @@ fn print_row(rt: &HostRuntime, list: &[usize; 4], bytes: &[u8; 64_000]) -> io::R
         print!(rt; ", {} of {}", list[2], list[3])?;
     }
     let parts = [
-        hundredths::<Ripemd128>(rt, messages, &mut [[0; 16]; 32][..count])?,
-        hundredths::<Ripemd160>(rt, messages, &mut [[0; 20]; 32][..count])?,
-        hundredths::<Ripemd256>(rt, messages, &mut [[0; 32]; 32][..count])?,
-        hundredths::<Ripemd320>(rt, messages, &mut [[0; 40]; 32][..count])?,
+        hundredths::<Ripemd128>(rt, what, messages, &mut [[0; 16]; 32][..count])?,
+        hundredths::<Ripemd160>(rt, what, messages, &mut [[0; 20]; 32][..count])?,
+        hundredths::<Ripemd256>(rt, what, messages, &mut [[0; 32]; 32][..count])?,
+        hundredths::<Ripemd320>(rt, what, messages, &mut [[0; 40]; 32][..count])?,
     ];
     for part in parts {
         print!(rt; " | {}.{:02}", part / 100, part % 100)?;
@@ -125,17 +165,80 @@ fn print_row(rt: &HostRuntime, list: &[usize; 4], bytes: &[u8; 64_000]) -> io::R
 }
 
 // Prints, as a table, the time that each list takes at once, as a part of that one after another.
-pub(super) fn print_table(rt: &HostRuntime) -> io::Result<()> {
+pub(super) fn print_table(rt: &HostRuntime, what: What) -> io::Result<()> {
     let bytes = [b'a'; 64_000];
-    println!(rt; "| messages | 128 | 160 | 256 | 320 |")?;
+    let head = match what {
+        What::Digests => "messages",
+        What::Tags => "texts, tags",
+    };
+    println!(rt; "| {head} | 128 | 160 | 256 | 320 |")?;
     println!(rt; "|---|---|---|---|---|")?;
     for list in &LISTS {
-        print_row(rt, list, &bytes)?;
+        print_row(rt, what, list, &bytes)?;
     }
     Ok(())
 }
 
-// Prints how many lists have the same digests both ways, by all four hash functions.
+// How many texts are timed under one key.
+const TEXTS: usize = 8_192;
+
+// The least time for the tag of each of many texts of 32 bytes, in nanoseconds.
+fn time_of_tag<D: BatchDigest>(rt: &HostRuntime, places: &mut [D::Output]) -> io::Result<u64> {
+    let bytes = [b'a'; 32];
+    let texts: [&[u8]; TEXTS] = [&bytes; TEXTS];
+    let mut least = u64::MAX;
+    for _ in 0..200 {
+        least = least.min(time_of::<D>(rt, What::Tags, true, 1, &texts, places)?);
+    }
+    Ok(least / TEXTS as u64)
+}
+
+// Prints these times, as a table with one row.
+pub(super) fn print_times(rt: &HostRuntime) -> io::Result<()> {
+    let times = [
+        time_of_tag::<Ripemd128>(rt, &mut [[0; 16]; TEXTS])?,
+        time_of_tag::<Ripemd160>(rt, &mut [[0; 20]; TEXTS])?,
+        time_of_tag::<Ripemd256>(rt, &mut [[0; 32]; TEXTS])?,
+        time_of_tag::<Ripemd320>(rt, &mut [[0; 40]; TEXTS])?,
+    ];
+    println!(rt;
+        "| 8,192 texts of 32 bytes, ours at once, ns for each tag | 128 | 160 | 256 | 320 |"
+    )?;
+    println!(rt; "|---|---|---|---|---|")?;
+    print!(rt; "| ours")?;
+    for time in times {
+        print!(rt; " | {time}")?;
+    }
+    println!(rt; " |")
+}
+
+// Whether a list has the same digests or tags both ways, by all four hash functions.
+fn all_agree(what: What, messages: &[&[u8]]) -> bool {
+    let count = messages.len().min(32);
+    agrees::<Ripemd128>(
+        what,
+        messages,
+        &mut [[0; 16]; 32][..count],
+        &mut [[0; 16]; 32][..count],
+    ) && agrees::<Ripemd160>(
+        what,
+        messages,
+        &mut [[0; 20]; 32][..count],
+        &mut [[0; 20]; 32][..count],
+    ) && agrees::<Ripemd256>(
+        what,
+        messages,
+        &mut [[0; 32]; 32][..count],
+        &mut [[0; 32]; 32][..count],
+    ) && agrees::<Ripemd320>(
+        what,
+        messages,
+        &mut [[0; 40]; 32][..count],
+        &mut [[0; 40]; 32][..count],
+    )
+}
+
+// Prints how many lists have the same digests and tags both ways.
 pub(super) fn print_agreement(rt: &HostRuntime) -> io::Result<()> {
     let bytes = [b'a'; 64_000];
     let mut agreeing: usize = 0;
@@ -143,17 +246,13 @@ pub(super) fn print_agreement(rt: &HostRuntime) -> io::Result<()> {
         let (messages, count) = messages_of(list, &bytes);
         if count <= 32 {
             let messages = &messages[..count];
-            if agrees::<Ripemd128>(messages, &mut [[0; 16]; 32][..count])
-                && agrees::<Ripemd160>(messages, &mut [[0; 20]; 32][..count])
-                && agrees::<Ripemd256>(messages, &mut [[0; 32]; 32][..count])
-                && agrees::<Ripemd320>(messages, &mut [[0; 40]; 32][..count])
-            {
+            if all_agree(What::Digests, messages) && all_agree(What::Tags, messages) {
                 agreeing = agreeing.saturating_add(1);
             }
         }
     }
     println!(rt;
-        "{agreeing} of {} lists have the same digests both ways",
+        "{agreeing} of {} lists have the same digests and tags both ways",
         LISTS.len()
     )
 }

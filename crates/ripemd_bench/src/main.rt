@@ -1,12 +1,15 @@
 //! `ripemd_bench` is what `make bench` measures of the libraries alone:
 //!
 //!     ripemd_bench 128|160|256|320   hashes 256 MiB and prints the digest
-//!     ripemd_bench lists             measures lists of messages, at once and one by one
+//!     ripemd_bench lists             measures digests and tags of lists, at once and one by one
+//!     ripemd_bench tags              measures the verification of right and wrong tags
 //!     ripemd_bench                   hashes 1 MiB, and counts the lists that agree both ways
 #![tactic(auto)]
 
 mod lists;
+mod tags;
 
+use lists::What;
 use ripemd::{Digest, Ripemd128, Ripemd160, Ripemd256, Ripemd320};
 use std::process::ExitCode;
 use std::{env, io};
@@ -43,7 +46,14 @@ fn perform(rt: &HostRuntime) -> io::Result<ExitCode> {
         "160" => hash_much::<Ripemd160>(rt, 256)?,
         "256" => hash_much::<Ripemd256>(rt, 256)?,
         "320" => hash_much::<Ripemd320>(rt, 256)?,
-        "lists" => lists::print_table(rt)?,
+        "lists" => {
+            lists::print_table(rt, What::Digests)?;
+            println!(rt; "")?;
+            lists::print_table(rt, What::Tags)?;
+            println!(rt; "")?;
+            lists::print_times(rt)?;
+        }
+        "tags" => tags::print_table(rt)?,
         _ => return Ok(ExitCode::from(2)),
     }
     Ok(ExitCode::SUCCESS)

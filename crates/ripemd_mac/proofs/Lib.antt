@@ -1,3 +1,4 @@
+pub mod Differences
 pub mod MacReduction
 pub mod Outer
 pub mod Tags

@@ -1,6 +1,8 @@
 -- What the tag of a text under a key is.
 pub mod Keyed
+-- What a tag under way is saved as.
+pub mod Saved
 -- To what collisions two texts with one tag lead.
 pub mod MacCollisions
--- Worked examples of both.
+-- Worked examples of tags and of collisions.
 pub mod Worked

@@ -1,14 +1,18 @@
--- Worked examples, as facts of these definitions: tags, and collisions of a small block function.
-use Rattle.std.specs.Prelude.{◌≡◌, ℕ, ◌+◌, ◌-◌, ◌*◌, ◌%◌, codes, List, [], ◌∷◌, replicate, slice_index_or}
-use Rattle.ripemd.specs.Standard.Compression.{ripemd128, ripemd160}
+-- Worked examples, as facts of these definitions: tags, a tag under way that is saved, and collisions of a small
+-- block function.
+use Rattle.std.specs.Prelude.{◌≡◌, ℕ, ◌+◌, ◌-◌, ◌*◌, ◌%◌, codes, List, [], ◌∷◌, ◌++◌, length, replicate, slice_index_or}
+use Rattle.ripemd.specs.Standard.Words.{word_bytes}
+use Rattle.ripemd.specs.Standard.Compression.{ripemd128, ripemd160, compress}
 use Rattle.ripemd.specs.Published.{hexadecimal}
 use Rattle.ripemd.specs.Standard.Hashing.{padded_message, blocks, hash, ripemd}
+use Rattle.ripemd.specs.States.{IsState, hasher_bytes}
 use Rattle.ripemd.specs.Worked.{block_of}
 use Rattle.ripemd.specs.declared.witness.Collision.{Collision}
 use Rattle.ripemd_mac.specs.declared.reduction.MacCollision.{MacCollision}
 use Rattle.ripemd_mac.specs.declared.reduction.MacCollision.TheVariants.{Inner, Outer}
 use Rattle.ripemd_mac.specs.Keyed.{hmac, inner_message, outer_message}
 use Rattle.ripemd_mac.specs.MacCollisions.{InnerAgree, IsMacCollision}
+use Rattle.ripemd_mac.specs.Saved.{IsSavedFor}
 
 -- ---- tags
 
@@ -27,6 +31,31 @@ pub record WorkedTags : Type 0 where
       ≡ codes "6466ca07ac5eac29e1bd523e5ada7605b791fd8b"
   pub whole_block : hexadecimal (hmac (ripemd ripemd160) (replicate 64 0xaa) (codes "Hi There"))
       ≡ codes "551147982017d1c4764ecba3a5f5ea96153b0c5d"
+
+-- ---- a tag under way, saved
+
+-- the bytes of a RIPEMD-160 hasher after one block and a tail, where the bytes of its words are these
+abbrev pub saved_after_a_block : List ℕ → List ℕ → List ℕ
+saved_after_a_block words tail = words ++ 1 ∷ replicate 7 0 ++ length tail ∷ tail ++ replicate (63 - length tail) 0
+
+-- those of "Hi There" under 20 bytes 0x0b: the words are OpenSSL's after each masked key
+abbrev pub saved_inner : List ℕ
+saved_inner = saved_after_a_block (0xb3 ∷ 0x1c ∷ 0x08 ∷ 0xe6 ∷ 0xad ∷ 0xb5 ∷ 0xb8 ∷ 0xf2 ∷ 0xc4 ∷ 0x21
+    ∷ 0x54 ∷ 0x70 ∷ 0xfd ∷ 0xaf ∷ 0x49 ∷ 0xb0 ∷ 0x4e ∷ 0xe8 ∷ 0xf0 ∷ 0x16 ∷ []) (codes "Hi There")
+
+abbrev pub saved_outer : List ℕ
+saved_outer = saved_after_a_block (0x7c ∷ 0x36 ∷ 0xc7 ∷ 0xb9 ∷ 0x70 ∷ 0x37 ∷ 0xe8 ∷ 0xe8 ∷ 0x62 ∷ 0x56
+    ∷ 0x6e ∷ 0xdd ∷ 0xbc ∷ 0x10 ∷ 0xdf ∷ 0xd8 ∷ 0x05 ∷ 0x04 ∷ 0xf9 ∷ 0x99 ∷ []) []
+
+-- two arrays are saved for this key and this text
+abbrev pub SavedForHiThere : List ℕ → List ℕ → Type 0
+SavedForHiThere first second = IsSavedFor ripemd160.start (compress ripemd160) word_bytes (IsState ripemd160)
+    hasher_bytes (replicate 20 0x0b) (codes "Hi There") first second
+
+-- these are, and exchanged they are not
+pub record WorkedSaved : Type 0 where
+  pub saved : SavedForHiThere saved_inner saved_outer
+  pub exchanged : ¬ SavedForHiThere saved_outer saved_inner
 
 -- ---- collisions
 

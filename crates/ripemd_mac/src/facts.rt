@@ -1,12 +1,17 @@
 //! Worked examples of the definitions, proved. The functions do nothing; their contracts are the
 //! facts.
 
-ghost use Rattle.ripemd_mac.specs.Worked.{WorkedTags, WorkedMacCollisions};
+ghost use Rattle.ripemd_mac.specs.Worked.{WorkedTags, WorkedSaved, WorkedMacCollisions};
 
 /// The definition gives the tags of RFC 2286 under keys shorter and longer than a block, and what
 /// OpenSSL gives under a key of a whole block.
 pub fn tags()
     ensures { WorkedTags }
+{}
+
+/// A tag of RIPEMD-160 under way and the bytes that it is saved as, with the words that OpenSSL has.
+pub fn saved_tag()
+    ensures { WorkedSaved }
 {}
 
 /// Collisions of a small block function, inside the inner messages and inside the outer ones.

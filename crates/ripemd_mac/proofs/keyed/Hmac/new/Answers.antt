@@ -1,15 +1,12 @@
 use Rattle.std.proofs.Common.{ap, ◌∙◌}
 use Rattle.ripemd.specs.States.{initial_state, fed}
-use Rattle.ripemd_mac.specs.Keyed.{masked}
 use Rattle.ripemd_mac.proofs.Tags.{stands_for_nothing}
 use Rattle.ripemd_mac.proofs.keyed.Hmac.new.Goals as goal
 
 pub returns : goal.returns
 returns g c =
     let d = g.D.Digest in
-    let block = c.key_block-block.ensures in
-    let inner = c.masked.ensures ∙ ap (masked 0x36) block in
-    let outer = c.masked-2.ensures ∙ ap (masked 0x5c) block in
+    let keys = c.masked_keys-keys.ensures in
     stands_for_nothing d.start d.step d.output c.args.key.now _
-    (c.new_with_prefix.ensures.fed ∙ ap (fed d.step (initial_state d.start)) inner)
-    (c.new_with_prefix-2.ensures.fed ∙ ap (fed d.step (initial_state d.start)) outer)
+    (c.new_with_prefix.ensures.fed ∙ ap (fed d.step (initial_state d.start)) keys.inner)
+    (c.new_with_prefix-2.ensures.fed ∙ ap (fed d.step (initial_state d.start)) keys.outer)

@@ -1,0 +1,49 @@
+-- Bytes compared by the `or` of their differences.
+use Rattle.std.proofs.Common.{◌≡◌, ℕ, ◌+◌, ◌≤◌, ◌<◌, ◌↔◌, inl, inr, IsTrue, nat_eq}
+use Rattle.std.proofs.Common.{List, length, get_or, bit_or, sym, ap, ◌∙◌, arith, rules}
+use Rattle.std.specs.Int.Bits.{bit_xor, xor_assoc, xor_self, xor_zero_l, xor_zero_r, or_zero_l}
+use Rattle.std.proofs.lemmas.Bool.{cases_lt}
+use Rattle.std.proofs.lemmas.List.{same_lists, get_or_default}
+use Rattle.std.proofs.lemmas.Nat.{le_or_l, le_or_r}
+
+-- they agree at the places before this one
+abbrev pub AgreeTo : ℕ → List ℕ → List ℕ → Type 0
+AgreeTo n a b = (j : ℕ) → j < n → get_or a j 0 ≡ get_or b j 0
+
+no_difference : (x y : ℕ) → bit_xor x y ≡ 0 → x ≡ y
+no_difference x y none =
+    sym (xor_zero_r x) ∙ ap (bit_xor x) (sym (xor_self y)) ∙ sym (xor_assoc x y y)
+    ∙ ap (λ (d : ℕ). bit_xor d y) none ∙ xor_zero_l y
+
+-- one place more
+pub difference_more : (d n : ℕ) (a b : List ℕ) → (d ≡ 0) ↔ AgreeTo n a b
+    → (bit_or d (bit_xor (get_or a n 0) (get_or b n 0)) ≡ 0) ↔ AgreeTo (n + 1) a b
+difference_more d n a b before =
+    let x : ℕ = get_or a n 0 in
+    let y : ℕ = get_or b n 0 in (
+      (λ none j within.
+          let so_far : d ≡ 0 = omega (arith, none, le_or_l d (bit_xor x y)) in
+          let here : bit_xor x y ≡ 0 = omega (arith, none, le_or_r d (bit_xor x y)) in
+          elim (cases_lt j n) [
+            | inl less ↦ before.0 so_far j less
+            | inr most ↦
+                let last : n ≡ j = omega arith in
+                rw (← last) (no_difference x y here)
+          ]),
+      (λ agree.
+          let so_far : d ≡ 0 = before.1 (λ j less. agree j (omega arith)) in
+          rw (so_far, agree n (omega arith), xor_self y) (or_zero_l 0)),
+    )
+
+-- of as many bytes, compared to the end
+pub same_or_none : (d n : ℕ) (a b : List ℕ) → length a ≡ length b → length a ≤ n → (d ≡ 0) ↔ AgreeTo n a b
+    → IsTrue (nat_eq d 0) ↔ (a ≡ b)
+same_or_none d n a b size end agree = (
+  (λ none.
+      let zero : d ≡ 0 = search (rules, none) in
+      same_lists a b size (λ j x within.
+      get_or_default a j x 0 within ∙ agree.0 zero j (omega arith) ∙ get_or_default b j 0 x (omega arith))),
+  (λ same.
+      let zero : d ≡ 0 = agree.1 (λ j less. ap (λ (l : List ℕ). get_or l j 0) same) in
+      search (rules, zero)),
+)

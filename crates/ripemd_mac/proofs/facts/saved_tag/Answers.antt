@@ -1,0 +1,51 @@
+use Rattle.std.proofs.Common.{◌≡◌, ℕ, List, [], ◌∷◌, codes, get_or, refl, sym, ◌∙◌, ap, arith, rules}
+use Rattle.ripemd.specs.Standard.Compression.{ripemd160, registers_after, lines_after, compress}
+use Rattle.ripemd.specs.Standard.Hashing.{with_padding, blocks, partial_block}
+use Rattle.ripemd.specs.States.{Meaning, IsState, fed, output_and_count, core_and_tail, hasher_bytes}
+use Rattle.ripemd_mac.specs.Keyed.{key_block, inner_message}
+use Rattle.ripemd_mac.specs.Worked.{saved_outer}
+use Rattle.ripemd_mac.proofs.facts.saved_tag.Goals as goal
+
+-- the two hashes under way
+abbrev inner : Meaning
+inner = record {
+  words = 0xe6081cb3 ∷ 0xf2b8b5ad ∷ 0x705421c4 ∷ 0xb049affd ∷ 0x16f0e84e ∷ [];
+  count = 1;
+  tail = codes "Hi There";
+}
+
+abbrev outer : Meaning
+outer = record {
+  words = 0xb9c7367c ∷ 0xe8e83770 ∷ 0xdd6e5662 ∷ 0xd8df10bc ∷ 0x99f90405 ∷ [];
+  count = 1;
+  tail = [];
+}
+
+is_inner_state : IsState ripemd160 inner
+is_inner_state = record {
+  words = record { count = refl; fit = search rules };
+  count = omega arith;
+  tail = record { short = omega arith; bytes = search rules };
+}
+
+is_outer_state : IsState ripemd160 outer
+is_outer_state = record {
+  words = record { count = refl; fit = search rules };
+  count = omega arith;
+  tail = record { short = omega arith; bytes = search rules };
+}
+
+pub returns : goal.returns
+unfolding registers_after lines_after compress with_padding blocks partial_block fed output_and_count core_and_tail key_block inner_message
+returns c = record {
+  saved = record {
+    state = record { inner = inner; outer = outer };
+    valid = record { inner = is_inner_state; outer = is_outer_state };
+    bytes = record { inner = refl; outer = refl };
+    stands = record { inner = refl; outer = refl };
+  };
+  exchanged = λ other.
+      let bytes : hasher_bytes inner ≡ saved_outer = ap hasher_bytes (sym other.stands.inner) ∙ other.bytes.inner in
+      let first : 0xb3 ≡ 0x7c = ap (λ (bs : List ℕ). get_or bs 0 0) bytes in
+      omega (arith, first);
+}

@@ -1,0 +1,22 @@
+-- The bytes that a tag under way is saved as (this repository's own).
+use Rattle.std.specs.Prelude.{◌≡◌, ℕ, List}
+use Rattle.ripemd.specs.States.{Meaning}
+use Rattle.ripemd_mac.specs.Keyed.{KeyedState, StandsFor}
+
+-- it can occur, if both hashes under way can
+pub record IsKeyedState (is_valid : Meaning → Type 0) (state : KeyedState) : Type 0 where
+  pub inner : is_valid state.inner
+  pub outer : is_valid state.outer
+
+-- these are the bytes of the one hash and of the other
+pub record IsSavedAs (state_bytes : Meaning → List ℕ) (first second : List ℕ) (state : KeyedState) : Type 0 where
+  pub inner : state_bytes state.inner ≡ first
+  pub outer : state_bytes state.outer ≡ second
+
+-- these are the bytes of a tag under way that stands for this key and this text
+pub record IsSavedFor (start : List ℕ) (step : List ℕ → List ℕ → List ℕ) (output : List ℕ → List ℕ)
+    (is_valid : Meaning → Type 0) (state_bytes : Meaning → List ℕ) (key text first second : List ℕ) : Type 0 where
+  pub state : KeyedState
+  pub valid : IsKeyedState is_valid state
+  pub bytes : IsSavedAs state_bytes first second state
+  pub stands : StandsFor start step output key text state
