@@ -1,7 +1,13 @@
 -- Elements put in their places, one after another.
-use Rattle.std.proofs.Common.{◌≡◌, ℕ, zero, suc, ◌+◌, ◌<◌, ◌≤◌, add-one, arith, refl}
-use Rattle.std.proofs.Common.{List, [], ◌∷◌, length, map, take, get_or, slice_set}
-use Rattle.std.proofs.lemmas.List.{take_all, length-map}
+use Rattle.std.proofs.Common.{◌≡◌, ℕ, zero, suc, ◌+◌, ◌-◌, ◌<◌, ◌≤◌, min, inl, inr, add-one, zero-add, arith}
+use Rattle.std.proofs.Common.{refl, sym, ap, ◌∙◌}
+use Rattle.std.proofs.Common.{List, [], ◌∷◌, ◌++◌, length, map, take, drop, get_or, slice_set}
+use Rattle.std.proofs.lemmas.Bool.{cases_lt}
+use Rattle.std.proofs.lemmas.List.{take_all, length-map, map-append, take_at, take-map, drop-map}
+use Rattle.std.proofs.lemmas.List.{length-append, length-take-le, length-drop}
+use Rattle.std.specs.Borrow.{Bor}
+use borrow.Rule.Slice.PartMut.{put_mid}
+use Rattle.ripemd_batch.specs.Lanes.{targets}
 
 put_at : {A B C : Type 0} (f : A → B) (g : C → B) (out : List A) (xs : List C) (n : ℕ) (a : A) (d : C)
     → n < length out → n < length xs → f a ≡ g (get_or xs n d)
@@ -42,3 +48,88 @@ all_equal f g out xs n of_out of_xs same =
     let a = length-map out f in
     let b = length-map xs g in
     rw (take_all n (map f out) (omega (arith, a)), take_all n (map g xs) (omega (arith, b))) at same
+
+-- functions that agree have the same images
+pub map_same : {A B : Type 0} (f g : A → B) → ((x : A) → f x ≡ g x) → (xs : List A) → map f xs ≡ map g xs
+map_same f g same [] = refl
+map_same f g same (x ∷ xs) = rw (same x, map_same f g same xs) refl
+
+-- ---- a part written behind the elements before it
+
+part_put : {A B C : Type 0} (f : A → B) (g : C → B) (out : List A) (xs : List C) (part post : List A) (at count : ℕ)
+    → at ≤ length out → at ≤ length xs → length part ≡ count
+    → map f part ≡ map g (take count (drop at xs))
+    → take at (map f out) ≡ take at (map g xs)
+    → take (at + count) (map f (take at out ++ (part ++ post))) ≡ take (at + count) (map g xs)
+part_put f g out xs part post zero count in_out in_xs size same before =
+    let many : length (map f part) ≡ count = length-map part f ∙ size in
+    rw (zero-add count, map-append f part post, take_at (map f part) (map f post) count many, take-map g count xs) same
+part_put f g [] xs part post (suc at) count in_out in_xs size same before = absurd (omega arith)
+part_put f g (o ∷ out) [] part post (suc at) count in_out in_xs size same before = absurd (omega arith)
+part_put f g (o ∷ out) (x ∷ xs) part post (suc at) count in_out in_xs size same before =
+    let head : f o ≡ g x = cc in
+    let tail : take at (map f out) ≡ take at (map g xs) = cc in
+    let more : suc at + count ≡ suc (at + count) = omega arith in
+    rw (more, head, part_put f g out xs part post at count (omega arith) (omega arith) size same tail) refl
+
+-- a list with a part written over is as long as before
+pub length-put : {A : Type 0} (out part : List A) (at k : ℕ) → at + k ≤ length out → length part ≡ k
+    → length (put_mid at k out part) ≡ length out
+length-put out part at k fits size =
+    omega (
+      arith,
+      size,
+      length-append (take at out) (part ++ drop k (drop at out)),
+      length-append part (drop k (drop at out)),
+      length-take-le at out (omega arith),
+      length-drop k (drop at out),
+      length-drop at out,
+    )
+
+-- where the first images are those of the list, and those of a part that ends at place `end` are the
+-- next, the first `next` are, if the part ends there or where the list does
+put_part : {A B C : Type 0} (f : A → B) (g : C → B) (out : List A) (xs : List C) (part : List A) (at end next : ℕ)
+    → length out ≡ length xs → at ≤ end → end ≡ min next (length xs) → length part ≡ end - at
+    → map f part ≡ map g (take (end - at) (drop at xs))
+    → take at (map f out) ≡ take at (map g xs)
+    → take next (map f (put_mid at (end - at) out part)) ≡ take next (map g xs)
+put_part f g out xs part at end next many ends least size same before =
+    let k : ℕ = end - at in
+    let place : at + k ≡ end = omega arith in
+    let all = length-put out part at k (omega arith) size in
+    let up_to_end : take end (map f (put_mid at k out part)) ≡ take end (map g xs) =
+    rw place at (part_put f g out xs part (drop k (drop at out)) at k (omega arith) (omega arith) size same before) in
+    elim (cases_lt (length xs) next) [
+      | inl more ↦
+          all_taken f g (put_mid at k out part) xs end next (omega (arith, all)) (omega arith) (omega arith) up_to_end
+      | inr fits ↦
+          let here : end ≡ next = omega arith in
+          rw (← here) up_to_end
+    ]
+
+-- the same of the digests of messages, by functions that agree
+pub put_group : {A : Type 0} (bytes_of : A → List ℕ) (own digest : List ℕ → List ℕ)
+    → ((m : List ℕ) → own m ≡ digest m)
+    → (out : List A) (messages : List (Bor (List ℕ))) (part : List A) (at end next : ℕ)
+    → length out ≡ length messages → at ≤ end → end ≡ min next (length messages) → length part ≡ end - at
+    → map bytes_of part ≡ map own (targets (take (end - at) (drop at messages)))
+    → take at (map bytes_of out) ≡ take at (map digest (targets messages))
+    → take next (map bytes_of (put_mid at (end - at) out part)) ≡ take next (map digest (targets messages))
+put_group bytes_of own digest agree out messages part at end next many ends least size same before =
+    let all : List (List ℕ) = targets messages in
+    let count : length all ≡ length messages = length-map messages (λ m. m.now) in
+    let own_part : targets (take (end - at) (drop at messages)) ≡ take (end - at) (drop at all) =
+    rw (drop-map (λ (m : Bor (List ℕ)). m.now) at messages, take-map (λ (m : Bor (List ℕ)). m.now) (end - at) (drop at messages)) refl in
+    put_part bytes_of digest out all part at end next (many ∙ sym count) ends (rw count least) size
+    (same ∙ ap (map own) own_part ∙ map_same own digest agree (take (end - at) (drop at all))) before
+
+-- the first n elements of a list are another list of n elements, if each is the other's
+pub first_of : {A : Type 0} (n : ℕ) (xs ys : List A) (d : A) → length ys ≡ n → n ≤ length xs
+    → ((j : ℕ) → j < n → get_or xs j d ≡ get_or ys j d) → take n xs ≡ ys
+first_of zero xs [] d size most same = refl
+first_of zero xs (y ∷ ys) d size most same = absurd (omega arith)
+first_of (suc n) [] ys d size most same = absurd (omega arith)
+first_of (suc n) (x ∷ xs) [] d size most same = absurd (omega arith)
+first_of (suc n) (x ∷ xs) (y ∷ ys) d size most same =
+    let head : x ≡ y = same 0 (omega arith) in
+    rw (head, first_of n xs ys d (omega arith) (omega arith) (λ j h. same (suc j) (omega arith))) refl

@@ -1,7 +1,9 @@
 -- Eight messages side by side: a vector has a word of each.
-use Rattle.std.specs.Prelude.{ℕ, ◌<◌, ◌≡◌, List, [], ◌∷◌, map, slice_index, slice_index_or}
+use Rattle.std.specs.Prelude.{ℕ, ◌<◌, ◌≡◌, ◌+◌, ◌*◌, ◌%◌, ◌^◌}
+use Rattle.std.specs.Prelude.{List, [], ◌∷◌, length, map, slice_index, slice_index_or}
 use Rattle.std.specs.Borrow.{Bor}
 use Rattle.ripemd_block.specs.Standard.Words.{message_word}
+use Rattle.ripemd_block.specs.Standard.Hashing.{with_padding, blocks, walk}
 use Rattle.ripemd_block.specs.Standard.Schedule.{Line, left_line, right_line}
 use Rattle.ripemd_block.specs.Standard.Compression.{Lines}
 use Rattle.ripemd_batch.specs.declared.steps.Side.{Side}
@@ -61,3 +63,14 @@ of_message xs j = slice_index_or xs j []
 -- the blocks of message j, of the blocks of each
 abbrev pub blocks_of : List (List (List ℕ)) → ℕ → List (List ℕ)
 blocks_of blocks j = slice_index_or blocks j []
+
+-- ---- messages with bytes before them
+
+-- a message with its padding, where so many bytes before it count in the length
+abbrev pub padded_after : ℕ → List ℕ → List ℕ
+padded_after before message = with_padding message (8 * (before + length message) % 2 ^ 64)
+
+-- the output of the state after the blocks of such a message, walked through from the state to which
+-- the bytes before it led
+unfoldable pub hash_after : ℕ → List ℕ → (List ℕ → List ℕ → List ℕ) → (List ℕ → List ℕ) → List ℕ → List ℕ
+hash_after before first step output message = output (walk step first (blocks (padded_after before message)))

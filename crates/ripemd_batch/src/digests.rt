@@ -1,35 +1,40 @@
 //! Digests of many messages.
 
-ghost use Rattle.std.specs.Prelude.{◌≡◌, ℕ, ◌+◌, ◌<◌, ◌≤◌, List};
-ghost use Rattle.std.specs.Prelude.{length, map, take, slice_index, slice_index_or, []};
-ghost use Rattle.ripemd_block.specs.Standard.Words.{word_bytes};
-ghost use Rattle.ripemd_block.specs.Standard.Compression.{compress};
-ghost use Rattle.ripemd_block.specs.Standard.Hashing.{hash, walk, padded_message, blocks};
-ghost use Rattle.ripemd_batch.specs.Lanes.{of_message, targets, blocks_of};
+ghost use Rattle.std.specs.Prelude.{◌≡◌, ℕ, ◌+◌, ◌*◌, ◌<◌, ◌≤◌, min, List};
+ghost use Rattle.std.specs.Prelude.{length, map, slice_index, slice_index_or, []};
+ghost use Rattle.ripemd_block.specs.Standard.Hashing.{hash, walk, blocks};
+ghost use Rattle.ripemd_batch.specs.Lanes.{of_message, targets, blocks_of, padded_after, hash_after};
 
 use crate::eight::Eight;
 use crate::padded::MessageBlocks;
 use crate::states::EightStates;
+use ripemd::digest::BlockDigest;
 use ripemd::padding::block_count;
-use ripemd::{Digest, Ripemd128, Ripemd160, Ripemd256, Ripemd320};
+use ripemd::{Ripemd128, Ripemd160, Ripemd256, Ripemd320};
+use ripemd_block::block_api::{BlockFunction, ByteArray};
 
 /// A hash function of which eight messages can be hashed at once. It has no functions of its own.
-pub trait BatchDigest: Digest {
+pub trait BatchDigest: BlockDigest<Output: ByteArray> {
     /// The states of eight messages.
     type States: EightStates<Output = Self::Output>;
 
     // They start from the same words.
-    ghost same_start: { Self.States.parameters.start ≡ Self.start };
+    ghost same_start: { Self.States.Function.list Self.States.Function.start_of ≡ Self.start };
 
     // They take a block in by the same function.
-    ghost same_step: { compress Self.States.parameters ≡ Self.step };
+    ghost same_step: { Self.States.Function.step ≡ Self.step };
 
-    // They give the bytes of their words.
-    ghost same_output: { word_bytes ≡ Self.output };
+    // They give the same output of their words.
+    ghost same_output: { Self.States.Function.output ≡ Self.output };
 
-    // These are the bytes of the digest.
-    ghost same_bytes: { (d : Self.Output) → Self.States.bytes d ≡ Self.bytes_of d };
+    // Its bytes are those of the digest.
+    ghost same_bytes: { (d : Self.Output) → Self.Output.bytes d ≡ Self.bytes_of d };
 }
+
+// Its block function, and the states of that.
+pub(crate) type FunctionOf<D> = <<D as BatchDigest>::States as EightStates>::Function;
+
+pub(crate) type StateOf<D> = <FunctionOf<D> as BlockFunction>::State;
 
 impl BatchDigest for Ripemd128 {
     type States = [Eight; 4];
@@ -98,45 +103,74 @@ pub fn digest_each<D: BatchDigest>(messages: &[&[u8]], digests: &mut [D::Output]
     ensures { map D.bytes_of digests.new
         ≡ map (hash D.start D.step D.output) (targets messages.now) }
 {
-    for g in 0..messages.len().div_ceil(8) {
-        digest_group::<D>(messages, 8 * g, digests);
-    }
+    digest_from::<D>(FunctionOf::<D>::start(), 0, messages, digests);
 }
 
-// Writes the digests of the messages from `at` on, of at most eight, where those before them are
-// written.
-fn digest_group<D: BatchDigest>(messages: &[&[u8]], at: usize, digests: &mut [D::Output])
-    requires at { at < length messages.now }
+// Writes the digests of messages, walked through from a state to which so many bytes before them
+// led. Not inlined, so that the steps stand once in a program.
+#[inline(never)]
+pub(crate) fn digest_from<D: BatchDigest>(
+    first: StateOf<D>,
+    before: u64,
+    messages: &[&[u8]],
+    digests: &mut [D::Output],
+)
+    requires valid { D.States.Function.is_state first }
     requires length { length digests.old ≡ length messages.now }
-    ensures length { length digests.new ≡ length digests.old }
-    ensures digests { take at (map D.bytes_of digests.old)
-        ≡ take at (map (hash D.start D.step D.output) (targets messages.now))
-        → take (at + 8) (map D.bytes_of digests.new)
-        ≡ take (at + 8) (map (hash D.start D.step D.output) (targets messages.now)) }
+    ensures { map D.bytes_of digests.new
+        ≡ map (hash_after before (D.States.Function.list first) D.step D.output)
+        (targets messages.now) }
 {
-    let count = if messages.len() - at < 8 {
-        messages.len() - at
-    } else {
-        8
-    };
-    if fills_lanes(messages, at, count) {
-        digest_at_once::<D>(messages, at, count, digests);
-    } else {
-        digest_one_by_one::<D>(messages, at, count, digests);
+    for g in 0..messages.len().div_ceil(8) {
+        let end = group_end(messages.len(), g);
+        digest_group::<D>(
+            first,
+            before,
+            &messages[8 * g..end],
+            &mut digests[8 * g..end],
+        );
     }
 }
 
-// Whether it is faster to hash `count` messages from `at` on at once than one after another: if all
-// of them have four times as many blocks as the longest, or more.
-fn fills_lanes(messages: &[&[u8]], at: usize, count: usize) -> bool
-    requires { at + count ≤ length messages.now }
+// Where group `g` of eight ends, of `len` in all.
+#[inline(always)]
+pub(crate) fn group_end(len: usize, g: usize) -> usize
+    requires { 8 * g < len }
+    ensures { result ≡ min (8 * g + 8) len }
 {
+    if len - 8 * g < 8 { len } else { 8 * g + 8 }
+}
+
+// Writes the digests of at most eight messages.
+fn digest_group<D: BatchDigest>(
+    first: StateOf<D>,
+    before: u64,
+    messages: &[&[u8]],
+    digests: &mut [D::Output],
+)
+    requires valid { D.States.Function.is_state first }
+    requires few { length messages.now ≤ 8 }
+    requires length { length digests.old ≡ length messages.now }
+    ensures { map D.bytes_of digests.new
+        ≡ map (hash_after before (D.States.Function.list first) D.step D.output)
+        (targets messages.now) }
+{
+    if fills_lanes(messages) {
+        digest_at_once::<D>(first, before, messages, digests);
+    } else {
+        digest_one_by_one::<D>(first, before, messages, digests);
+    }
+}
+
+// Whether it is faster to hash at most eight messages at once than one after another: if all of
+// them have four times as many blocks as the longest, or more.
+fn fills_lanes(messages: &[&[u8]]) -> bool {
     let mut most = 0;
     let mut sum: usize = 0;
     // Eight turns, which the compiler writes out.
     for j in 0..8 {
-        if j < count {
-            let blocks = block_count(messages[at + j]);
+        if j < messages.len() {
+            let blocks = block_count(messages[j]);
             sum = sum.wrapping_add(blocks);
             if most < blocks {
                 most = blocks;
@@ -146,50 +180,55 @@ fn fills_lanes(messages: &[&[u8]], at: usize, count: usize) -> bool
     sum / 4 >= most
 }
 
-// Writes the digests of `count` messages from `at` on, one after another.
+// Writes the digests of messages, one after another.
 fn digest_one_by_one<D: BatchDigest>(
+    first: StateOf<D>,
+    before: u64,
     messages: &[&[u8]],
-    at: usize,
-    count: usize,
     digests: &mut [D::Output],
 )
-    requires count { at + count ≤ length messages.now }
+    requires valid { D.States.Function.is_state first }
     requires length { length digests.old ≡ length messages.now }
-    ensures length { length digests.new ≡ length digests.old }
-    ensures digests { take at (map D.bytes_of digests.old)
-        ≡ take at (map (hash D.start D.step D.output) (targets messages.now))
-        → take (at + count) (map D.bytes_of digests.new)
-        ≡ take (at + count) (map (hash D.start D.step D.output) (targets messages.now)) }
+    ensures { map D.bytes_of digests.new
+        ≡ map (hash_after before (D.States.Function.list first) D.step D.output)
+        (targets messages.now) }
 {
-    for j in 0..count {
-        let digest = D::digest(message_at(messages, at + j));
-        digests[at + j] = digest;
+    for j in 0..messages.len() {
+        let digest = digest_one::<D>(first, before, message_at(messages, j));
+        digests[j] = digest;
     }
 }
 
-// Writes the digests of `count` messages from `at` on, at most eight, hashed at once.
+// The digest of one message.
+fn digest_one<D: BatchDigest>(first: StateOf<D>, before: u64, message: &[u8]) -> D::Output
+    requires { D.States.Function.is_state first }
+    ensures { D.bytes_of result
+        ≡ hash_after before (D.States.Function.list first) D.step D.output message.now }
+{
+    let mut zeros = [[0; 64]; 2];
+    let blocks = MessageBlocks::of(before, message, &mut zeros);
+    FunctionOf::<D>::output(blocks.walk::<FunctionOf<D>>(first))
+}
+
+// Writes the digests of at most eight messages, hashed at once.
 fn digest_at_once<D: BatchDigest>(
+    first: StateOf<D>,
+    before: u64,
     messages: &[&[u8]],
-    at: usize,
-    count: usize,
     digests: &mut [D::Output],
 )
-    requires some { at < length messages.now }
-    requires eight { count ≤ 8 }
-    requires count { at + count ≤ length messages.now }
+    requires few { length messages.now ≤ 8 }
     requires length { length digests.old ≡ length messages.now }
-    ensures length { length digests.new ≡ length digests.old }
-    ensures digests { take at (map D.bytes_of digests.old)
-        ≡ take at (map (hash D.start D.step D.output) (targets messages.now))
-        → take (at + count) (map D.bytes_of digests.new)
-        ≡ take (at + count) (map (hash D.start D.step D.output) (targets messages.now)) }
+    ensures { map D.bytes_of digests.new
+        ≡ map (hash_after before (D.States.Function.list first) D.step D.output)
+        (targets messages.now) }
 {
-    let states: D::States = walk_group(messages, at);
+    let states: D::States = walk_group(first, before, messages);
     // Eight turns, so that the compiler knows the lane of each.
     for j in 0..8 {
-        if j < count {
+        if j < messages.len() {
             let digest = states.digest_of(j);
-            digests[at + j] = digest;
+            digests[j] = digest;
         }
     }
 }
@@ -215,13 +254,16 @@ fn message_or_empty<'a>(messages: &[&'a [u8]], i: usize) -> &'a [u8]
     }
 }
 
-// The last states of the walks through the blocks of the eight messages from `at` on. Each message
-// has two blocks here, in which its padding is made.
-fn walk_group<S: EightStates>(messages: &[&[u8]], at: usize) -> S
-    requires { at < length messages.now }
-    ensures { (j : ℕ) → j < 8 → at + j < length messages.now
-        → S.words_of j result ≡ walk (compress S.parameters) S.parameters.start
-        (blocks (padded_message (of_message (targets messages.now) (at + j)))) }
+// The last states of the walks through the blocks of at most eight messages. Each message has two
+// blocks here, in which its padding is made.
+fn walk_group<S: EightStates>(
+    first: <S::Function as BlockFunction>::State,
+    before: u64,
+    messages: &[&[u8]],
+) -> S
+    ensures { (j : ℕ) → j < 8 → j < length messages.now
+        → S.words_of j result ≡ walk S.Function.step (S.Function.list first)
+        (blocks (padded_after before (of_message (targets messages.now) j))) }
 {
     let mut zeros_0 = [[0; 64]; 2];
     let mut zeros_1 = [[0; 64]; 2];
@@ -232,26 +274,29 @@ fn walk_group<S: EightStates>(messages: &[&[u8]], at: usize) -> S
     let mut zeros_6 = [[0; 64]; 2];
     let mut zeros_7 = [[0; 64]; 2];
     let blocks = [
-        MessageBlocks::of(message_or_empty(messages, at), &mut zeros_0),
-        MessageBlocks::of(message_or_empty(messages, at + 1), &mut zeros_1),
-        MessageBlocks::of(message_or_empty(messages, at + 2), &mut zeros_2),
-        MessageBlocks::of(message_or_empty(messages, at + 3), &mut zeros_3),
-        MessageBlocks::of(message_or_empty(messages, at + 4), &mut zeros_4),
-        MessageBlocks::of(message_or_empty(messages, at + 5), &mut zeros_5),
-        MessageBlocks::of(message_or_empty(messages, at + 6), &mut zeros_6),
-        MessageBlocks::of(message_or_empty(messages, at + 7), &mut zeros_7),
+        MessageBlocks::of(before, message_or_empty(messages, 0), &mut zeros_0),
+        MessageBlocks::of(before, message_or_empty(messages, 1), &mut zeros_1),
+        MessageBlocks::of(before, message_or_empty(messages, 2), &mut zeros_2),
+        MessageBlocks::of(before, message_or_empty(messages, 3), &mut zeros_3),
+        MessageBlocks::of(before, message_or_empty(messages, 4), &mut zeros_4),
+        MessageBlocks::of(before, message_or_empty(messages, 5), &mut zeros_5),
+        MessageBlocks::of(before, message_or_empty(messages, 6), &mut zeros_6),
+        MessageBlocks::of(before, message_or_empty(messages, 7), &mut zeros_7),
     ];
-    walk_all(&blocks)
+    walk_all(first, &blocks)
 }
 
-// The last states of eight walks, through all blocks of each message.
-fn walk_all<S: EightStates>(blocks: &[MessageBlocks; 8]) -> S
+// The last states of eight walks from one state, through all blocks of each message.
+fn walk_all<S: EightStates>(
+    first: <S::Function as BlockFunction>::State,
+    blocks: &[MessageBlocks; 8],
+) -> S
     ensures { (j : ℕ) → j < 8 → S.words_of j result
-        ≡ walk (compress S.parameters) S.parameters.start (blocks_of blocks.now j) }
+        ≡ walk S.Function.step (S.Function.list first) (blocks_of blocks.now j) }
 {
     let counts = block_counts(blocks);
     let most = most(&counts);
-    let mut states = S::start();
+    let mut states = S::splat(first);
     for i in 0..most {
         let next = compress_live(states, blocks, &counts, i);
         states = next;
@@ -298,7 +343,7 @@ fn compress_live<S: EightStates>(
 ) -> S
     requires { (j : ℕ) → j < 8 → slice_index counts.now j ≡ length (blocks_of blocks.now j) }
     ensures taken { (j : ℕ) → j < 8 → i < length (blocks_of blocks.now j) → S.words_of j result
-        ≡ compress S.parameters (S.words_of j states)
+        ≡ S.Function.step (S.words_of j states)
         (slice_index_or (blocks_of blocks.now j) i []) }
     ensures kept { (j : ℕ) → j < 8 → length (blocks_of blocks.now j) ≤ i
         → S.words_of j result ≡ S.words_of j states }
@@ -340,7 +385,7 @@ fn is_live(count: usize, i: usize) -> u32
 #[inline(always)]
 fn compress_block<S: EightStates>(states: S, blocks: &[MessageBlocks; 8], i: usize) -> S
     ensures { (j : ℕ) → j < 8 → i < length (blocks_of blocks.now j) → S.words_of j result
-        ≡ compress S.parameters (S.words_of j states)
+        ≡ S.Function.step (S.words_of j states)
         (slice_index_or (blocks_of blocks.now j) i []) }
 {
     states.compress(&[

@@ -1,4 +1,4 @@
-//! Digests of many messages: eight at once, one in each lane of a vector.
+//! Digests of many messages, and tags of many texts under one key: eight at once, one in each lane of a vector.
 #![tactic(auto)]
 
 mod c128;
@@ -15,5 +15,7 @@ mod message;
 mod padded;
 mod states;
 mod steps;
+pub mod tags;
 
 pub use digests::{BatchDigest, digest_each};
+pub use tags::tag_each;

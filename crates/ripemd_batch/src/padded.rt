@@ -2,10 +2,11 @@
 
 ghost use Rattle.std.specs.Prelude.{◌≡◌, ◌-◌, ◌<◌, [], ◌∷◌, ◌++◌, length, take, replicate, slice_index_or};
 ghost use Rattle.ripemd_block.specs.Standard.Words.{block_size, eight_bytes};
-ghost use Rattle.ripemd_block.specs.Standard.Hashing.{length_place, with_padding, padded_message};
-ghost use Rattle.ripemd_block.specs.Standard.Hashing.{blocks};
+ghost use Rattle.ripemd_block.specs.Standard.Hashing.{length_place, with_padding, blocks, walk};
+ghost use Rattle.ripemd_batch.specs.Lanes.{padded_after};
 
 use ripemd::padding::whole_blocks;
+use ripemd_block::block_api::{BlockFunction, HashFunction, walk};
 use std::marker::Model;
 
 /// The blocks of a message with its padding: the whole ones, and the last one or two. Contracts see
@@ -27,18 +28,31 @@ impl<'a, 'b> Model for MessageBlocks<'a, 'b> {
 }
 
 impl<'a, 'b> MessageBlocks<'a, 'b> {
-    /// The blocks of a message. The last ones are made in the place of two blocks of zero bytes.
+    /// The blocks of a message with so many bytes before it, which count in its length. The last
+    /// ones are made in the place of two blocks of zero bytes.
     #[inline(always)]
-    pub(crate) fn of(message: &'a [u8], zeros: &'b mut [[u8; 64]; 2]) -> MessageBlocks<'a, 'b>
+    pub(crate) fn of(
+        before: u64,
+        message: &'a [u8],
+        zeros: &'b mut [[u8; 64]; 2],
+    ) -> MessageBlocks<'a, 'b>
         requires { zeros.old ≡ replicate 2 (replicate block_size 0) }
-        ensures { result ≡ blocks (padded_message message.now) }
+        ensures { result ≡ blocks (padded_after before message.now) }
     {
         let (whole, tail) = whole_blocks(message);
-        let bit_len = (message.len() as u64).wrapping_mul(8);
+        let bit_len = before.wrapping_add(message.len() as u64).wrapping_mul(8);
         MessageBlocks {
             whole,
             last: last_blocks(tail, bit_len, zeros),
         }
+    }
+
+    /// The state after all of them.
+    pub(crate) fn walk<F: HashFunction>(&self, first: F::State) -> F::State
+        requires { F.is_state first }
+        ensures { result ≡ walk F.step_of first self.now }
+    {
+        walk::<F>(walk::<F>(first, self.whole), self.last)
     }
 
     /// How many there are.

@@ -1,43 +1,37 @@
 //! The states of eight messages, and what differs between the variants: how many words a state has,
-//! which these are at the start, and what a block does to them.
+//! and what a block does to them.
 
 ghost use Rattle.std.specs.Prelude.{◌≡◌, ℕ, ◌<◌, List, slice_index};
-ghost use Rattle.ripemd_block.specs.Standard.Words.{word_bytes};
-ghost use Rattle.ripemd_block.specs.Standard.Compression.{Parameters, compress};
-ghost use Rattle.ripemd_block.specs.Standard.Compression.{ripemd128, ripemd160};
-ghost use Rattle.ripemd_block.specs.Standard.Compression.{ripemd256, ripemd320};
 ghost use Rattle.ripemd_batch.specs.Lanes.{lane_of_four, lane_of_five, lane_of_eight};
 ghost use Rattle.ripemd_batch.specs.Lanes.{lane_of_ten, of_message, targets};
 
 use crate::eight::Eight;
 use crate::{c128, c160, c256, c320};
 use ripemd_block::block_api::{
-    BlockFunction, Ripemd128Core, Ripemd160Core, Ripemd256Core, Ripemd320Core,
+    BlockFunction, ByteArray, HashFunction, Ripemd128Function, Ripemd160Function,
+    Ripemd256Function, Ripemd320Function,
 };
 
 // The states of eight messages: each variant has its own number of words. Not exported, so that no
 // other crate can call it.
 pub trait EightStates: Copy {
     // A digest.
-    type Output;
+    type Output: ByteArray;
 
-    // Its bytes.
-    ghost bytes: { Self.Output → List ℕ };
-
-    // The variant.
-    ghost parameters: { Parameters };
+    // The block function.
+    type Function: HashFunction<Digest = Self::Output>;
 
     // The words of message `j`.
     ghost words_of: { ℕ → Self → List ℕ };
 
-    // The start words of each message.
-    fn start() -> Self
-        ensures { (j : ℕ) → j < 8 → words_of j result ≡ parameters.start };
+    // The same words for each message.
+    fn splat(words: <Self::Function as BlockFunction>::State) -> Self
+        ensures { (j : ℕ) → j < 8 → words_of j result ≡ Self.Function.list words };
 
     // The states after one more block of each message.
     fn compress(self, blocks: &[&[u8; 64]; 8]) -> Self
         ensures { (j : ℕ) → j < 8 → words_of j result
-            ≡ compress parameters (words_of j self) (of_message (targets blocks.now) j) };
+            ≡ Self.Function.step (words_of j self) (of_message (targets blocks.now) j) };
 
     // The new states of the messages whose word in `live` has all bits set, and the old ones of
     // those where it is 0.
@@ -47,23 +41,20 @@ pub trait EightStates: Copy {
         ensures kept { (j : ℕ) → j < 8 → slice_index live j ≡ 0
             → words_of j result ≡ words_of j old };
 
-    // The digest of message `j`, which is the bytes of its state.
+    // The digest of message `j`, which is the output of its state.
     fn digest_of(&self, j: usize) -> Self::Output
         requires { j < 8 }
-        ensures { bytes result ≡ word_bytes (words_of j self.now) };
+        ensures { Self.Output.bytes result ≡ Self.Function.output (words_of j self.now) };
 }
 
 impl EightStates for [Eight; 4] {
     type Output = [u8; 16];
 
-    ghost bytes = { λ bytes. bytes };
-
-    ghost parameters = { ripemd128 };
+    type Function = Ripemd128Function;
 
     ghost words_of = { lane_of_four };
 
-    fn start() -> [Eight; 4] {
-        let words = Ripemd128Core::start();
+    fn splat(words: [u32; 4]) -> [Eight; 4] {
         [
             Eight::splat(words[0]),
             Eight::splat(words[1]),
@@ -86,7 +77,7 @@ impl EightStates for [Eight; 4] {
     }
 
     fn digest_of(&self, j: usize) -> [u8; 16] {
-        Ripemd128Core::output([
+        Ripemd128Function::output([
             self[0].word(j),
             self[1].word(j),
             self[2].word(j),
@@ -98,14 +89,11 @@ impl EightStates for [Eight; 4] {
 impl EightStates for [Eight; 5] {
     type Output = [u8; 20];
 
-    ghost bytes = { λ bytes. bytes };
-
-    ghost parameters = { ripemd160 };
+    type Function = Ripemd160Function;
 
     ghost words_of = { lane_of_five };
 
-    fn start() -> [Eight; 5] {
-        let words = Ripemd160Core::start();
+    fn splat(words: [u32; 5]) -> [Eight; 5] {
         [
             Eight::splat(words[0]),
             Eight::splat(words[1]),
@@ -130,7 +118,7 @@ impl EightStates for [Eight; 5] {
     }
 
     fn digest_of(&self, j: usize) -> [u8; 20] {
-        Ripemd160Core::output([
+        Ripemd160Function::output([
             self[0].word(j),
             self[1].word(j),
             self[2].word(j),
@@ -143,14 +131,11 @@ impl EightStates for [Eight; 5] {
 impl EightStates for [Eight; 8] {
     type Output = [u8; 32];
 
-    ghost bytes = { λ bytes. bytes };
-
-    ghost parameters = { ripemd256 };
+    type Function = Ripemd256Function;
 
     ghost words_of = { lane_of_eight };
 
-    fn start() -> [Eight; 8] {
-        let words = Ripemd256Core::start();
+    fn splat(words: [u32; 8]) -> [Eight; 8] {
         [
             Eight::splat(words[0]),
             Eight::splat(words[1]),
@@ -181,7 +166,7 @@ impl EightStates for [Eight; 8] {
     }
 
     fn digest_of(&self, j: usize) -> [u8; 32] {
-        Ripemd256Core::output([
+        Ripemd256Function::output([
             self[0].word(j),
             self[1].word(j),
             self[2].word(j),
@@ -197,14 +182,11 @@ impl EightStates for [Eight; 8] {
 impl EightStates for [Eight; 10] {
     type Output = [u8; 40];
 
-    ghost bytes = { λ bytes. bytes };
-
-    ghost parameters = { ripemd320 };
+    type Function = Ripemd320Function;
 
     ghost words_of = { lane_of_ten };
 
-    fn start() -> [Eight; 10] {
-        let words = Ripemd320Core::start();
+    fn splat(words: [u32; 10]) -> [Eight; 10] {
         [
             Eight::splat(words[0]),
             Eight::splat(words[1]),
@@ -239,7 +221,7 @@ impl EightStates for [Eight; 10] {
     }
 
     fn digest_of(&self, j: usize) -> [u8; 40] {
-        Ripemd320Core::output([
+        Ripemd320Function::output([
             self[0].word(j),
             self[1].word(j),
             self[2].word(j),

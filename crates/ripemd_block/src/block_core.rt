@@ -163,10 +163,10 @@ impl<F: HashFunction> FixedOutputCore for BlockCore<F> {
     }
 }
 
-// The state after blocks in order. Not inlined, so that a hash function's steps stand once in a
-// program.
+/// The state after blocks in order. Not inlined, so that a hash function's steps stand once in a
+/// program.
 #[inline(never)]
-fn walk<F: HashFunction>(state: F::State, blocks: &[[u8; 64]]) -> F::State
+pub fn walk<F: HashFunction>(state: F::State, blocks: &[[u8; 64]]) -> F::State
     requires { F.is_state state }
     ensures value { result ≡ walk F.step_of state blocks.now }
     ensures valid { F.is_state result }

@@ -1,15 +1,14 @@
 -- The digests so far are written.
-use Rattle.std.proofs.Common.{◌≡◌, ◌+◌, length, map, take}
-use Rattle.ripemd_block.specs.Standard.Hashing.{hash}
-use Rattle.ripemd_batch.specs.Lanes.{targets}
+use Rattle.std.proofs.Common.{◌≡◌, length, map, take}
+use Rattle.ripemd_batch.specs.Lanes.{targets, hash_after}
 use Rattle.ripemd_batch.proofs.digests.digest_one_by_one.Given as goal
 
 abbrev pub invariant-loop-j : goal.invariant-loop-j
 invariant-loop-j g l =
-    let bytes_of = g.D.OutputSizeUser.bytes_of in
-    let all = map (hash g.D.Digest.start g.D.Digest.step g.D.Digest.output) (targets l.messages) in
+    let d = g.D.Digest in
+    let first = g.D.States.Function.HashFunction.list l.fn.first in
+    let digest = hash_after l.fn.before first d.step d.output in
     record {
-      size : length l.digests ≡ length l.fn.digests;
-      so_far : take l.at (map bytes_of l.fn.digests) ≡ take l.at all
-          → take (l.at + l.j) (map bytes_of l.digests) ≡ take (l.at + l.j) all;
+      size : length l.digests ≡ length l.messages;
+      so_far : take l.j (map g.D.OutputSizeUser.bytes_of l.digests) ≡ take l.j (map digest (targets l.messages));
     }

@@ -1,6 +1,5 @@
 use Rattle.std.proofs.Common.{◌≤◌, length, arith}
 use Rattle.std.proofs.lemmas.List.{take_all}
-use Rattle.ripemd_block.specs.Standard.Compression.{compress}
 use Rattle.ripemd_batch.specs.Lanes.{blocks_of}
 use Rattle.ripemd_batch.proofs.Walking.{walk_on}
 use Rattle.ripemd_batch.proofs.digests.walk_all.Goals as goal
@@ -8,7 +7,8 @@ use Rattle.ripemd_batch.proofs.digests.walk_all.Goals as goal
 pub loop-i-preserved : goal.loop-i-preserved
 loop-i-preserved g c j h =
     let s = g.S.EightStates in
-    walk_on (compress s.parameters) s.parameters.start (blocks_of c.args.blocks.now j) c.loop-i.i
+    let f = g.S.Function.HashFunction in
+    walk_on f.step (f.list c.args.first) (blocks_of c.args.blocks.now j) c.loop-i.i
     (s.words_of j c.loop-i.states) (s.words_of j c.compress_live-next.result)
     (c.loop-i.invariant j h) (c.compress_live-next.ensures.taken j h) (c.compress_live-next.ensures.kept j h)
 

@@ -6,5 +6,5 @@ pub returns : goal.returns
 returns c =
     let whole = c.whole_blocks in
     let last = c.last_blocks in
-    joined_blocks c.args.message.now whole.result.1.now _ whole.result.0.now last.result.now
+    joined_blocks c.args.before c.args.message.now whole.result.1.now _ whole.result.0.now last.result.now
     whole.ensures.whole whole.ensures.tail (omega arith) last.ensures.value
