@@ -2,10 +2,12 @@
 // the machine has, and prints tables in Markdown on standard output.
 //   linked LEVEL=FILE.so..      ours, as built for some levels of processors
 // A function is timed only after its digests were compared with a published one and, at many
-// lengths, with ours. A figure is the best of many slices of some 10 ms, in the thread's processor
+// lengths, with ours, and its tags with a published one. Our tags are in no function for C; their time
+// is printed by ripemd_bench. A figure is the best of many slices of some 10 ms, in the thread's processor
 // time. The rounds are outermost: a disturbance of seconds spoils a round of all figures, not all
 // rounds of one.
 #include <dlfcn.h>
+#include <stdbool.h>
 #include <stdint.h>
 #include <stdio.h>
 #include <stdlib.h>
@@ -25,24 +27,33 @@ static const char *const DIGESTS[VARIANTS] = {
     "d034a7950cf722021ba4b84df769a5de2060e259df4c9bb4a4268c0e935bbc7470a969c9d072a1ac",
 };
 
-// What is measured: messages of one size that lie one after another.
+// What is measured: messages of one size that lie one after another, and their digests or, under one
+// key, their tags.
 static const struct task {
   const char *title;
   size_t size, count;
-  int in_ns;
+  int in_ns, keyed;
 } TASKS[] = {
-    {"One message of 1 MiB, MB/s", MIB, 1, 0},
-    {"One message of 32 bytes, ns", 32, 1, 1},
-    {"128 messages of 4 KiB, ours at once, MB/s", 4096, 128, 0},
-    {"8,192 messages of 32 bytes, ours at once, ns for each", 32, 8192, 1},
+    {"One message of 1 MiB, MB/s", MIB, 1, 0, 0},
+    {"One message of 32 bytes, ns", 32, 1, 1, 0},
+    {"128 messages of 4 KiB, ours at once, MB/s", 4096, 128, 0, 0},
+    {"8,192 messages of 32 bytes, ours at once, ns for each", 32, 8192, 1, 0},
+    {"8,192 texts of 32 bytes under one key, ns for each tag", 32, 8192, 1, 1},
 };
 enum { TASKS_COUNT = sizeof TASKS / sizeof TASKS[0] };
 
-// A library's functions by variant, NULL where it has none, and the least seconds of each task.
+// The key of 20 bytes 0x0b, and the tag that RFC 2286 publishes for "Hi There" by RIPEMD-160.
+static uint8_t key[20];
+static const char TEXT[] = "Hi There";
+static const char TAG[] = "24cb4bd67d20fc1a5d2ed7732dcc39377f0a5668";
+
+// A library's functions by variant, NULL where it has none, and the least seconds of each task. A tag
+// is made from a copy of the state after the key, which the library keeps.
 struct library {
   char name[80];
   void (*digest[VARIANTS])(const uint8_t *message, size_t length, uint8_t *digest);
-  void (*each[VARIANTS])(const uint8_t *bytes, size_t length, size_t size, uint8_t *digests,
+  void (*tag[VARIANTS])(const uint8_t *text, size_t length, uint8_t *tag);
+  bool (*each[VARIANTS])(const uint8_t *bytes, size_t length, size_t size, uint8_t *digests,
                          size_t count);
   double seconds[TASKS_COUNT][VARIANTS];
 };
@@ -113,14 +124,31 @@ static void by_gcrypt(const uint8_t *message, size_t length, uint8_t *digest) {
   gcry_md_hash_buffer(3, digest, message, length); // RIPEMD-160
 }
 
+static void *gcrypt_keyed;
+static void (*gcry_md_reset)(void *);
+static void (*gcry_md_write)(void *, const void *, size_t);
+static unsigned char *(*gcry_md_read)(void *, int);
+static void tag_by_gcrypt(const uint8_t *text, size_t length, uint8_t *tag) {
+  gcry_md_reset(gcrypt_keyed); // keeps the key
+  gcry_md_write(gcrypt_keyed, text, length);
+  memcpy(tag, gcry_md_read(gcrypt_keyed, 3), 20);
+}
+
 static void add_gcrypt(void *from) {
   const char *(*gcry_check_version)(const char *);
   unsigned (*gcry_control)(int, ...);
+  unsigned (*gcry_md_open)(void **, int, unsigned);
+  unsigned (*gcry_md_setkey)(void *, const void *, size_t);
   TAKE(from, gcry_md_hash_buffer), TAKE(from, gcry_check_version), TAKE(from, gcry_control);
+  TAKE(from, gcry_md_open), TAKE(from, gcry_md_setkey);
+  TAKE(from, gcry_md_reset), TAKE(from, gcry_md_write), TAKE(from, gcry_md_read);
   struct library *gcrypt = add("libgcrypt", gcry_check_version(NULL));
   gcry_control(37, 0); // no secure memory
   gcry_control(38, 0); // initialized
   gcrypt->digest[1] = by_gcrypt;
+  if (gcry_md_open(&gcrypt_keyed, 3, 2) || gcry_md_setkey(gcrypt_keyed, key, sizeof key)) // HMAC
+    fail("libgcrypt", "it takes no key");
+  gcrypt->tag[1] = tag_by_gcrypt;
 }
 
 static void *av_context;
@@ -156,10 +184,28 @@ static void by_openssl(const uint8_t *message, size_t length, uint8_t *digest) {
   RIPEMD160(message, length, digest);
 }
 
+static void *openssl_keyed;
+static int (*HMAC_Init_ex)(void *, const void *, int, const void *, void *);
+static int (*HMAC_Update)(void *, const unsigned char *, size_t);
+static int (*HMAC_Final)(void *, unsigned char *, unsigned *);
+static void tag_by_openssl(const uint8_t *text, size_t length, uint8_t *tag) {
+  HMAC_Init_ex(openssl_keyed, NULL, 0, NULL, NULL); // keeps the key
+  HMAC_Update(openssl_keyed, text, length);
+  HMAC_Final(openssl_keyed, tag, NULL);
+}
+
 static void add_openssl(void *from) {
   const char *(*OpenSSL_version)(int);
-  TAKE(from, RIPEMD160), TAKE(from, OpenSSL_version);
-  add("OpenSSL", OpenSSL_version(6))->digest[1] = by_openssl; // 6: the number alone
+  void *(*HMAC_CTX_new)(void);
+  const void *(*EVP_ripemd160)(void);
+  TAKE(from, RIPEMD160), TAKE(from, OpenSSL_version), TAKE(from, HMAC_CTX_new);
+  TAKE(from, EVP_ripemd160), TAKE(from, HMAC_Init_ex), TAKE(from, HMAC_Update);
+  TAKE(from, HMAC_Final);
+  struct library *openssl = add("OpenSSL", OpenSSL_version(6)); // 6: the number alone
+  openssl->digest[1] = by_openssl;
+  openssl_keyed = HMAC_CTX_new();
+  if (HMAC_Init_ex(openssl_keyed, key, sizeof key, EVP_ripemd160(), NULL))
+    openssl->tag[1] = tag_by_openssl;
 }
 
 // ---- ours
@@ -175,9 +221,9 @@ static void add_ours(char *argument) {
   struct library *added = add("ours, built for", argument);
   for (int v = 0; v < VARIANTS; v++) {
     char name[40];
-    snprintf(name, sizeof name, "nattizhu_ripemd%d", 8 * SIZES[v]);
+    snprintf(name, sizeof name, "nattizhu_ripemd%d_nonnull", 8 * SIZES[v]);
     *(void **)&added->digest[v] = function(from, name);
-    strcat(name, "_each");
+    snprintf(name, sizeof name, "nattizhu_ripemd%d_each_nonnull", 8 * SIZES[v]);
     *(void **)&added->each[v] = function(from, name);
   }
 }
@@ -189,7 +235,24 @@ static void perform(const struct library *by, int v, const struct task *task) {
     by->each[v](bytes, task->count * task->size, task->size, digests, task->count);
   else
     for (size_t i = 0; i < task->count; i++)
-      by->digest[v](bytes + i * task->size, task->size, digests + i * SIZES[v]);
+      (task->keyed ? by->tag : by->digest)[v](bytes + i * task->size, task->size,
+                                              digests + i * SIZES[v]);
+}
+
+// Whether the library has a function for it.
+static int has(const struct library *by, int v, const struct task *task) {
+  return (task->keyed ? by->tag : by->digest)[v] != NULL;
+}
+
+static void check_tag(const struct library *by, int v) {
+  uint8_t tag[40], wanted[20];
+  for (int i = 0; i < 20; i++)
+    sscanf(TAG + 2 * i, "%2hhx", &wanted[i]);
+  for (int again = 0; again < 2; again++) {
+    by->tag[v]((const uint8_t *)TEXT, strlen(TEXT), tag);
+    if (memcmp(tag, wanted, 20))
+      fail(by->name, "a wrong tag");
+  }
 }
 
 static void check(const struct library *by, int v) {
@@ -204,6 +267,8 @@ static void check(const struct library *by, int v) {
     wrong |= memcmp(digest, wanted, SIZES[v]);
   }
   for (int t = 0; t < TASKS_COUNT; t++) {
+    if (TASKS[t].keyed)
+      continue;
     memset(digests, 0, sizeof digests);
     perform(by, v, &TASKS[t]);
     for (size_t i = 0; i < TASKS[t].count; i++) {
@@ -247,6 +312,11 @@ static void print_table(int t) {
   const struct task *task = &TASKS[t];
   printf("\n%s:\n\n| | 128 | 160 | 256 | 320 |\n|---|---|---|---|---|\n", task->title);
   for (int l = 0; l < count; l++) {
+    int any = 0;
+    for (int v = 0; v < VARIANTS; v++)
+      any |= has(&libraries[l], v, task);
+    if (!any)
+      continue;
     printf("| %s |", libraries[l].name);
     for (int v = 0; v < VARIANTS; v++) {
       double taken = libraries[l].seconds[t][v], least = 0;
@@ -268,6 +338,7 @@ static void print_table(int t) {
 int main(int argc, char **argv) {
   for (int i = 0; i < MIB; i++)
     bytes[i] = i * 7 + (i >> 8);
+  memset(key, 0x0b, sizeof key);
   for (; ours + 1 < argc && ours + 4 < MOST; ours++)
     add_ours(argv[ours + 1]);
   void *found;
@@ -283,11 +354,14 @@ int main(int argc, char **argv) {
     for (int l = 0; l < count; l++)
       if (libraries[l].digest[v])
         check(&libraries[l], v);
+  for (int l = 0; l < count; l++)
+    if (libraries[l].tag[1])
+      check_tag(&libraries[l], 1);
   for (int round = 0; round < ROUNDS; round++)
     for (int t = 0; t < TASKS_COUNT; t++)
       for (int v = 0; v < VARIANTS; v++)
         for (int l = 0; l < count; l++)
-          if (libraries[l].digest[v])
+          if (has(&libraries[l], v, &TASKS[t]))
             measure(&libraries[l], v, t);
   for (int t = 0; t < TASKS_COUNT; t++)
     print_table(t);

@@ -1,8 +1,12 @@
-ghost use Rattle.std.specs.Prelude.{◌≡◌, ◌*◌, ◌≤◌, ◌<◌, length};
+ghost use Rattle.std.specs.Prelude.{◌≤◌, ◌<◌};
 
+use crate::each::{
+    nattizhu_ripemd128_each_nonnull, nattizhu_ripemd160_each_nonnull,
+    nattizhu_ripemd256_each_nonnull, nattizhu_ripemd320_each_nonnull,
+};
 use crate::{
-    nattizhu_ripemd128, nattizhu_ripemd128_each, nattizhu_ripemd160, nattizhu_ripemd160_each,
-    nattizhu_ripemd256, nattizhu_ripemd256_each, nattizhu_ripemd320, nattizhu_ripemd320_each,
+    nattizhu_ripemd128_nonnull, nattizhu_ripemd160_nonnull, nattizhu_ripemd256_nonnull,
+    nattizhu_ripemd320_nonnull,
 };
 use ripemd::{Digest, Ripemd128, Ripemd160, Ripemd256, Ripemd320};
 
@@ -30,16 +34,16 @@ const BY_320: [u8; 40] = [
 #[test]
 fn one_message(rt: HostRuntime) {
     let mut by_128 = [0; 16];
-    nattizhu_ripemd128(b"abc", &mut by_128);
+    nattizhu_ripemd128_nonnull(b"abc", &mut by_128);
     assert!(rt; by_128 == BY_128);
     let mut by_160 = [0; 20];
-    nattizhu_ripemd160(b"abc", &mut by_160);
+    nattizhu_ripemd160_nonnull(b"abc", &mut by_160);
     assert!(rt; by_160 == BY_160);
     let mut by_256 = [0; 32];
-    nattizhu_ripemd256(b"abc", &mut by_256);
+    nattizhu_ripemd256_nonnull(b"abc", &mut by_256);
     assert!(rt; by_256 == BY_256);
     let mut by_320 = [0; 40];
-    nattizhu_ripemd320(b"abc", &mut by_320);
+    nattizhu_ripemd320_nonnull(b"abc", &mut by_320);
     assert!(rt; by_320 == BY_320);
 }
 
@@ -71,50 +75,46 @@ fn have_digests<D: Digest>(records: &[u8], size: usize, digests: &[D::Output]) -
 
 // Whether this is so of up to 300 records, by RIPEMD-128.
 fn agree_by_128(records: &[u8], size: usize, count: usize) -> bool
-    requires length { length records.now ≡ count * size }
     requires size { 0 < size }
     requires count { count ≤ 300 }
 {
     let mut digests = [[0; 16]; 300];
     let digests = &mut digests[..count];
-    nattizhu_ripemd128_each(records, size, digests);
-    have_digests::<Ripemd128>(records, size, digests)
+    nattizhu_ripemd128_each_nonnull(records, size, digests)
+        && have_digests::<Ripemd128>(records, size, digests)
 }
 
 // The same by RIPEMD-160.
 fn agree_by_160(records: &[u8], size: usize, count: usize) -> bool
-    requires length { length records.now ≡ count * size }
     requires size { 0 < size }
     requires count { count ≤ 300 }
 {
     let mut digests = [[0; 20]; 300];
     let digests = &mut digests[..count];
-    nattizhu_ripemd160_each(records, size, digests);
-    have_digests::<Ripemd160>(records, size, digests)
+    nattizhu_ripemd160_each_nonnull(records, size, digests)
+        && have_digests::<Ripemd160>(records, size, digests)
 }
 
 // The same by RIPEMD-256.
 fn agree_by_256(records: &[u8], size: usize, count: usize) -> bool
-    requires length { length records.now ≡ count * size }
     requires size { 0 < size }
     requires count { count ≤ 300 }
 {
     let mut digests = [[0; 32]; 300];
     let digests = &mut digests[..count];
-    nattizhu_ripemd256_each(records, size, digests);
-    have_digests::<Ripemd256>(records, size, digests)
+    nattizhu_ripemd256_each_nonnull(records, size, digests)
+        && have_digests::<Ripemd256>(records, size, digests)
 }
 
 // The same by RIPEMD-320.
 fn agree_by_320(records: &[u8], size: usize, count: usize) -> bool
-    requires length { length records.now ≡ count * size }
     requires size { 0 < size }
     requires count { count ≤ 300 }
 {
     let mut digests = [[0; 40]; 300];
     let digests = &mut digests[..count];
-    nattizhu_ripemd320_each(records, size, digests);
-    have_digests::<Ripemd320>(records, size, digests)
+    nattizhu_ripemd320_each_nonnull(records, size, digests)
+        && have_digests::<Ripemd320>(records, size, digests)
 }
 
 // Whether this is so by each hasher, of so many records of so many bytes.
@@ -152,7 +152,26 @@ const EMPTY_128: [u8; 16] = [
 #[test]
 fn empty_records(rt: HostRuntime) {
     let mut digests = [[0; 16]; 9];
-    nattizhu_ripemd128_each(&[], 0, &mut digests);
+    assert!(rt; nattizhu_ripemd128_each_nonnull(&[], 0, &mut digests));
     assert!(rt; digests == [EMPTY_128; 9]);
-    nattizhu_ripemd128_each(&[], 7, &mut []);
+    assert!(rt; nattizhu_ripemd128_each_nonnull(&[], 7, &mut []));
+}
+
+// Records that are not as many as the places, or whose length is no number of 64 bits: nothing is
+// written.
+#[test]
+fn wrong_lengths(rt: HostRuntime) {
+    let mut by_128 = [[7; 16]; 2];
+    assert!(rt; !nattizhu_ripemd128_each_nonnull(b"abcde", 3, &mut by_128));
+    assert!(rt; !nattizhu_ripemd128_each_nonnull(&[], 1 << 63, &mut by_128));
+    assert!(rt; by_128 == [[7; 16]; 2]);
+    let mut by_160 = [[7; 20]; 2];
+    assert!(rt; !nattizhu_ripemd160_each_nonnull(b"abcdefg", 3, &mut by_160));
+    assert!(rt; by_160 == [[7; 20]; 2]);
+    let mut by_256 = [[7; 32]; 2];
+    assert!(rt; !nattizhu_ripemd256_each_nonnull(b"abc", 3, &mut by_256));
+    assert!(rt; by_256 == [[7; 32]; 2]);
+    let mut by_320 = [[7; 40]; 2];
+    assert!(rt; !nattizhu_ripemd320_each_nonnull(b"abcdef", 0, &mut by_320));
+    assert!(rt; by_320 == [[7; 40]; 2]);
 }

@@ -1,0 +1,322 @@
+/* Nattizhu: RIPEMD-128, RIPEMD-160, RIPEMD-256 and RIPEMD-320 (1996) and HMAC over them (RFC 2104).
+ *
+ * What each call writes and answers is proved, if its caller sees to this, which nothing checks:
+ *
+ * - A pointer leads to as many bytes, or digests, as the number after it says, or as its size in
+ *   brackets. Each of these pieces of memory is smaller than 2^63 bytes.
+ * - A pointer with a number after it may be null where the number is 0. No other pointer is null.
+ * - What a call writes overlaps nothing else that it is given; what it only reads may overlap.
+ * - While a call runs, no other thread writes what it reads, or reads or writes what it writes.
+ *
+ * What was in the memory of a digest or a tag, or of a state before its init, makes no difference.
+ *
+ * No call takes memory, keeps a pointer, or has data of its own: all calls are reentrant, and may run
+ * at once in any number of threads. Nothing is wiped from memory, neither keys nor texts. */
+#ifndef NATTIZHU_H
+#define NATTIZHU_H
+
+#include <stddef.h>
+#include <stdint.h>
+#ifndef __cplusplus
+#include <stdbool.h>
+#endif
+
+#define NATTIZHU_VERSION "0.1.0"
+
+/* Bytes of a digest, and of a tag. */
+#define NATTIZHU_RIPEMD128_SIZE 16
+#define NATTIZHU_RIPEMD160_SIZE 20
+#define NATTIZHU_RIPEMD256_SIZE 32
+#define NATTIZHU_RIPEMD320_SIZE 40
+
+/* Bytes of the state of a digest under way. */
+#define NATTIZHU_RIPEMD128_STATE_SIZE 88
+#define NATTIZHU_RIPEMD160_STATE_SIZE 92
+#define NATTIZHU_RIPEMD256_STATE_SIZE 104
+#define NATTIZHU_RIPEMD320_STATE_SIZE 112
+
+/* Bytes of the state of a tag under way. */
+#define NATTIZHU_HMAC_RIPEMD128_STATE_SIZE 176
+#define NATTIZHU_HMAC_RIPEMD160_STATE_SIZE 184
+#define NATTIZHU_HMAC_RIPEMD256_STATE_SIZE 208
+#define NATTIZHU_HMAC_RIPEMD320_STATE_SIZE 224
+
+#ifdef __cplusplus
+extern "C" {
+#endif
+
+/* ---- The functions of the library whose pointers may not be null, not even with the number 0. They
+ * are for callers who take them from a shared object; C takes those below without `_nonnull`. */
+
+void nattizhu_ripemd128_nonnull(const uint8_t *message, size_t length,
+                                uint8_t digest[NATTIZHU_RIPEMD128_SIZE]);
+void nattizhu_ripemd160_nonnull(const uint8_t *message, size_t length,
+                                uint8_t digest[NATTIZHU_RIPEMD160_SIZE]);
+void nattizhu_ripemd256_nonnull(const uint8_t *message, size_t length,
+                                uint8_t digest[NATTIZHU_RIPEMD256_SIZE]);
+void nattizhu_ripemd320_nonnull(const uint8_t *message, size_t length,
+                                uint8_t digest[NATTIZHU_RIPEMD320_SIZE]);
+
+bool nattizhu_ripemd128_each_nonnull(const uint8_t *bytes, size_t length, size_t size,
+                                     uint8_t (*digests)[NATTIZHU_RIPEMD128_SIZE], size_t count);
+bool nattizhu_ripemd160_each_nonnull(const uint8_t *bytes, size_t length, size_t size,
+                                     uint8_t (*digests)[NATTIZHU_RIPEMD160_SIZE], size_t count);
+bool nattizhu_ripemd256_each_nonnull(const uint8_t *bytes, size_t length, size_t size,
+                                     uint8_t (*digests)[NATTIZHU_RIPEMD256_SIZE], size_t count);
+bool nattizhu_ripemd320_each_nonnull(const uint8_t *bytes, size_t length, size_t size,
+                                     uint8_t (*digests)[NATTIZHU_RIPEMD320_SIZE], size_t count);
+
+bool nattizhu_ripemd128_update_nonnull(uint8_t state[NATTIZHU_RIPEMD128_STATE_SIZE],
+                                       const uint8_t *bytes, size_t length);
+bool nattizhu_ripemd160_update_nonnull(uint8_t state[NATTIZHU_RIPEMD160_STATE_SIZE],
+                                       const uint8_t *bytes, size_t length);
+bool nattizhu_ripemd256_update_nonnull(uint8_t state[NATTIZHU_RIPEMD256_STATE_SIZE],
+                                       const uint8_t *bytes, size_t length);
+bool nattizhu_ripemd320_update_nonnull(uint8_t state[NATTIZHU_RIPEMD320_STATE_SIZE],
+                                       const uint8_t *bytes, size_t length);
+
+void nattizhu_hmac_ripemd128_nonnull(const uint8_t *key, size_t key_length, const uint8_t *text,
+                                     size_t text_length, uint8_t tag[NATTIZHU_RIPEMD128_SIZE]);
+void nattizhu_hmac_ripemd160_nonnull(const uint8_t *key, size_t key_length, const uint8_t *text,
+                                     size_t text_length, uint8_t tag[NATTIZHU_RIPEMD160_SIZE]);
+void nattizhu_hmac_ripemd256_nonnull(const uint8_t *key, size_t key_length, const uint8_t *text,
+                                     size_t text_length, uint8_t tag[NATTIZHU_RIPEMD256_SIZE]);
+void nattizhu_hmac_ripemd320_nonnull(const uint8_t *key, size_t key_length, const uint8_t *text,
+                                     size_t text_length, uint8_t tag[NATTIZHU_RIPEMD320_SIZE]);
+
+void nattizhu_hmac_ripemd128_init_nonnull(uint8_t state[NATTIZHU_HMAC_RIPEMD128_STATE_SIZE],
+                                          const uint8_t *key, size_t length);
+void nattizhu_hmac_ripemd160_init_nonnull(uint8_t state[NATTIZHU_HMAC_RIPEMD160_STATE_SIZE],
+                                          const uint8_t *key, size_t length);
+void nattizhu_hmac_ripemd256_init_nonnull(uint8_t state[NATTIZHU_HMAC_RIPEMD256_STATE_SIZE],
+                                          const uint8_t *key, size_t length);
+void nattizhu_hmac_ripemd320_init_nonnull(uint8_t state[NATTIZHU_HMAC_RIPEMD320_STATE_SIZE],
+                                          const uint8_t *key, size_t length);
+
+bool nattizhu_hmac_ripemd128_update_nonnull(uint8_t state[NATTIZHU_HMAC_RIPEMD128_STATE_SIZE],
+                                            const uint8_t *bytes, size_t length);
+bool nattizhu_hmac_ripemd160_update_nonnull(uint8_t state[NATTIZHU_HMAC_RIPEMD160_STATE_SIZE],
+                                            const uint8_t *bytes, size_t length);
+bool nattizhu_hmac_ripemd256_update_nonnull(uint8_t state[NATTIZHU_HMAC_RIPEMD256_STATE_SIZE],
+                                            const uint8_t *bytes, size_t length);
+bool nattizhu_hmac_ripemd320_update_nonnull(uint8_t state[NATTIZHU_HMAC_RIPEMD320_STATE_SIZE],
+                                            const uint8_t *bytes, size_t length);
+
+bool nattizhu_hmac_ripemd128_verify_nonnull(const uint8_t state[NATTIZHU_HMAC_RIPEMD128_STATE_SIZE],
+                                            const uint8_t *tag, size_t length);
+bool nattizhu_hmac_ripemd160_verify_nonnull(const uint8_t state[NATTIZHU_HMAC_RIPEMD160_STATE_SIZE],
+                                            const uint8_t *tag, size_t length);
+bool nattizhu_hmac_ripemd256_verify_nonnull(const uint8_t state[NATTIZHU_HMAC_RIPEMD256_STATE_SIZE],
+                                            const uint8_t *tag, size_t length);
+bool nattizhu_hmac_ripemd320_verify_nonnull(const uint8_t state[NATTIZHU_HMAC_RIPEMD320_STATE_SIZE],
+                                            const uint8_t *tag, size_t length);
+
+/* A pointer that is not null, in place of one that leads to no bytes. */
+static inline const uint8_t *nattizhu_some(const uint8_t *bytes) {
+  return bytes ? bytes : (const uint8_t *)"";
+}
+
+/* ---- Digests of whole messages */
+
+/* Writes the digest of the message, which has `length` bytes. */
+static inline void nattizhu_ripemd128(const uint8_t *message, size_t length,
+                                      uint8_t digest[NATTIZHU_RIPEMD128_SIZE]) {
+  nattizhu_ripemd128_nonnull(nattizhu_some(message), length, digest);
+}
+static inline void nattizhu_ripemd160(const uint8_t *message, size_t length,
+                                      uint8_t digest[NATTIZHU_RIPEMD160_SIZE]) {
+  nattizhu_ripemd160_nonnull(nattizhu_some(message), length, digest);
+}
+static inline void nattizhu_ripemd256(const uint8_t *message, size_t length,
+                                      uint8_t digest[NATTIZHU_RIPEMD256_SIZE]) {
+  nattizhu_ripemd256_nonnull(nattizhu_some(message), length, digest);
+}
+static inline void nattizhu_ripemd320(const uint8_t *message, size_t length,
+                                      uint8_t digest[NATTIZHU_RIPEMD320_SIZE]) {
+  nattizhu_ripemd320_nonnull(nattizhu_some(message), length, digest);
+}
+
+/* ---- Digests of many records of one size */
+
+/* Writes the digest of each of `count` records to its place in `digests`, and answers true. The
+ * records lie one after another in `bytes`, each of `size` bytes. If `length` is not `count * size`,
+ * as numbers and without overflow, the call writes nothing and answers false. */
+static inline bool nattizhu_ripemd128_each(const uint8_t *bytes, size_t length, size_t size,
+                                           uint8_t (*digests)[NATTIZHU_RIPEMD128_SIZE],
+                                           size_t count) {
+  uint8_t none[1][NATTIZHU_RIPEMD128_SIZE];
+  return nattizhu_ripemd128_each_nonnull(nattizhu_some(bytes), length, size,
+                                         digests ? digests : none, count);
+}
+static inline bool nattizhu_ripemd160_each(const uint8_t *bytes, size_t length, size_t size,
+                                           uint8_t (*digests)[NATTIZHU_RIPEMD160_SIZE],
+                                           size_t count) {
+  uint8_t none[1][NATTIZHU_RIPEMD160_SIZE];
+  return nattizhu_ripemd160_each_nonnull(nattizhu_some(bytes), length, size,
+                                         digests ? digests : none, count);
+}
+static inline bool nattizhu_ripemd256_each(const uint8_t *bytes, size_t length, size_t size,
+                                           uint8_t (*digests)[NATTIZHU_RIPEMD256_SIZE],
+                                           size_t count) {
+  uint8_t none[1][NATTIZHU_RIPEMD256_SIZE];
+  return nattizhu_ripemd256_each_nonnull(nattizhu_some(bytes), length, size,
+                                         digests ? digests : none, count);
+}
+static inline bool nattizhu_ripemd320_each(const uint8_t *bytes, size_t length, size_t size,
+                                           uint8_t (*digests)[NATTIZHU_RIPEMD320_SIZE],
+                                           size_t count) {
+  uint8_t none[1][NATTIZHU_RIPEMD320_SIZE];
+  return nattizhu_ripemd320_each_nonnull(nattizhu_some(bytes), length, size,
+                                         digests ? digests : none, count);
+}
+
+/* ---- Digests of messages in pieces
+ *
+ * Between the calls the state is all that there is of a digest under way: bytes without pointers, the
+ * same on every machine, which may be copied, compared, stored, and taken up by another process. They
+ * are those that the library in Rattle saves a hasher as. Nothing in them shows who wrote them: bytes
+ * that were changed are refused only if no message's state could have their form. */
+
+/* Writes the state of the empty message. */
+void nattizhu_ripemd128_init(uint8_t state[NATTIZHU_RIPEMD128_STATE_SIZE]);
+void nattizhu_ripemd160_init(uint8_t state[NATTIZHU_RIPEMD160_STATE_SIZE]);
+void nattizhu_ripemd256_init(uint8_t state[NATTIZHU_RIPEMD256_STATE_SIZE]);
+void nattizhu_ripemd320_init(uint8_t state[NATTIZHU_RIPEMD320_STATE_SIZE]);
+
+/* Takes bytes in, after those of the message so far: writes the state that follows, and answers true.
+ * If no digest under way has these bytes as its state, it writes nothing and answers false. */
+static inline bool nattizhu_ripemd128_update(uint8_t state[NATTIZHU_RIPEMD128_STATE_SIZE],
+                                             const uint8_t *bytes, size_t length) {
+  return nattizhu_ripemd128_update_nonnull(state, nattizhu_some(bytes), length);
+}
+static inline bool nattizhu_ripemd160_update(uint8_t state[NATTIZHU_RIPEMD160_STATE_SIZE],
+                                             const uint8_t *bytes, size_t length) {
+  return nattizhu_ripemd160_update_nonnull(state, nattizhu_some(bytes), length);
+}
+static inline bool nattizhu_ripemd256_update(uint8_t state[NATTIZHU_RIPEMD256_STATE_SIZE],
+                                             const uint8_t *bytes, size_t length) {
+  return nattizhu_ripemd256_update_nonnull(state, nattizhu_some(bytes), length);
+}
+static inline bool nattizhu_ripemd320_update(uint8_t state[NATTIZHU_RIPEMD320_STATE_SIZE],
+                                             const uint8_t *bytes, size_t length) {
+  return nattizhu_ripemd320_update_nonnull(state, nattizhu_some(bytes), length);
+}
+
+/* Writes the digest of the message so far, and answers true. The state stays as it is, and may take
+ * more bytes in. If no digest under way has these bytes as its state, the call writes nothing and
+ * answers false. */
+bool nattizhu_ripemd128_final(const uint8_t state[NATTIZHU_RIPEMD128_STATE_SIZE],
+                              uint8_t digest[NATTIZHU_RIPEMD128_SIZE]);
+bool nattizhu_ripemd160_final(const uint8_t state[NATTIZHU_RIPEMD160_STATE_SIZE],
+                              uint8_t digest[NATTIZHU_RIPEMD160_SIZE]);
+bool nattizhu_ripemd256_final(const uint8_t state[NATTIZHU_RIPEMD256_STATE_SIZE],
+                              uint8_t digest[NATTIZHU_RIPEMD256_SIZE]);
+bool nattizhu_ripemd320_final(const uint8_t state[NATTIZHU_RIPEMD320_STATE_SIZE],
+                              uint8_t digest[NATTIZHU_RIPEMD320_SIZE]);
+
+/* ---- Tags (HMAC)
+ *
+ * A key has any length. One longer than 64 bytes counts as its digest, and a shorter one as if zeros
+ * followed it to 64 bytes. The state of a tag under way is as that of a digest, twice, and as secret as
+ * the key: whoever has it can make tags. To make many tags under one key, copy its state after init. */
+
+/* Writes the tag of the text under the key. */
+static inline void nattizhu_hmac_ripemd128(const uint8_t *key, size_t key_length,
+                                           const uint8_t *text, size_t text_length,
+                                           uint8_t tag[NATTIZHU_RIPEMD128_SIZE]) {
+  nattizhu_hmac_ripemd128_nonnull(nattizhu_some(key), key_length,
+                                  nattizhu_some(text), text_length, tag);
+}
+static inline void nattizhu_hmac_ripemd160(const uint8_t *key, size_t key_length,
+                                           const uint8_t *text, size_t text_length,
+                                           uint8_t tag[NATTIZHU_RIPEMD160_SIZE]) {
+  nattizhu_hmac_ripemd160_nonnull(nattizhu_some(key), key_length,
+                                  nattizhu_some(text), text_length, tag);
+}
+static inline void nattizhu_hmac_ripemd256(const uint8_t *key, size_t key_length,
+                                           const uint8_t *text, size_t text_length,
+                                           uint8_t tag[NATTIZHU_RIPEMD256_SIZE]) {
+  nattizhu_hmac_ripemd256_nonnull(nattizhu_some(key), key_length,
+                                  nattizhu_some(text), text_length, tag);
+}
+static inline void nattizhu_hmac_ripemd320(const uint8_t *key, size_t key_length,
+                                           const uint8_t *text, size_t text_length,
+                                           uint8_t tag[NATTIZHU_RIPEMD320_SIZE]) {
+  nattizhu_hmac_ripemd320_nonnull(nattizhu_some(key), key_length,
+                                  nattizhu_some(text), text_length, tag);
+}
+
+/* Writes the state under this key, of the empty text. */
+static inline void nattizhu_hmac_ripemd128_init(uint8_t state[NATTIZHU_HMAC_RIPEMD128_STATE_SIZE],
+                                                const uint8_t *key, size_t length) {
+  nattizhu_hmac_ripemd128_init_nonnull(state, nattizhu_some(key), length);
+}
+static inline void nattizhu_hmac_ripemd160_init(uint8_t state[NATTIZHU_HMAC_RIPEMD160_STATE_SIZE],
+                                                const uint8_t *key, size_t length) {
+  nattizhu_hmac_ripemd160_init_nonnull(state, nattizhu_some(key), length);
+}
+static inline void nattizhu_hmac_ripemd256_init(uint8_t state[NATTIZHU_HMAC_RIPEMD256_STATE_SIZE],
+                                                const uint8_t *key, size_t length) {
+  nattizhu_hmac_ripemd256_init_nonnull(state, nattizhu_some(key), length);
+}
+static inline void nattizhu_hmac_ripemd320_init(uint8_t state[NATTIZHU_HMAC_RIPEMD320_STATE_SIZE],
+                                                const uint8_t *key, size_t length) {
+  nattizhu_hmac_ripemd320_init_nonnull(state, nattizhu_some(key), length);
+}
+
+/* Takes bytes in, after those of the text so far: writes the state that follows, and answers true. If
+ * no tag under way has these bytes as its state, it writes nothing and answers false. */
+static inline bool nattizhu_hmac_ripemd128_update(uint8_t state[NATTIZHU_HMAC_RIPEMD128_STATE_SIZE],
+                                                  const uint8_t *bytes, size_t length) {
+  return nattizhu_hmac_ripemd128_update_nonnull(state, nattizhu_some(bytes), length);
+}
+static inline bool nattizhu_hmac_ripemd160_update(uint8_t state[NATTIZHU_HMAC_RIPEMD160_STATE_SIZE],
+                                                  const uint8_t *bytes, size_t length) {
+  return nattizhu_hmac_ripemd160_update_nonnull(state, nattizhu_some(bytes), length);
+}
+static inline bool nattizhu_hmac_ripemd256_update(uint8_t state[NATTIZHU_HMAC_RIPEMD256_STATE_SIZE],
+                                                  const uint8_t *bytes, size_t length) {
+  return nattizhu_hmac_ripemd256_update_nonnull(state, nattizhu_some(bytes), length);
+}
+static inline bool nattizhu_hmac_ripemd320_update(uint8_t state[NATTIZHU_HMAC_RIPEMD320_STATE_SIZE],
+                                                  const uint8_t *bytes, size_t length) {
+  return nattizhu_hmac_ripemd320_update_nonnull(state, nattizhu_some(bytes), length);
+}
+
+/* Writes the tag of the text so far, and answers true. The state stays as it is. If no tag under way
+ * has these bytes as its state, the call writes nothing and answers false. */
+bool nattizhu_hmac_ripemd128_final(const uint8_t state[NATTIZHU_HMAC_RIPEMD128_STATE_SIZE],
+                                   uint8_t tag[NATTIZHU_RIPEMD128_SIZE]);
+bool nattizhu_hmac_ripemd160_final(const uint8_t state[NATTIZHU_HMAC_RIPEMD160_STATE_SIZE],
+                                   uint8_t tag[NATTIZHU_RIPEMD160_SIZE]);
+bool nattizhu_hmac_ripemd256_final(const uint8_t state[NATTIZHU_HMAC_RIPEMD256_STATE_SIZE],
+                                   uint8_t tag[NATTIZHU_RIPEMD256_SIZE]);
+bool nattizhu_hmac_ripemd320_final(const uint8_t state[NATTIZHU_HMAC_RIPEMD320_STATE_SIZE],
+                                   uint8_t tag[NATTIZHU_RIPEMD320_SIZE]);
+
+/* Answers whether these `length` bytes are the tag of the text so far, all of them. It compares all
+ * bytes of a tag of the right length, whatever they are, and answers false at once to another length;
+ * also if no tag under way has these bytes as its state. It writes nothing. That the time is always
+ * the same is not proved. */
+static inline bool nattizhu_hmac_ripemd128_verify(
+    const uint8_t state[NATTIZHU_HMAC_RIPEMD128_STATE_SIZE], const uint8_t *tag, size_t length) {
+  return nattizhu_hmac_ripemd128_verify_nonnull(state, nattizhu_some(tag), length);
+}
+static inline bool nattizhu_hmac_ripemd160_verify(
+    const uint8_t state[NATTIZHU_HMAC_RIPEMD160_STATE_SIZE], const uint8_t *tag, size_t length) {
+  return nattizhu_hmac_ripemd160_verify_nonnull(state, nattizhu_some(tag), length);
+}
+static inline bool nattizhu_hmac_ripemd256_verify(
+    const uint8_t state[NATTIZHU_HMAC_RIPEMD256_STATE_SIZE], const uint8_t *tag, size_t length) {
+  return nattizhu_hmac_ripemd256_verify_nonnull(state, nattizhu_some(tag), length);
+}
+static inline bool nattizhu_hmac_ripemd320_verify(
+    const uint8_t state[NATTIZHU_HMAC_RIPEMD320_STATE_SIZE], const uint8_t *tag, size_t length) {
+  return nattizhu_hmac_ripemd320_verify_nonnull(state, nattizhu_some(tag), length);
+}
+
+#ifdef __cplusplus
+}
+#endif
+
+#endif

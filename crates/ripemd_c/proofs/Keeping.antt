@@ -1,0 +1,62 @@
+-- What is kept of a hash under way tells it: what is loaded is what was kept, and so is what is kept of
+-- a message.
+use Rattle.std.proofs.Common.{◌≡◌, ℕ, List, [], ◌++◌, refl, sym, ap, ◌∙◌}
+use Rattle.ripemd.specs.Standard.Words.{word_bytes}
+use Rattle.ripemd.specs.Standard.Compression.{Parameters, compress}
+use Rattle.ripemd.specs.Standard.Hashing.{ripemd}
+use Rattle.ripemd.specs.States.{Meaning, IsUnderWay, new_state, fed, finish, core_and_tail, hasher_bytes}
+use Rattle.ripemd.specs.Listed.{TellsWords}
+use Rattle.ripemd.specs.Saving.{SavesAs, IsSavedAfter, saved_first}
+use Rattle.ripemd.specs.Laws.{fed_twice, finish_fed}
+use Rattle.ripemd_block.specs.Laws.Saving.{one_saved_hasher}
+use Rattle.ripemd_c.specs.Kept.{IsKept, Keeps}
+
+module _ {are_words : List ℕ → Type 0} {output : List ℕ → List ℕ} {n : ℕ} (tells : TellsWords are_words output n)
+    {loaded : Meaning} {old : List ℕ} (valid : IsUnderWay are_words loaded) (same : core_and_tail output loaded ≡ old) where
+  -- what was loaded is what was kept
+  pub one_kept : {h : Meaning} → IsKept are_words output h old → loaded ≡ h
+  one_kept {h} kept = one_saved_hasher tells loaded h valid kept.valid (same ∙ sym kept.saved)
+
+  -- and is kept again after a piece
+  pub kept_next : (step : List ℕ → List ℕ → List ℕ) (piece : List ℕ) {after : Meaning} {next : List ℕ}
+      → after ≡ fed step loaded piece → IsUnderWay are_words after → next ≡ core_and_tail output after
+      → (h : Meaning) → IsKept are_words output h old → IsKept are_words output (fed step h piece) next
+  kept_next step piece {after = after} update valid_after saved h kept =
+      let after_h : after ≡ fed step h piece = update ∙ ap (λ (k : Meaning). fed step k piece) (one_kept kept) in
+      record { valid = rw (← after_h) valid_after; saved = rw (← after_h) (sym saved) }
+
+  -- its digest is that of what was kept
+  pub kept_digest : (step : List ℕ → List ℕ → List ℕ) {digest : List ℕ} → digest ≡ finish step output loaded
+      → (h : Meaning) → IsKept are_words output h old → digest ≡ finish step output h
+  kept_digest step done h kept = done ∙ ap (finish step output) (one_kept kept)
+
+-- ---- messages
+
+-- the bytes kept of a message are those of the hash that was fed it
+kept_after : {v : Parameters} {message bytes : List ℕ} → IsSavedAfter v message bytes
+    → Keeps v (fed (compress v) (new_state v) message) bytes
+unfolding SavesAs
+kept_after before = record { valid = before.is.0; saved = before.is.1 }
+
+-- those of a new hash are kept of the empty message
+pub after_nothing : {v : Parameters} {bytes : List ℕ} → Keeps v (new_state v) bytes → IsSavedAfter v [] bytes
+after_nothing {v} {bytes} kept =
+    saved_first {v = v} {h = new_state v} {bytes = bytes} (sym kept.saved) refl kept.valid
+
+-- what takes every hash on by a piece takes every message on
+pub message_next : {v : Parameters} (piece : List ℕ) {old next : List ℕ} {Done : Type 0}
+    → ((h : Meaning) → Keeps v h old → Done × Keeps v (fed (compress v) h piece) next)
+    → (message : List ℕ) → IsSavedAfter v message old → Done × IsSavedAfter v (message ++ piece) next
+unfolding SavesAs
+message_next {v} piece {next = next} step message before =
+    let both = step (fed (compress v) (new_state v) message) (kept_after before) in
+    let same = fed_twice (compress v) (new_state v) message piece in
+    (both.0, record { is = (rw (← same) both.1.valid, ap hasher_bytes (sym same) ∙ both.1.saved) })
+
+-- what gives the digest of every hash gives that of every message
+pub message_digest : {v : Parameters} {state digest : List ℕ} {Done : Type 0}
+    → ((h : Meaning) → Keeps v h state → Done × (digest ≡ finish (compress v) word_bytes h))
+    → (message : List ℕ) → IsSavedAfter v message state → Done × (digest ≡ ripemd v message)
+message_digest {v} finishes message before =
+    let both = finishes (fed (compress v) (new_state v) message) (kept_after before) in
+    (both.0, both.1 ∙ finish_fed v.start (compress v) word_bytes message)

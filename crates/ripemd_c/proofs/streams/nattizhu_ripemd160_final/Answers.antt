@@ -1,0 +1,5 @@
+use Rattle.ripemd_c.proofs.Keeping.{message_digest}
+use Rattle.ripemd_c.proofs.streams.nattizhu_ripemd160_final.Goals as goal
+
+pub returns-clause-message : goal.returns-clause-message
+returns-clause-message c = message_digest c.final_digest.ensures.digest

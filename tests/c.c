@@ -1,0 +1,363 @@
+// Tries the functions of nattizhu.h as a caller in C has them, and as one in C++. All memory that is
+// handed over lies against an unmapped page, first behind it and then in front of it.
+//   c DIRECTORY        of digests-*.txt and tags.txt, whose lines other implementations gave
+#include <stdio.h>
+#include <stdlib.h>
+#include <string.h>
+#include <sys/mman.h>
+#include <unistd.h>
+
+#include "nattizhu.h"
+
+enum { VARIANTS = 4, MOST = 300, LONGEST = 1000, SIZES = 5, MESSAGE = 200 };
+
+typedef struct {
+  int bits;
+  size_t size, state, tag_state;
+  void (*digest)(const uint8_t *, size_t, uint8_t *);
+  bool (*each)(const uint8_t *, size_t, size_t, uint8_t *, size_t);
+  void (*init)(uint8_t *);
+  bool (*update)(uint8_t *, const uint8_t *, size_t);
+  bool (*final)(const uint8_t *, uint8_t *);
+  void (*hmac)(const uint8_t *, size_t, const uint8_t *, size_t, uint8_t *);
+  void (*tag_init)(uint8_t *, const uint8_t *, size_t);
+  bool (*tag_update)(uint8_t *, const uint8_t *, size_t);
+  bool (*tag_final)(const uint8_t *, uint8_t *);
+  bool (*tag_verify)(const uint8_t *, const uint8_t *, size_t);
+} variant;
+
+#define EACH(bits)                                                                                 \
+  static bool each_##bits(const uint8_t *bytes, size_t length, size_t size, uint8_t *digests,      \
+                          size_t count) {                                                          \
+    return nattizhu_ripemd##bits##_each(                                                           \
+        bytes, length, size, (uint8_t(*)[NATTIZHU_RIPEMD##bits##_SIZE])(void *)digests, count);    \
+  }
+EACH(128)
+EACH(160)
+EACH(256)
+EACH(320)
+
+#define FUNCTIONS(bits)                                                                            \
+  {                                                                                                \
+    bits, NATTIZHU_RIPEMD##bits##_SIZE, NATTIZHU_RIPEMD##bits##_STATE_SIZE,                        \
+        NATTIZHU_HMAC_RIPEMD##bits##_STATE_SIZE, nattizhu_ripemd##bits, each_##bits,               \
+        nattizhu_ripemd##bits##_init, nattizhu_ripemd##bits##_update,                              \
+        nattizhu_ripemd##bits##_final, nattizhu_hmac_ripemd##bits,                                 \
+        nattizhu_hmac_ripemd##bits##_init, nattizhu_hmac_ripemd##bits##_update,                    \
+        nattizhu_hmac_ripemd##bits##_final, nattizhu_hmac_ripemd##bits##_verify                    \
+  }
+static const variant ALL[VARIANTS] = {FUNCTIONS(128), FUNCTIONS(160), FUNCTIONS(256),
+                                      FUNCTIONS(320)};
+
+static int tried, failed;
+
+static void check(bool right, const char *what, int bits, size_t at) {
+  tried++;
+  if (!right && failed++ < 10)
+    printf("c: FAILED: %s, RIPEMD-%d, %zu\n", what, bits, at);
+}
+
+// ---- memory between unmapped pages
+
+enum { ROOMS = 4 };
+static uint8_t *rooms[ROOMS];
+static size_t page, room_size;
+static bool at_end;
+
+static void make_rooms(void) {
+  page = (size_t)sysconf(_SC_PAGESIZE);
+  room_size = (MOST * LONGEST / page + 1) * page;
+  for (int i = 0; i < ROOMS; i++) {
+    uint8_t *all = (uint8_t *)mmap(NULL, room_size + 2 * page, PROT_READ | PROT_WRITE,
+                                   MAP_PRIVATE | MAP_ANONYMOUS, -1, 0);
+    if (all == MAP_FAILED || mprotect(all, page, PROT_NONE) ||
+        mprotect(all + page + room_size, page, PROT_NONE)) {
+      perror("c");
+      exit(2);
+    }
+    rooms[i] = all + page;
+  }
+}
+
+// So many bytes of a room, against the page behind it or in front of it.
+static uint8_t *in_room(int room, size_t size) {
+  return at_end ? rooms[room] + room_size - size : rooms[room];
+}
+
+// The same, with a copy of these bytes.
+static uint8_t *copied(int room, const uint8_t *from, size_t size) {
+  uint8_t *to = in_room(room, size);
+  memcpy(to, from, size);
+  return to;
+}
+
+static bool all_are(const uint8_t *bytes, size_t size, uint8_t value) {
+  for (size_t i = 0; i < size; i++)
+    if (bytes[i] != value)
+      return false;
+  return true;
+}
+
+// ---- what is tried of each variant
+
+static uint8_t ramp[MOST * LONGEST]; // 0, 1, 2 and so on
+
+static size_t from_hex(const char *digits, uint8_t *bytes) {
+  size_t size = strlen(digits) / 2;
+  for (size_t i = 0; i < size; i++) {
+    unsigned value = 0;
+    sscanf(digits + 2 * i, "%2x", &value);
+    bytes[i] = (uint8_t)value;
+  }
+  return size;
+}
+
+static void try_whole(const variant *v, size_t length, const char *wanted) {
+  uint8_t bytes[40];
+  uint8_t *digest = in_room(1, v->size);
+  v->digest(copied(0, ramp, length), length, digest);
+  check(from_hex(wanted, bytes) == v->size && !memcmp(digest, bytes, v->size), "a digest", v->bits,
+        length);
+}
+
+// A tag whole, in two pieces, and verified, right and wrong.
+static void try_tag(const variant *v, const uint8_t *key, size_t key_length, const uint8_t *text,
+                    size_t length, const char *wanted) {
+  uint8_t bytes[41];
+  bool right = from_hex(wanted, bytes) == v->size;
+  uint8_t *tag = in_room(1, v->size), *state = in_room(2, v->tag_state);
+  v->hmac(copied(0, key, key_length), key_length, copied(3, text, length), length, tag);
+  check(right && !memcmp(tag, bytes, v->size), "a tag", v->bits, key_length);
+  v->tag_init(state, copied(0, key, key_length), key_length);
+  right = v->tag_update(state, copied(0, text, length / 3), length / 3);
+  right &= v->tag_update(state, copied(0, text + length / 3, length - length / 3),
+                         length - length / 3);
+  memset(tag, 7, v->size);
+  right &= v->tag_final(state, tag);
+  check(right && !memcmp(tag, bytes, v->size), "a tag in pieces", v->bits, key_length);
+  check(v->tag_verify(state, tag, v->size), "a right tag", v->bits, key_length);
+  for (size_t i = 0; i < v->size; i++) {
+    tag[i] ^= 1;
+    check(!v->tag_verify(state, tag, v->size), "a wrong tag", v->bits, i);
+    tag[i] ^= 1;
+  }
+  check(!v->tag_verify(state, copied(0, bytes, v->size - 1), v->size - 1), "a short tag", v->bits,
+        key_length);
+  bytes[v->size] = 0;
+  check(!v->tag_verify(state, copied(0, bytes, v->size + 1), v->size + 1), "a long tag", v->bits,
+        key_length);
+  check(!v->tag_verify(state, NULL, 0), "no tag", v->bits, key_length);
+}
+
+// The message in two pieces at every cut, and then the state copied and taken on in another place.
+static void try_pieces(const variant *v) {
+  uint8_t whole[40], *digest = in_room(1, v->size), *state = in_room(2, v->state);
+  for (size_t cut = 0; cut <= MESSAGE; cut++) {
+    uint8_t kept[112], copy[112];
+    memset(state, (int)cut, v->state);
+    v->init(state);
+    bool right = v->update(state, copied(0, ramp, cut), cut);
+    memcpy(kept, state, v->state);
+    right &= v->update(state, NULL, 0) && !memcmp(state, kept, v->state);
+    v->digest(ramp, cut, whole);
+    memset(digest, 7, v->size);
+    right &= v->final(state, digest) && !memcmp(digest, whole, v->size);
+    right &= !memcmp(state, kept, v->state);
+    right &= v->update(state, copied(0, ramp + cut, MESSAGE - cut), MESSAGE - cut);
+    v->digest(ramp, MESSAGE, whole);
+    right &= v->final(state, digest) && !memcmp(digest, whole, v->size);
+    memcpy(copy, kept, v->state);
+    right &= v->update(copy, ramp + cut, MESSAGE - cut) && !memcmp(copy, state, v->state);
+    check(right, "two pieces", v->bits, cut);
+  }
+}
+
+// Bytes that are no state: a tail of 64 bytes or more, or a byte behind the tail that is not zero.
+static void try_forged(const variant *v) {
+  const size_t length_at = v->size + 8;
+  for (int i = 0; i < 4; i++) {
+    uint8_t forged[112], twice[224], *digest = in_room(1, v->size);
+    uint8_t *state = in_room(2, v->state), *tag_state;
+    v->init(forged);
+    v->update(forged, ramp, 70);
+    if (i < 2)
+      forged[length_at] = i ? 255 : 64;
+    else
+      forged[i == 2 ? length_at + 7 : v->state - 1] = 1;
+    memcpy(state, forged, v->state);
+    memset(digest, 7, v->size);
+    check(!v->update(state, copied(0, ramp, 10), 10) && !memcmp(state, forged, v->state),
+          "an update of a forged state", v->bits, i);
+    check(!v->update(state, NULL, 0) && !memcmp(state, forged, v->state),
+          "an empty update of a forged state", v->bits, i);
+    check(!v->final(state, digest) && all_are(digest, v->size, 7), "the end of a forged state",
+          v->bits, i);
+    for (int second = 0; second < 2; second++) {
+      uint8_t tag[40];
+      v->tag_init(twice, ramp, 20);
+      v->tag_final(twice, tag);
+      memcpy(twice + (second ? v->state : 0), forged, v->state);
+      tag_state = copied(2, twice, v->tag_state);
+      check(!v->tag_update(tag_state, copied(0, ramp, 10), 10) &&
+                !memcmp(tag_state, twice, v->tag_state),
+            "an update of a forged state of a tag", v->bits, i);
+      check(!v->tag_final(tag_state, digest) && all_are(digest, v->size, 7),
+            "the end of a forged state of a tag", v->bits, i);
+      check(!v->tag_verify(tag_state, copied(0, tag, v->size), v->size),
+            "a tag verified by a forged state", v->bits, i);
+      state = in_room(2, v->state);
+    }
+  }
+}
+
+// Records of some sizes, as many as 1 to 300, against the digest of each alone.
+static void try_records(const variant *v) {
+  static const size_t sizes[SIZES] = {0, 1, 64, 65, LONGEST};
+  static uint8_t alone[MOST * 40];
+  for (int s = 0; s < SIZES; s++) {
+    size_t size = sizes[s];
+    for (size_t i = 0; i < MOST; i++)
+      v->digest(ramp + i * size, size, alone + i * v->size);
+    for (size_t count = 1; count <= MOST; count++) {
+      uint8_t *digests = in_room(1, count * v->size);
+      memset(digests, 7, count * v->size);
+      bool done = v->each(copied(0, ramp, count * size), count * size, size, digests, count);
+      check(done && !memcmp(digests, alone, count * v->size), "records", v->bits, count);
+    }
+  }
+  check(v->each(NULL, 0, 7, NULL, 0), "no records", v->bits, 0);
+}
+
+static void try_wrong_lengths(const variant *v) {
+  static const struct {
+    size_t length, size, count;
+  } wrong[] = {{6, 7, 1}, {8, 7, 1},  {0, 7, 1}, {7, 0, 1}, {27, 7, 4}, {29, 7, 4},
+               {7, 7, 0}, {0, SIZE_MAX / 2 + 1, 2}, {2, SIZE_MAX / 3 + 1, 3}};
+  for (size_t i = 0; i < sizeof wrong / sizeof wrong[0]; i++) {
+    size_t size = wrong[i].count * v->size;
+    uint8_t *digests = in_room(1, size);
+    memset(digests, 7, size);
+    bool done = v->each(copied(0, ramp, wrong[i].length), wrong[i].length, wrong[i].size, digests,
+                        wrong[i].count);
+    check(!done && all_are(digests, size, 7), "a wrong length", v->bits, i);
+  }
+}
+
+// ---- what others gave
+
+static FILE *opened(const char *directory, const char *name) {
+  char path[4096];
+  snprintf(path, sizeof path, "%s/%s", directory, name);
+  FILE *file = fopen(path, "r");
+  if (!file) {
+    perror(path);
+    exit(2);
+  }
+  return file;
+}
+
+static void try_files(const char *directory) {
+  char line[400], digits[100];
+  uint8_t key[256];
+  size_t length, lines = 0;
+  int bits;
+  for (int i = 0; i < 256; i++)
+    key[i] = (uint8_t)(i + 1);
+  for (const variant *v = ALL; v < ALL + VARIANTS; v++) {
+    char name[40];
+    snprintf(name, sizeof name, "digests-%d.txt", v->bits);
+    FILE *file = opened(directory, name);
+    while (fgets(line, sizeof line, file))
+      if (*line != '#' && sscanf(line, "%zu %99s", &length, digits) == 2 && length <= MESSAGE) {
+        try_whole(v, length, digits);
+        lines++;
+      }
+    fclose(file);
+  }
+  FILE *file = opened(directory, "tags.txt");
+  while (fgets(line, sizeof line, file))
+    if (*line != '#' && sscanf(line, "%d %zu %99s", &bits, &length, digits) == 3)
+      for (const variant *v = ALL; v < ALL + VARIANTS; v++)
+        if (v->bits == bits && length < sizeof key) {
+          try_tag(v, key, length, ramp, 150, digits);
+          lines++;
+        }
+  fclose(file);
+  check(lines > VARIANTS * (MESSAGE + 1), "lines of the files", 0, lines);
+}
+
+// RFC 2286, sections 2 and 3. The keys are bytes of one value, `Jefe`, and 1, 2 and so on.
+static void try_published(void) {
+  static const struct {
+    int value;
+    size_t length; // 0: that of a digest
+    int data;      // -1: the text
+    const char *text, *by_128, *by_160;
+  } cases[] = {
+      {0x0b, 0, -1, "Hi There", "fbf61f9492aa4bbf81c172e84e0734db",
+       "24cb4bd67d20fc1a5d2ed7732dcc39377f0a5668"},
+      {-1, 4, -1, "what do ya want for nothing?", "875f828862b6b334b427c55f9f7ff09b",
+       "dda6c0213a485a9e24f4742064a7f033b43c4069"},
+      {0xaa, 0, 0xdd, "", "09f0b2846d2f543da363cbec8d62a38d",
+       "b0b105360de759960ab4f35298e116e295d8e7c1"},
+      {-2, 25, 0xcd, "", "bdbbd7cf03e44b5aa60af815be4d2294",
+       "d5ca862f4d21d5e610e18b4cf1beb97a4365ecf4"},
+      {0x0c, 0, -1, "Test With Truncation", "e79808f24b25fd031c155f0d551d9a3a",
+       "7619693978f91d90539ae786500ff3d8e0518e39"},
+      {0xaa, 80, -1, "Test Using Larger Than Block-Size Key - Hash Key First",
+       "dc732928de98104a1f59d373c150acbb", "6466ca07ac5eac29e1bd523e5ada7605b791fd8b"},
+      {0xaa, 80, -1, "Test Using Larger Than Block-Size Key and Larger Than One Block-Size Data",
+       "5c6bec96793e16d40690c237635f30c5", "69ea60798d71616cce5fd0871e23754cd75d5a0a"},
+  };
+  for (size_t i = 0; i < sizeof cases / sizeof cases[0]; i++)
+    for (int v = 0; v < 2; v++) {
+      uint8_t key[80], text[100];
+      size_t length = cases[i].length ? cases[i].length : ALL[v].size;
+      size_t text_length = cases[i].data < 0 ? strlen(cases[i].text) : 50;
+      for (size_t k = 0; k < length; k++)
+        key[k] = (uint8_t)(cases[i].value == -1   ? "Jefe"[k]
+                           : cases[i].value == -2 ? (int)k + 1
+                                                  : cases[i].value);
+      if (cases[i].data < 0)
+        memcpy(text, cases[i].text, text_length);
+      else
+        memset(text, cases[i].data, text_length);
+      try_tag(&ALL[v], key, length, text, text_length, v ? cases[i].by_160 : cases[i].by_128);
+    }
+}
+
+// No key and no text as null pointers: as empty ones that are not null.
+static void try_null(const variant *v) {
+  uint8_t some[40], none[40], state[224];
+  v->hmac(ramp, 0, ramp, 0, some);
+  v->hmac(NULL, 0, NULL, 0, none);
+  check(!memcmp(some, none, v->size), "a null key and text", v->bits, 0);
+  v->tag_init(state, NULL, 0);
+  check(v->tag_update(state, NULL, 0) && v->tag_verify(state, some, v->size), "a null key",
+        v->bits, 0);
+  v->digest(ramp, 0, some);
+  v->digest(NULL, 0, none);
+  check(!memcmp(some, none, v->size), "a null message", v->bits, 0);
+}
+
+int main(int argc, char **argv) {
+  if (argc != 2)
+    return 2;
+  for (size_t i = 0; i < sizeof ramp; i++)
+    ramp[i] = (uint8_t)i;
+  make_rooms();
+  for (int end = 0; end < 2; end++) {
+    at_end = end;
+    try_files(argv[1]);
+    try_published();
+    for (const variant *v = ALL; v < ALL + VARIANTS; v++) {
+      try_pieces(v);
+      try_forged(v);
+      try_records(v);
+      try_wrong_lengths(v);
+      try_null(v);
+    }
+  }
+  printf("c: %d of %d cases as expected\n", tried - failed, tried);
+  return failed != 0;
+}
