@@ -6,10 +6,14 @@
 #   make quick         the proofs and tests, without the wrong bodies and over what earlier runs kept
 #   make bench         the program's speed on 256 MiB in memory, beside the library's and that of other
 #                      programs, as a table; then, with a C compiler, the speed of the functions that C
-#                      calls beside those of other libraries; and that of lists of messages, at once
-#                      and one by one
-#   make install       copies the program, built, to PREFIX/bin (PREFIX=/usr/local; DESTDIR goes in
-#                      front)
+#                      calls beside those of other libraries; that of lists of messages, at once
+#                      and one by one; and the time of verifying right and wrong tags
+#   make library       builds the library for C, proved: libnattizhu.a and, with a C compiler, the
+#                      shared object libnattizhu.so, in crates/ripemd_c/out
+#   make install       builds all of it and copies to PREFIX (/usr/local; DESTDIR goes in front) the
+#                      program and its manual page, the two libraries, nattizhu.h, nattizhu.pc for
+#                      pkg-config, and nattizhu.py for the python3 on the path
+#   make uninstall     removes these again
 #   make clean         removes what was built
 #
 #   CPU=x86-64-v3      builds for processors with AVX2; without it, for the toolchain's default. Give
@@ -20,7 +24,13 @@ CPU =
 
 PROGRAM = crates/ripemd_sum/out/ripemd_sum
 
-.PHONY: all check quick bench install clean
+BUILT = crates/ripemd_c/out
+AT = $(DESTDIR)$(PREFIX)
+# Where the python3 on the path has its modules below a prefix; nothing, where there is none.
+SITE = $(shell python3 -c 'import sys; print("lib/python%d.%d/site-packages" % sys.version_info[:2])' \
+  2>/dev/null)
+
+.PHONY: all library check quick bench install install-program install-library uninstall clean
 
 # `rt run` proves, builds and then runs the program, here on no input. The libraries are proved first,
 # where they have changed.
@@ -41,9 +51,51 @@ bench: all
 	@tests/bench
 	@tests/linked
 	@echo && crates/ripemd_bench/out/ripemd_bench lists
+	@echo && crates/ripemd_bench/out/ripemd_bench tags
 
-install: all
-	install -D -m 755 $(PROGRAM) $(DESTDIR)$(PREFIX)/bin/ripemd_sum
+# `rt lib` proves the library and builds it.
+library:
+	@echo 'make: proving and building the library' >&2
+	@mkdir -p $(BUILT) && cd crates/ripemd_c && rt lib $(if $(CPU),--cpu $(CPU)) >out/log 2>&1 || { cat out/log; exit 1; }
+	@tests/shared $(BUILT)
+
+install: all library
+	@$(MAKE) --no-print-directory install-program install-library
+
+# These two copy what is built.
+install-program:
+	install -D -m 755 $(PROGRAM) "$(AT)/bin/ripemd_sum"
+	install -D -m 644 crates/ripemd_sum/ripemd_sum.1 "$(AT)/share/man/man1/ripemd_sum.1"
+
+install-library:
+	install -D -m 644 $(BUILT)/libnattizhu.a "$(AT)/lib/libnattizhu.a"
+	install -D -m 644 crates/ripemd_c/nattizhu.h "$(AT)/include/nattizhu.h"
+	install -d "$(AT)/lib/pkgconfig"
+	sed -e 's|@PREFIX@|$(PREFIX)|' -e "s|@VERSION@|$$(sed -n \
+	  's/^#define NATTIZHU_VERSION "\(.*\)"/\1/p' crates/ripemd_c/nattizhu.h)|" \
+	  crates/ripemd_c/nattizhu.pc.in >"$(AT)/lib/pkgconfig/nattizhu.pc"
+	chmod 644 "$(AT)/lib/pkgconfig/nattizhu.pc"
+	@if [ ! -e $(BUILT)/libnattizhu.so.0 ]; then \
+	  echo 'make: there was no C compiler (cc): libnattizhu.so and nattizhu.py are left out'; \
+	else \
+	  set -ex; \
+	  install -m 755 $(BUILT)/libnattizhu.so.0 "$(AT)/lib/libnattizhu.so.0"; \
+	  ln -sf libnattizhu.so.0 "$(AT)/lib/libnattizhu.so"; \
+	  if [ -n "$(SITE)" ]; then \
+	    install -D -m 644 python/nattizhu.py "$(AT)/$(SITE)/nattizhu.py"; \
+	    { set +x; } 2>/dev/null; \
+	    echo 'make: where python3 does not find nattizhu by itself: PYTHONPATH=$(PREFIX)/$(SITE)'; \
+	  else \
+	    { set +x; } 2>/dev/null; \
+	    echo 'make: there is no python3: nattizhu.py is left out'; \
+	  fi; \
+	fi
+
+uninstall:
+	rm -f "$(AT)/bin/ripemd_sum" "$(AT)/share/man/man1/ripemd_sum.1" "$(AT)/lib/libnattizhu.a" \
+	  "$(AT)/lib/libnattizhu.so" "$(AT)/lib/libnattizhu.so.0" "$(AT)/include/nattizhu.h" \
+	  "$(AT)/lib/pkgconfig/nattizhu.pc" "$(AT)"/lib/python3.*/site-packages/nattizhu.py \
+	  "$(AT)"/lib/python3.*/site-packages/__pycache__/nattizhu.*.pyc
 
 clean:
 	rm -rf crates/*/out

@@ -1,0 +1,394 @@
+"""RIPEMD-128, RIPEMD-160, RIPEMD-256 and RIPEMD-320, and HMAC over them.
+
+The hash functions of 1996 for Python, over the functions that nattizhu.h
+declares, which are proved. The hashers are as those of hashlib:
+
+>>> import nattizhu
+>>> nattizhu.ripemd160(b"abc").hexdigest()
+'8eb208f7e05d987a9b044a8e98c6b087f15a0bfc'
+
+Bytes are taken from any object with a C-contiguous buffer, where they are and
+without a copy. No other thread may write to it meanwhile: calls leave the
+interpreter's lock to other threads. It needs CPython 3.9 or later, and the
+library libnattizhu.so.0, which the environment variable NATTIZHU_LIBRARY may
+name.
+"""
+
+import ctypes
+import operator
+import os
+import threading
+
+__all__ = [
+    "Hasher", "Hmac", "algorithms_available", "digest_each", "file_digest",
+    "from_state", "hmac_digest", "hmac_from_state", "hmac_new", "new",
+    "ripemd128", "ripemd160", "ripemd256", "ripemd320",
+]
+__version__ = "0.1.0"
+
+# Bytes of a digest, and of the state of one under way. A tag's has twice that.
+_SIZES = {
+    "ripemd128": (16, 88),
+    "ripemd160": (20, 92),
+    "ripemd256": (32, 104),
+    "ripemd320": (40, 112),
+}
+_BLOCK_SIZE = 64
+_LIBRARY = "libnattizhu.so.0"
+
+algorithms_available = frozenset(_SIZES)
+
+
+def _load():
+    """The library: where it is built beside this module, where it is
+    installed with it, or where the loader finds it."""
+    here = os.path.dirname(os.path.realpath(__file__))
+    built = os.path.join(here, "..", "crates", "ripemd_c", "out", _LIBRARY)
+    paths = [built, os.path.join(here, "..", "..", _LIBRARY), _LIBRARY]
+    named = os.environ.get("NATTIZHU_LIBRARY")
+    if named:
+        paths = [named]
+    for path in paths:
+        if path in (named, _LIBRARY) or os.path.exists(path):
+            try:
+                return ctypes.CDLL(path)
+            except OSError as error:
+                why = error
+    raise ImportError(
+        f"nattizhu: the library is not there ({why}): run "
+        "`make install PREFIX=..` in the repository of nattizhu, or set "
+        "NATTIZHU_LIBRARY to the path of libnattizhu.so"
+    ) from why
+
+
+class _Calls:
+    """The functions of the library for one variant. Those that answer a bool
+    always answer True here, but for tag_verify and, in from_state, final:
+    the states are the library's own."""
+
+    def __init__(self, library, name):
+        self.name = name
+        self.size, self.state_size = _SIZES[name]
+        place, number = ctypes.c_void_p, ctypes.c_size_t
+        read = [place, number]
+
+        def call(suffix, arguments, answer=ctypes.c_bool, prefix=""):
+            function = getattr(library, f"nattizhu_{prefix}{name}{suffix}")
+            function.argtypes = arguments
+            function.restype = answer
+            return function
+
+        self.each = call("_each_nonnull", read + [number, place, number])
+        self.init = call("_init", [place], None)
+        self.digest_type = ctypes.c_char * self.size
+        self.state_type = ctypes.c_char * self.state_size
+        self.tag_state_type = ctypes.c_char * (2 * self.state_size)
+        self.update = call("_update_nonnull", [place] + read)
+        self.final = call("_final", [place, place])
+        self.tag = call("_nonnull", read + read + [place], None, "hmac_")
+        self.tag_init = call("_init_nonnull", [place] + read, None, "hmac_")
+        self.tag_update = call(
+            "_update_nonnull", [place] + read, prefix="hmac_")
+        self.tag_final = call("_final", [place, place], prefix="hmac_")
+        self.tag_verify = call(
+            "_verify_nonnull", [place] + read, prefix="hmac_")
+
+
+def _all_calls():
+    library = _load()
+    try:
+        return {name: _Calls(library, name) for name in _SIZES}
+    except AttributeError as error:
+        raise ImportError(f"nattizhu: not its library: {error}") from error
+
+
+_CALLS = _all_calls()
+
+
+def _calls(name):
+    """The functions of the variant with this name."""
+    if not isinstance(name, str):
+        raise TypeError("name must be a string")
+    if name not in _CALLS:
+        raise ValueError(f"unsupported hash type {name}")
+    return _CALLS[name]
+
+
+class _PyBuffer(ctypes.Structure):
+    """Py_buffer, as CPython's headers have it."""
+
+    _fields_ = [
+        ("buf", ctypes.c_void_p),
+        ("obj", ctypes.c_void_p),
+        ("len", ctypes.c_ssize_t),
+        ("itemsize", ctypes.c_ssize_t),
+        ("readonly", ctypes.c_int),
+        ("ndim", ctypes.c_int),
+        ("format", ctypes.c_void_p),
+        ("shape", ctypes.c_void_p),
+        ("strides", ctypes.c_void_p),
+        ("suboffsets", ctypes.c_void_p),
+        ("internal", ctypes.c_void_p),
+    ]
+
+
+_get_buffer = ctypes.pythonapi.PyObject_GetBuffer
+_get_buffer.argtypes = [
+    ctypes.py_object, ctypes.POINTER(_PyBuffer), ctypes.c_int]
+_release_buffer = ctypes.pythonapi.PyBuffer_Release
+_release_buffer.argtypes = [ctypes.POINTER(_PyBuffer)]
+_release_buffer.restype = None
+_SIMPLE = 0  # PyBUF_SIMPLE: C-contiguous bytes, which are only read
+
+
+class _Bytes:
+    """The bytes of an object with a buffer, held still in a `with` block:
+    their address, which is never null, or a bytes object in its place, and
+    how many they are."""
+
+    __slots__ = ("_buffer", "address", "length")
+
+    def __init__(self, data):
+        if isinstance(data, str):
+            raise TypeError("Strings must be encoded before hashing")
+        if type(data) is bytes:  # has no need to be held, and none is null
+            self._buffer, self.address, self.length = None, data, len(data)
+            return
+        buffer = _PyBuffer()
+        try:
+            _get_buffer(data, buffer, _SIMPLE)
+        except TypeError:
+            raise TypeError(
+                "object supporting the buffer API required") from None
+        self._buffer = buffer
+        self.address = buffer.buf or ctypes.addressof(buffer)
+        self.length = buffer.len
+
+    def __enter__(self):
+        return self
+
+    def __exit__(self, *_):
+        if self._buffer is not None:
+            _release_buffer(self._buffer)
+
+
+class _UnderWay:
+    """What a digest and a tag under way have in common."""
+
+    __slots__ = ("_calls", "_lock", "_state")
+    block_size = property(lambda self: _BLOCK_SIZE, doc="Bytes of a block.")
+
+    def __init__(self, *_, **__):
+        raise TypeError("new() makes a Hasher, and hmac_new() an Hmac")
+
+    @classmethod
+    def _of(cls, calls, state):
+        made = cls.__new__(cls)
+        made._calls = calls
+        made._lock = threading.Lock()
+        made._state = state
+        return made
+
+    @classmethod
+    def _from_state(cls, name, state):
+        calls = _calls(name)
+        with _Bytes(state) as held:
+            made = cls._of(calls, cls._state_type(calls)())
+            if held.length == len(made._state):
+                ctypes.memmove(made._state, held.address, held.length)
+                if made._final() is not None:
+                    return made
+        raise ValueError(
+            f"no {cls.__name__} of {name} is saved as these bytes")
+
+    def __reduce__(self):
+        return type(self)._from_state, (self._calls.name, self.state())
+
+    def __repr__(self):
+        kind = f"{type(self).__module__}.{type(self).__name__}"
+        return f"<{self.name} {kind} object at {id(self):#x}>"
+
+    @property
+    def digest_size(self):
+        """Bytes of the digest, or of the tag."""
+        return self._calls.size
+
+    def _final(self):
+        written = self._calls.digest_type()
+        if self._call_final(self._state, written):
+            return written.raw
+        return None
+
+    def update(self, data, /):
+        """Takes the bytes of data in, after those so far."""
+        with _Bytes(data) as held, self._lock:
+            self._call_update(self._state, held.address, held.length)
+
+    def digest(self):
+        """The digest, or tag, of the bytes so far."""
+        with self._lock:
+            return self._final()
+
+    def hexdigest(self):
+        """The same in lower case hexadecimal."""
+        return self.digest().hex()
+
+    def copy(self):
+        """Another one, of the same bytes so far."""
+        made = type(self._state).from_buffer_copy(self.state())
+        return self._of(self._calls, made)
+
+    def state(self):
+        """The saved bytes, from which another process may go on."""
+        with self._lock:
+            return self._state.raw
+
+
+class Hasher(_UnderWay):
+    """A digest under way, as hashlib has them. new() makes one."""
+
+    __slots__ = ()
+    _state_type = staticmethod(lambda calls: calls.state_type)
+    _call_update = property(lambda self: self._calls.update)
+    _call_final = property(lambda self: self._calls.final)
+
+    @property
+    def name(self):
+        """The name of the hash function, as new() takes it."""
+        return self._calls.name
+
+
+class Hmac(_UnderWay):
+    """A tag under way. hmac_new() makes one. Its saved bytes, and so its
+    pickle, are as secret as the key."""
+
+    __slots__ = ()
+    _state_type = staticmethod(lambda calls: calls.tag_state_type)
+    _call_update = property(lambda self: self._calls.tag_update)
+    _call_final = property(lambda self: self._calls.tag_final)
+
+    @property
+    def name(self):
+        """The name of the tag, as the standard hmac gives it."""
+        return "hmac-" + self._calls.name
+
+    def verify(self, tag, /):
+        """Whether these bytes are the tag, all of them. All bytes of a tag
+        of the right length are compared, whatever they are."""
+        with _Bytes(tag) as held, self._lock:
+            return self._calls.tag_verify(
+                self._state, held.address, held.length)
+
+
+def new(name, data=b"", *, usedforsecurity=True):
+    """A hasher of the variant with this name, which has taken data in."""
+    calls = _calls(name)
+    made = Hasher._of(calls, calls.state_type())
+    calls.init(made._state)
+    made.update(data)
+    return made
+
+
+def ripemd128(data=b"", *, usedforsecurity=True):
+    """A hasher of RIPEMD-128, which has taken data in."""
+    return new("ripemd128", data)
+
+
+def ripemd160(data=b"", *, usedforsecurity=True):
+    """A hasher of RIPEMD-160, which has taken data in."""
+    return new("ripemd160", data)
+
+
+def ripemd256(data=b"", *, usedforsecurity=True):
+    """A hasher of RIPEMD-256, which has taken data in."""
+    return new("ripemd256", data)
+
+
+def ripemd320(data=b"", *, usedforsecurity=True):
+    """A hasher of RIPEMD-320, which has taken data in."""
+    return new("ripemd320", data)
+
+
+def from_state(name, state):
+    """The hasher that is saved as these bytes, as its state() gave them.
+
+    It raises ValueError if no hasher of this variant is. Nothing in the bytes
+    shows who wrote them."""
+    return Hasher._from_state(name, state)
+
+
+def digest_each(name, records, size):
+    """The list of the digests of the records, each of size bytes, which lie
+    one after another in records.
+
+    It raises ValueError if size is not at least 1, or the bytes are not a
+    whole number of records."""
+    calls = _calls(name)
+    size = operator.index(size)
+    if size < 1:
+        raise ValueError("the size of a record must be at least 1")
+    with _Bytes(records) as held:
+        count, rest = divmod(held.length, size)
+        if rest:
+            raise ValueError(f"{held.length} bytes are no whole number of "
+                             f"records of {size} bytes")
+        if count == 0:
+            return []
+        digests = (ctypes.c_char * (count * calls.size))()
+        calls.each(held.address, held.length, size, digests, count)
+    written = digests.raw
+    return [written[at:at + calls.size]
+            for at in range(0, len(written), calls.size)]
+
+
+def file_digest(fileobj, name, /, *, _bufsize=2**18):
+    """A hasher that has taken in all that a file gives, as
+    hashlib.file_digest has it: the file is open in binary mode, and name is
+    the name of a variant, or a callable that makes a hasher."""
+    hasher = new(name) if isinstance(name, str) else name()
+    if hasattr(fileobj, "getbuffer"):  # all of an io.BytesIO
+        with fileobj.getbuffer() as held:
+            hasher.update(held)
+        return hasher
+    if not (hasattr(fileobj, "readinto") and hasattr(fileobj, "readable")
+            and fileobj.readable()):
+        raise ValueError(f"'{fileobj!r}' is not a file-like object in binary "
+                         "reading mode.")
+    buffer = bytearray(_bufsize)
+    with memoryview(buffer) as view:
+        while True:
+            size = fileobj.readinto(buffer)
+            if size is None:
+                raise BlockingIOError("I/O operation would block.")
+            if size == 0:
+                return hasher
+            with view[:size] as piece:
+                hasher.update(piece)
+
+
+def hmac_new(key, msg, name):
+    """The tag under way of msg under the key, which may have any length. msg
+    may be None, for nothing yet."""
+    calls = _calls(name)
+    made = Hmac._of(calls, calls.tag_state_type())
+    with _Bytes(key) as held:
+        calls.tag_init(made._state, held.address, held.length)
+    if msg is not None:
+        made.update(msg)
+    return made
+
+
+def hmac_digest(key, msg, name):
+    """The tag of msg under the key: its bytes."""
+    calls = _calls(name)
+    tag = calls.digest_type()
+    with _Bytes(key) as secret, _Bytes(msg) as text:
+        calls.tag(
+            secret.address, secret.length, text.address, text.length, tag)
+    return tag.raw
+
+
+def hmac_from_state(name, state):
+    """The tag under way that is saved as these bytes, as its state() gave
+    them. It raises ValueError if none of this variant is."""
+    return Hmac._from_state(name, state)

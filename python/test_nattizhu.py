@@ -1,0 +1,431 @@
+"""Tests of nattizhu.py. Expected values are published ones, or come from
+hashlib and the standard hmac."""
+
+import array
+import copy
+import functools
+import hashlib
+import hmac
+import io
+import mmap
+import os
+import pickle
+import random
+import socket
+import subprocess
+import sys
+import tempfile
+import threading
+import unittest
+
+import nattizhu
+
+NAMES = ("ripemd128", "ripemd160", "ripemd256", "ripemd320")
+CONSTRUCTORS = {name: getattr(nattizhu, name) for name in NAMES}
+
+# The authors' digests of the empty message and of "abc".
+PUBLISHED = {
+    "ripemd128": ("cdf26213a150dc3ecb610f18f6b38b46",
+                  "c14a12199c66e4ba84636b0f69144c77"),
+    "ripemd160": ("9c1185a5c5e9fc54612808977ee8f548b2258d31",
+                  "8eb208f7e05d987a9b044a8e98c6b087f15a0bfc"),
+    "ripemd256": ("02ba4c4e5f8ecd1877fc52d64d30e37a"
+                  "2d9774fb1e5d026380ae0168e3c5522d",
+                  "afbd6e228b9d8cbbcef5ca2d03e6dba1"
+                  "0ac0bc7dcbe4680e1e42d2e975459b65"),
+    "ripemd320": ("22d65d5661536cdc75c1fdf5c6de7b41b9f27325"
+                  "ebc61e8557177d705a0ec880151c3a32a00899b8",
+                  "de4c01b3054f8930a79d09ae738e92301e5a1708"
+                  "5beffdc1b8d116713e74f82fa942d64cdbc4682d"),
+}
+
+# For other processes, that they find the same module.
+ENVIRONMENT = {**os.environ,
+               "PYTHONPATH": os.path.dirname(nattizhu.__file__)}
+
+LARGE_KEY = b"Test Using Larger Than Block-Size Key"
+# RFC 2286, sections 2 and 3: key, text and tag.
+RFC_2286 = {
+    "ripemd128": (
+        (b"\x0b" * 16, b"Hi There", "fbf61f9492aa4bbf81c172e84e0734db"),
+        (b"Jefe", b"what do ya want for nothing?",
+         "875f828862b6b334b427c55f9f7ff09b"),
+        (b"\xaa" * 16, b"\xdd" * 50, "09f0b2846d2f543da363cbec8d62a38d"),
+        (bytes(range(1, 26)), b"\xcd" * 50,
+         "bdbbd7cf03e44b5aa60af815be4d2294"),
+        (b"\x0c" * 16, b"Test With Truncation",
+         "e79808f24b25fd031c155f0d551d9a3a"),
+        (b"\xaa" * 80, LARGE_KEY + b" - Hash Key First",
+         "dc732928de98104a1f59d373c150acbb"),
+        (b"\xaa" * 80, LARGE_KEY + b" and Larger Than One Block-Size Data",
+         "5c6bec96793e16d40690c237635f30c5"),
+    ),
+    "ripemd160": (
+        (b"\x0b" * 20, b"Hi There",
+         "24cb4bd67d20fc1a5d2ed7732dcc39377f0a5668"),
+        (b"Jefe", b"what do ya want for nothing?",
+         "dda6c0213a485a9e24f4742064a7f033b43c4069"),
+        (b"\xaa" * 20, b"\xdd" * 50,
+         "b0b105360de759960ab4f35298e116e295d8e7c1"),
+        (bytes(range(1, 26)), b"\xcd" * 50,
+         "d5ca862f4d21d5e610e18b4cf1beb97a4365ecf4"),
+        (b"\x0c" * 20, b"Test With Truncation",
+         "7619693978f91d90539ae786500ff3d8e0518e39"),
+        (b"\xaa" * 80, LARGE_KEY + b" - Hash Key First",
+         "6466ca07ac5eac29e1bd523e5ada7605b791fd8b"),
+        (b"\xaa" * 80, LARGE_KEY + b" and Larger Than One Block-Size Data",
+         "69ea60798d71616cce5fd0871e23754cd75d5a0a"),
+    ),
+}
+
+
+def pieces_of(source, message):
+    """The message in pieces of random lengths, none among them."""
+    at = 0
+    while at < len(message):
+        length = source.choice((0, 1, 63, 64, 65, source.randrange(300)))
+        yield message[at:at + length]
+        at += length
+
+
+class Digests(unittest.TestCase):
+    def test_published(self):
+        for name, (empty, abc) in PUBLISHED.items():
+            self.assertEqual(CONSTRUCTORS[name]().hexdigest(), empty)
+            self.assertEqual(CONSTRUCTORS[name](b"abc").hexdigest(), abc)
+            self.assertEqual(nattizhu.new(name, b"abc").digest().hex(), abc)
+            self.assertEqual(nattizhu.new(name, data=b"abc",
+                                          usedforsecurity=False).hexdigest(),
+                             abc)
+
+    def test_a_million_times_a(self):
+        self.assertEqual(nattizhu.ripemd160(b"a" * 10**6).hexdigest(),
+                         "52783243c1697bdbe16d37f97f68f08325dc1528")
+
+    def test_hash160(self):
+        key = bytes.fromhex("0279be667ef9dcbbac55a06295ce870b07"
+                            "029bfcdb2dce28d959f2815b16f81798")
+        self.assertEqual(
+            nattizhu.ripemd160(hashlib.sha256(key).digest()).hexdigest(),
+            "751e76e8199196d454941c45d1b3a323f1433bd6")
+
+    def test_as_hashlib(self):
+        try:
+            hashlib.new("ripemd160")
+        except ValueError:
+            self.skipTest("hashlib has no ripemd160 here")
+        source = random.Random(1)
+        for length in (*range(200), 4095, 4096, 4097, 100000):
+            message = source.randbytes(length)
+            self.assertEqual(nattizhu.ripemd160(message).digest(),
+                             hashlib.new("ripemd160", message).digest())
+
+    def test_pieces(self):
+        source = random.Random(2)
+        for name in NAMES * 20:
+            message = source.randbytes(source.randrange(2000))
+            hasher = nattizhu.new(name)
+            for piece in pieces_of(source, message):
+                hasher.update(piece)
+                if source.random() < 0.2:
+                    hasher.digest()
+                if source.random() < 0.2:
+                    hasher = nattizhu.from_state(name, hasher.state())
+            self.assertEqual(hasher.digest(),
+                             nattizhu.new(name, message).digest())
+
+    def test_attributes(self):
+        for name, size in zip(NAMES, (16, 20, 32, 40)):
+            hasher = nattizhu.new(name, b"abc")
+            self.assertEqual(
+                (hasher.name, hasher.digest_size, hasher.block_size),
+                (name, size, 64))
+            self.assertEqual(len(hasher.digest()), size)
+            self.assertIn(name, repr(hasher))
+            with self.assertRaises(AttributeError):
+                hasher.name = "md5"
+        self.assertEqual(nattizhu.algorithms_available, set(NAMES))
+
+    def test_copies(self):
+        for name in NAMES:
+            first = nattizhu.new(name, b"a")
+            for duplicate in (lambda x: x.copy(), copy.copy, copy.deepcopy,
+                              lambda x: pickle.loads(pickle.dumps(x))):
+                second = duplicate(first)
+                second.update(b"bc")
+                self.assertEqual(second.hexdigest(), PUBLISHED[name][1])
+                self.assertEqual(first.digest(),
+                                 nattizhu.new(name, b"a").digest())
+
+    def test_each(self):
+        source = random.Random(3)
+        for name in NAMES:
+            for size in (1, 20, 33, 64, 200):
+                for count in (0, 1, 7, 8, 9, 129):
+                    records = source.randbytes(size * count)
+                    self.assertEqual(
+                        nattizhu.digest_each(name, records, size),
+                        [nattizhu.new(name, records[at:at + size]).digest()
+                         for at in range(0, len(records), size)])
+
+    def test_threads(self):
+        message = random.Random(4).randbytes(3 * 10**6)
+        right = nattizhu.ripemd160(message).digest()
+        found = []
+        shared = nattizhu.ripemd160()
+
+        def work():
+            found.append(nattizhu.ripemd160(message).digest())
+            for _ in range(200):
+                shared.update(b"x" * 777)
+
+        threads = [threading.Thread(target=work) for _ in range(8)]
+        for thread in threads:
+            thread.start()
+        for thread in threads:
+            thread.join()
+        self.assertEqual(found, [right] * 8)
+        self.assertEqual(shared.digest(),
+                         nattizhu.ripemd160(b"x" * 777 * 1600).digest())
+
+
+class Buffers(unittest.TestCase):
+    def test_kinds(self):
+        message = bytes(range(240))
+        right = nattizhu.ripemd160(message).digest()
+        with mmap.mmap(-1, len(message)) as mapped:
+            mapped[:] = message
+            for data in (message, bytearray(message), memoryview(message),
+                         memoryview(bytearray(message)).toreadonly(),
+                         memoryview(b"." + message + b".")[1:-1],
+                         array.array("B", message),
+                         array.array("Q", message),
+                         memoryview(message).cast("I", (6, 10)), mapped):
+                hasher = nattizhu.ripemd160()
+                hasher.update(data)
+                self.assertEqual(hasher.digest(), right)
+                self.assertEqual(nattizhu.hmac_digest(data, data, "ripemd160"),
+                                 nattizhu.hmac_digest(message, message,
+                                                      "ripemd160"))
+                self.assertEqual(nattizhu.digest_each("ripemd160", data, 240),
+                                 [right])
+
+    def test_empty(self):
+        for data in (b"", bytearray(), memoryview(b""), array.array("Q"),
+                     memoryview(b"x")[:0]):
+            self.assertEqual(nattizhu.ripemd160(data).hexdigest(),
+                             PUBLISHED["ripemd160"][0])
+            self.assertEqual(nattizhu.digest_each("ripemd160", data, 8), [])
+            tag = nattizhu.hmac_new(data, data, "ripemd160")
+            self.assertFalse(tag.verify(data))
+            self.assertEqual(tag.digest(),
+                             hmac.digest(b"", b"", nattizhu.ripemd160))
+
+    def test_released(self):
+        data = bytearray(b"abc")
+        hasher = nattizhu.ripemd160(data)
+        data.extend(b"d")  # refused while a buffer of it is held
+        with self.assertRaises(ValueError):
+            nattizhu.digest_each("ripemd160", data, 3)
+        data.extend(b"e")
+        with self.assertRaises(ValueError):
+            nattizhu.from_state("ripemd160", data)
+        data.extend(b"f")
+        self.assertEqual(hasher.hexdigest(), PUBLISHED["ripemd160"][1])
+
+    def test_errors_are_those_of_hashlib(self):
+        for data in ("text", 3, None, [1], object(),
+                     memoryview(b"abcdef")[::2]):
+            with self.assertRaises(Exception) as theirs:
+                hashlib.sha256(data)
+            for call in (nattizhu.ripemd160, nattizhu.ripemd160().update,
+                         functools.partial(nattizhu.new, "ripemd160")):
+                with self.assertRaises(type(theirs.exception)) as ours:
+                    call(data)
+                self.assertEqual(str(ours.exception), str(theirs.exception))
+            for call in (lambda: nattizhu.hmac_new(data, b"", "ripemd160"),
+                         lambda: nattizhu.hmac_digest(b"", data, "ripemd160"),
+                         lambda: nattizhu.digest_each("ripemd160", data, 1),
+                         lambda: nattizhu.from_state("ripemd160", data),
+                         lambda: nattizhu.hmac_new(
+                             b"", None, "ripemd160").verify(data)):
+                with self.assertRaises(type(theirs.exception)):
+                    call()
+
+
+class Errors(unittest.TestCase):
+    def test_names(self):
+        for name in ("", "ripemd", "ripemd161", "RIPEMD160", "sha256"):
+            for call in (nattizhu.new,
+                         lambda name: nattizhu.from_state(name, bytes(92)),
+                         lambda name: nattizhu.digest_each(name, b"", 1),
+                         lambda name: nattizhu.hmac_new(b"", b"", name),
+                         lambda name: nattizhu.hmac_digest(b"", b"", name)):
+                with self.assertRaises(ValueError):
+                    call(name)
+        for name in (None, 160, b"ripemd160"):
+            with self.assertRaises(TypeError):
+                nattizhu.new(name)
+
+    def test_records(self):
+        for size in (0, -1, 4, 2**64 + 3, 2**70):
+            with self.assertRaises(ValueError):
+                nattizhu.digest_each("ripemd160", b"abcdef", size)
+        with self.assertRaises(TypeError):
+            nattizhu.digest_each("ripemd160", b"abcdef", 2.0)
+        self.assertEqual(nattizhu.digest_each("ripemd160", b"", 2**70), [])
+
+    def test_made_by_functions(self):
+        for kind in (nattizhu.Hasher, nattizhu.Hmac):
+            with self.assertRaises(TypeError):
+                kind("ripemd160")
+
+    def test_no_library(self):
+        done = subprocess.run(
+            [sys.executable, "-c", "import nattizhu"], text=True,
+            env={**ENVIRONMENT, "NATTIZHU_LIBRARY": "/dev/null"},
+            check=False, capture_output=True)
+        self.assertNotEqual(done.returncode, 0)
+        self.assertIn("ImportError", done.stderr)
+        self.assertIn("make install", done.stderr)
+
+
+class States(unittest.TestCase):
+    def test_sizes(self):
+        for name, size in zip(NAMES, (88, 92, 104, 112)):
+            self.assertEqual(len(nattizhu.new(name).state()), size)
+            self.assertEqual(
+                len(nattizhu.hmac_new(b"", b"", name).state()), 2 * size)
+
+    def test_forged(self):
+        for name in NAMES:
+            state = nattizhu.new(name, b"abc").state()
+            tag = nattizhu.hmac_new(b"key", b"abc", name).state()
+            past_the_end = state[:-1] + b"\xff"
+            not_zero = state[:-2] + b"\x01" + state[-1:]
+            for forged in (b"", state[:-1], state + b"\0", tag,
+                           b"\xff" * len(state), past_the_end, not_zero):
+                with self.assertRaises(ValueError):
+                    nattizhu.from_state(name, forged)
+            for forged in (b"", tag[:-1], state, b"\xff" * len(tag),
+                           tag[:-1] + b"\xff", past_the_end + state,
+                           state + not_zero):
+                with self.assertRaises(ValueError):
+                    nattizhu.hmac_from_state(name, forged)
+
+    def test_another_process(self):
+        program = ("import pickle, sys; x = pickle.load(sys.stdin.buffer); "
+                   "x.update(b'c'); pickle.dump(x, sys.stdout.buffer)")
+        for name in NAMES:
+            for made, whole in (
+                    (nattizhu.new(name, b"ab"), nattizhu.new(name, b"abc")),
+                    (nattizhu.hmac_new(b"key", b"ab", name),
+                     nattizhu.hmac_new(b"key", b"abc", name))):
+                done = subprocess.run(
+                    [sys.executable, "-c", program], env=ENVIRONMENT,
+                    input=pickle.dumps(made), stdout=subprocess.PIPE,
+                    check=True)
+                came = pickle.loads(done.stdout)
+                self.assertEqual(came.name, made.name)
+                self.assertEqual(came.digest(), whole.digest())
+                self.assertEqual(came.state(), whole.state())
+
+
+class Tags(unittest.TestCase):
+    def test_published(self):
+        for name, lines in RFC_2286.items():
+            for key, text, tag in lines:
+                self.assertEqual(
+                    nattizhu.hmac_digest(key, text, name).hex(), tag)
+                self.assertEqual(
+                    nattizhu.hmac_new(key, text, name).hexdigest(), tag)
+
+    def test_digestmod_of_the_standard_hmac(self):
+        source = random.Random(5)
+        for name in NAMES:
+            for length in (0, 1, 16, 63, 64, 65, 80, 200):
+                key = source.randbytes(length)
+                text = source.randbytes(source.randrange(300))
+                ours = nattizhu.hmac_new(key, None, name)
+                for piece in pieces_of(source, text):
+                    ours.update(piece)
+                for constructor in (CONSTRUCTORS[name],
+                                    functools.partial(nattizhu.new, name)):
+                    theirs = hmac.new(key, text, constructor)
+                    self.assertEqual(ours.digest(), theirs.digest())
+                    self.assertEqual(ours.digest(),
+                                     hmac.digest(key, text, constructor))
+                    self.assertEqual(theirs.copy().hexdigest(),
+                                     ours.copy().hexdigest())
+                    self.assertEqual(
+                        (ours.name, ours.digest_size, ours.block_size),
+                        (theirs.name, theirs.digest_size, theirs.block_size))
+
+    def test_verify(self):
+        for name in NAMES:
+            tag = nattizhu.hmac_new(b"key", b"text", name)
+            right = tag.digest()
+            self.assertIs(tag.verify(right), True)
+            self.assertTrue(tag.verify(bytearray(right)))
+            for at in range(len(right)):
+                wrong = bytearray(right)
+                wrong[at] ^= 1
+                self.assertIs(tag.verify(wrong), False)
+                self.assertFalse(tag.verify(right[:at]))
+            self.assertFalse(tag.verify(right + b"\0"))
+            tag.update(b"more")
+            self.assertFalse(tag.verify(right))
+
+    def test_copies(self):
+        keyed = nattizhu.hmac_new(b"key", None, "ripemd160")
+        for duplicate in (lambda x: x.copy(), copy.copy, copy.deepcopy,
+                          lambda x: pickle.loads(pickle.dumps(x)),
+                          lambda x: nattizhu.hmac_from_state("ripemd160",
+                                                             x.state())):
+            tag = duplicate(keyed)
+            tag.update(b"text")
+            self.assertTrue(tag.verify(
+                nattizhu.hmac_digest(b"key", b"text", "ripemd160")))
+
+
+class Files(unittest.TestCase):
+    def test_files(self):
+        message = random.Random(6).randbytes(600000)
+        right = nattizhu.ripemd160(message).digest()
+        with tempfile.TemporaryFile() as file:
+            file.write(message)
+            for digestmod in ("ripemd160", nattizhu.ripemd160):
+                file.seek(0)
+                self.assertEqual(
+                    nattizhu.file_digest(file, digestmod).digest(), right)
+        memory = io.BytesIO(message)
+        self.assertEqual(nattizhu.file_digest(memory, "ripemd160").digest(),
+                         right)
+        memory.write(b"more" * 200000)  # refused while a buffer is held
+
+    def test_not_binary(self):
+        with self.assertRaises(ValueError):
+            nattizhu.file_digest(io.StringIO("text"), "ripemd160")
+        with tempfile.NamedTemporaryFile() as file:
+            with open(file.name, encoding="ascii") as text:
+                with self.assertRaises(ValueError):
+                    nattizhu.file_digest(text, "ripemd160")
+            with open(file.name, "wb", buffering=0) as unreadable:
+                with self.assertRaises(ValueError):
+                    nattizhu.file_digest(unreadable, "ripemd160")
+            with open(file.name, "rb") as readable:
+                with self.assertRaises(ValueError):
+                    nattizhu.file_digest(readable, "sha256")
+
+    def test_blocking(self):
+        first, second = socket.socketpair()
+        with first, second:
+            second.sendall(b"abc")
+            first.setblocking(False)
+            with first.makefile("rb", buffering=0) as file:
+                with self.assertRaises(BlockingIOError):
+                    nattizhu.file_digest(file, "ripemd160")
+
+
+if __name__ == "__main__":
+    unittest.main()
