@@ -4,6 +4,7 @@ ghost use Rattle.std.specs.Prelude.{◌≡◌, ◌+◌, ◌*◌, ◌≤◌, ◌+
 ghost use Rattle.std.specs.Prelude.{IfOk, OnOk, IfErr};
 ghost use Rattle.hex.specs.Hex.{encode_lower};
 ghost use Rattle.ripemd.specs.Standard.Hashing.{hash};
+ghost use Rattle.ripemd_mac.specs.Keyed.{hmac};
 ghost use Rattle.ripemd_sum.specs.Track.{has_failed, taken_of};
 ghost use Rattle.ripemd_sum.specs.Runs.{digest_line, tag_line, GivesAll, Gets};
 ghost use Rattle.ripemd_sum.specs.Faults.{ExplainsReading, ExplainsRun};
@@ -12,8 +13,11 @@ use crate::fault::{ReadFault, RunFault};
 use crate::summing::{Plain, Summing};
 use crate::tracked::Tracked;
 use crate::variant::Variant;
+use ripemd::block_api::{
+    Ripemd128Function, Ripemd160Function, Ripemd256Function, Ripemd320Function,
+};
 use ripemd::digest::OutputSizeUser;
-use ripemd::{Digest, Ripemd128, Ripemd160, Ripemd256, Ripemd320};
+use ripemd::{BlockHasher, Digest, HashFunction};
 use ripemd_mac::Hmac;
 use std::io::{Read, Write};
 
@@ -52,10 +56,10 @@ pub fn run<R: Read, W: Write>(
         (ExplainsRun R.remaining reader.old reader.new writer.old writer.new limit) }
 {
     match variant {
-        Variant::R128 => write_sum::<Plain<Ripemd128>, R, W>(Plain::new(), reader, writer, limit),
-        Variant::R160 => write_sum::<Plain<Ripemd160>, R, W>(Plain::new(), reader, writer, limit),
-        Variant::R256 => write_sum::<Plain<Ripemd256>, R, W>(Plain::new(), reader, writer, limit),
-        Variant::R320 => write_sum::<Plain<Ripemd320>, R, W>(Plain::new(), reader, writer, limit),
+        Variant::R128 => write_digest::<Ripemd128Function, R, W>(reader, writer, limit),
+        Variant::R160 => write_digest::<Ripemd160Function, R, W>(reader, writer, limit),
+        Variant::R256 => write_digest::<Ripemd256Function, R, W>(reader, writer, limit),
+        Variant::R320 => write_digest::<Ripemd320Function, R, W>(reader, writer, limit),
     }
 }
 
@@ -81,11 +85,53 @@ pub fn run_mac<R: Read, W: Write>(
         (ExplainsRun R.remaining reader.old reader.new writer.old writer.new limit) }
 {
     match variant {
-        Variant::R128 => write_sum::<Hmac<Ripemd128>, R, W>(Hmac::new(key), reader, writer, limit),
-        Variant::R160 => write_sum::<Hmac<Ripemd160>, R, W>(Hmac::new(key), reader, writer, limit),
-        Variant::R256 => write_sum::<Hmac<Ripemd256>, R, W>(Hmac::new(key), reader, writer, limit),
-        Variant::R320 => write_sum::<Hmac<Ripemd320>, R, W>(Hmac::new(key), reader, writer, limit),
+        Variant::R128 => write_tag::<Ripemd128Function, R, W>(key, reader, writer, limit),
+        Variant::R160 => write_tag::<Ripemd160Function, R, W>(key, reader, writer, limit),
+        Variant::R256 => write_tag::<Ripemd256Function, R, W>(key, reader, writer, limit),
+        Variant::R320 => write_tag::<Ripemd320Function, R, W>(key, reader, writer, limit),
     }
+}
+
+// The run for the digest by a block function.
+fn write_digest<F: HashFunction, R: Read, W: Write>(
+    reader: &mut Tracked<R>,
+    writer: &mut Tracked<W>,
+    limit: u64,
+) -> Result<(), RunFault>
+    requires fits { 2 * F.Digest.LEN + 1 ≤ 81 }
+    requires reader_works { has_failed reader.old ≡ false }
+    requires reader_fresh { taken_of reader.old ≡ 0 }
+    requires writer_works { has_failed writer.old ≡ false }
+    ensures ok { OnOk result ((message : List ℕ)
+        × GivesAll R.remaining reader.old reader.new limit message
+        × Gets W.contents writer.old writer.new
+        (encode_lower (hash (F.list F.start_of) F.step F.output message) ++ codes "\n")) }
+    ensures fault { IfErr result
+        (ExplainsRun R.remaining reader.old reader.new writer.old writer.new limit) }
+{
+    write_sum::<Plain<BlockHasher<F>>, R, W>(Plain::new(), reader, writer, limit)
+}
+
+// The run for the tag under a key by a block function.
+fn write_tag<F: HashFunction, R: Read, W: Write>(
+    key: &[u8],
+    reader: &mut Tracked<R>,
+    writer: &mut Tracked<W>,
+    limit: u64,
+) -> Result<(), RunFault>
+    requires fits { 2 * F.Digest.LEN + 1 ≤ 81 }
+    requires reader_works { has_failed reader.old ≡ false }
+    requires reader_fresh { taken_of reader.old ≡ 0 }
+    requires writer_works { has_failed writer.old ≡ false }
+    ensures ok { OnOk result ((message : List ℕ)
+        × GivesAll R.remaining reader.old reader.new limit message
+        × Gets W.contents writer.old writer.new
+        (encode_lower (hmac (hash (F.list F.start_of) F.step F.output) key.now message)
+        ++ codes "\n")) }
+    ensures fault { IfErr result
+        (ExplainsRun R.remaining reader.old reader.new writer.old writer.new limit) }
+{
+    write_sum::<Hmac<BlockHasher<F>>, R, W>(Hmac::new(key), reader, writer, limit)
 }
 
 // The run for one digest or tag under way, whose line is not too long.
