@@ -78,19 +78,6 @@ static SAVED: [Command; 7] = [
     Command::Finish { hasher: 1 },
 ];
 
-// A saved state stays as it was when it was saved.
-static SAVED_BEFORE: [Command; 6] = [
-    Command::New,
-    Command::Save { hasher: 0 },
-    Command::Update {
-        hasher: 0,
-        bytes: b"abc",
-    },
-    Command::Load { saved: 0 },
-    Command::Finish { hasher: 1 },
-    Command::Finish { hasher: 0 },
-];
-
 // A refusal before the first bad command is the answer.
 static BAD_COMMAND: [Command; 3] = [
     Command::New,
@@ -194,17 +181,13 @@ fn outcomes_of_none(alloc: Global) -> [(&'static str, Outcome); 3] {
 }
 
 /// What becomes of each list, by its name.
-pub(crate) fn outcomes(alloc: Global) -> [(&'static str, Outcome); 10] {
+pub(crate) fn outcomes(alloc: Global) -> [(&'static str, Outcome); 9] {
     let no_hasher = ReplayError::NoHasher { at: 1, hasher: 3 };
     let [finished, saved_again, with_block] = outcomes_of_imports(alloc);
     let [nothing, load, import] = outcomes_of_none(alloc);
     [
         ("forks", outcome(alloc, &FORKS, &[HELLO, HELLO, EMPTY])),
         ("a saved state", outcome(alloc, &SAVED, &[HELLO])),
-        (
-            "a state saved before",
-            outcome(alloc, &SAVED_BEFORE, &[EMPTY, ABC]),
-        ),
         (
             "a bad command",
             outcome_of_bad(alloc, &BAD_COMMAND, no_hasher),

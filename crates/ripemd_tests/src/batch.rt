@@ -1,5 +1,7 @@
 //! The tests of `ripemd_batch`.
 
+mod tags;
+
 use crate::digits::{
     ABC_128, ABC_160, ABC_256, ABC_320, EMPTY_128, EMPTY_160, EMPTY_256, EMPTY_320, is_written,
 };

@@ -1,5 +1,5 @@
-//! The tests of `ripemd_block`, `ripemd`, `ripemd_mac` and `ripemd_batch`, each of which is proved
-//! once and without them. They call these crates as any other crate does.
+//! The tests of `ripemd_block`, `ripemd`, `ripemd_mac`, `ripemd_batch` and `ripemd_uses`, each of which
+//! is proved once and without them. They call these crates as any other crate does.
 #![tactic(auto)]
 
 #[cfg(test)]
@@ -18,5 +18,7 @@ mod names;
 mod replay;
 #[cfg(test)]
 mod state;
+#[cfg(test)]
+mod uses;
 #[cfg(test)]
 mod witness;

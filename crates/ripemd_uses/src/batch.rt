@@ -26,3 +26,16 @@ pub fn have_digests(records: &[&[u8]], wanted: &[[u8; 20]], found: &mut [[u8; 20
     digests_of(records, found);
     *found == *wanted
 }
+
+ghost use Rattle.ripemd_mac.specs.Keyed.{hmac};
+
+use ripemd_batch::tag_each;
+
+/// Writes the tag of each record under the key, by RIPEMD-160, to its place.
+#[tactic(auto, using(ripemd_batch::specs::Laws::own_bytes))]
+pub fn tags_of(key: &[u8], records: &[&[u8]], tags: &mut [[u8; 20]])
+    requires { length tags.old ≡ length records.now }
+    ensures { tags.new ≡ map (hmac (ripemd ripemd160) key.now) (targets records.now) }
+{
+    tag_each::<Ripemd160>(key, records, tags);
+}

@@ -8,5 +8,3 @@ pub mod calling;
 pub mod commands;
 pub mod readme;
 pub mod tags;
-#[cfg(test)]
-mod tests;

@@ -40,7 +40,74 @@ pub fn has_tag_by<D: BlockDigest>(key: &[u8], text: &[u8], tag: &[u8]) -> bool
     mac.verify(tag)
 }
 
-ghost use Rattle.std.specs.Prelude.{[], ◌∷◌, slice_index, bit_xor};
+ghost use Rattle.std.specs.Prelude.{ℕ, List, []};
+ghost use Rattle.ripemd_mac.specs.Keyed.{StandsFor};
+
+/// The tag of a text, given a tag under way that has taken in a key and no text yet.
+pub fn tag_under<D: BlockDigest>(keyed: &Hmac<D>, text: &[u8]) -> D::Output
+    ensures { (key : List ℕ) → StandsFor D.start D.step D.output key [] keyed.now
+        → D.bytes_of result ≡ hmac (hash D.start D.step D.output) key text.now }
+{
+    let mut mac = keyed.duplicate();
+    mac.update(text);
+    mac.finalize()
+}
+
+/// The tags of two texts under one key, by RIPEMD-160.
+pub fn tags_of_two(key: &[u8], first: &[u8], second: &[u8]) -> ([u8; 20], [u8; 20])
+    ensures first { result.0 ≡ hmac (ripemd ripemd160) key.now first.now }
+    ensures second { result.1 ≡ hmac (ripemd ripemd160) key.now second.now }
+{
+    let keyed = Hmac::<Ripemd160>::new(key);
+    (
+        tag_under::<Ripemd160>(&keyed, first),
+        tag_under::<Ripemd160>(&keyed, second),
+    )
+}
+
+ghost use Rattle.std.specs.Prelude.{IfOk, IfErr};
+ghost use Rattle.ripemd_mac.specs.Saved.{IsSavedFor};
+
+use ripemd::digest::SerializableState;
+use ripemd::state::DeserializeStateError;
+use ripemd_mac::SavedTag;
+
+/// What to keep of the tag of a text after its first piece.
+pub fn saved_after<D: BlockDigest + SerializableState>(
+    key: &[u8],
+    first: &[u8],
+) -> SavedTag<D::Saved>
+    ensures { IsSavedFor D.start D.step D.output D.is_valid D.state_bytes key.now first.now
+        (D.saved_bytes result.inner) (D.saved_bytes result.outer) }
+{
+    let mut mac = Hmac::<D>::new(key);
+    mac.update(first);
+    mac.save()
+}
+
+/// The tag of a text, given what was kept before its last piece, and this piece.
+///
+/// # Errors
+///
+/// `DeserializeStateError` if no tag under way is saved as these bytes.
+pub fn tag_of_saved<D: BlockDigest + SerializableState>(
+    saved: &SavedTag<D::Saved>,
+    last: &[u8],
+) -> Result<D::Output, DeserializeStateError>
+    ensures ok { IfOk result (λ tag. (key text : List ℕ)
+        → IsSavedFor D.start D.step D.output D.is_valid D.state_bytes key text
+        (D.saved_bytes saved.now.inner) (D.saved_bytes saved.now.outer)
+        → D.bytes_of tag ≡ hmac (hash D.start D.step D.output) key (text ++ last.now)) }
+    ensures err { IfErr result (λ _. (key text : List ℕ)
+        → ¬ IsSavedFor D.start D.step D.output D.is_valid D.state_bytes key text
+        (D.saved_bytes saved.now.inner) (D.saved_bytes saved.now.outer)) }
+{
+    let mut mac = Hmac::<D>::load(saved)?;
+    mac.update(last);
+    Ok(mac.finalize())
+}
+
+ghost use Rattle.std.specs.Prelude.{◌∷◌, slice_index, bit_xor};
 
 use crate::calling::Toy;
 

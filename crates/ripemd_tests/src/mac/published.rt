@@ -1,25 +1,45 @@
 //! The tags that others give.
 
-use super::{count_up, tag_of};
+use super::{count_up, tag_by_copies, tag_by_slices, tag_of, tag_put_aside};
 use crate::digits::is_written;
-use ripemd::digest::BlockDigest;
-use ripemd::{Ripemd128, Ripemd160, Ripemd256, Ripemd320};
+use ripemd::block_api::{
+    ByteArray, Ripemd128Function, Ripemd160Function, Ripemd256Function, Ripemd320Function,
+};
+use ripemd::{BlockHasher, ResumableFunction};
 
-// Whether the tag of a text is this one, wherever the text is cut.
-fn has_tag<D: BlockDigest>(key: &[u8], text: &[u8], digits: &str) -> bool {
+// Whether the tag of a text is this one, wherever the text is cut, and however the tag is made.
+fn has_tag<F: ResumableFunction>(key: &[u8], text: &[u8], digits: &str) -> bool {
     for at in [0, 1, 63, 64, 65] {
         let (first, second) = text.split_at(at.min(text.len()));
-        let tag = tag_of::<D>(key, first, second);
-        if !is_written(D::output_bytes(&tag), digits) {
+        if !is_made::<F>(key, first, second, digits) {
             return false;
         }
     }
     true
 }
 
+// Whether the tag of a text in two pieces is this one: made at once, by copies, and put aside.
+fn is_made<F: ResumableFunction>(key: &[u8], first: &[u8], second: &[u8], digits: &str) -> bool {
+    let at_once = tag_of::<BlockHasher<F>>(key, first, second);
+    let by_copies = tag_by_copies::<BlockHasher<F>>(key, first, second);
+    is_written(at_once.as_bytes(), digits)
+        && is_written(by_copies.as_bytes(), digits)
+        && is_there::<F>(tag_put_aside::<BlockHasher<F>>(key, first, second), digits)
+        && is_there::<F>(tag_by_slices::<F>(key, first, second), digits)
+}
+
+// Whether there is a tag, and it is this one.
+fn is_there<F: ResumableFunction>(tag: Option<F::Digest>, digits: &str) -> bool {
+    match tag {
+        Some(tag) => is_written(tag.as_bytes(), digits),
+        None => false,
+    }
+}
+
 // Whether the tags by RIPEMD-128 and by RIPEMD-160 are these.
 fn have_tags(keys: (&[u8], &[u8]), text: &[u8], by_128: &str, by_160: &str) -> bool {
-    has_tag::<Ripemd128>(keys.0, text, by_128) && has_tag::<Ripemd160>(keys.1, text, by_160)
+    has_tag::<Ripemd128Function>(keys.0, text, by_128)
+        && has_tag::<Ripemd160Function>(keys.1, text, by_160)
 }
 
 // What RFC 2286 publishes.
@@ -89,14 +109,14 @@ fn published_tags(rt: HostRuntime) {
 
 // Whether the tags of the text whose bytes are 0 to 149 are these, under keys of these lengths,
 // whose bytes are 1, 2 and so on.
-fn have_counted_tags<D: BlockDigest>(tags: &[(usize, &str)]) -> bool {
+fn have_counted_tags<F: ResumableFunction>(tags: &[(usize, &str)]) -> bool {
     let mut key = [0; 200];
     count_up(&mut key, 1);
     let mut text = [0; 150];
     count_up(&mut text, 0);
     for tag in tags {
         let (len, digits) = *tag;
-        if len > 200 || !has_tag::<D>(&key[..len], &text, digits) {
+        if len > 200 || !has_tag::<F>(&key[..len], &text, digits) {
             return false;
         }
     }
@@ -188,8 +208,8 @@ const TAGS_320: [(usize, &str); 7] = [
 
 #[test]
 fn keys_of_many_lengths(rt: HostRuntime) {
-    assert!(rt; have_counted_tags::<Ripemd128>(&TAGS_128));
-    assert!(rt; have_counted_tags::<Ripemd160>(&TAGS_160));
-    assert!(rt; have_counted_tags::<Ripemd256>(&TAGS_256));
-    assert!(rt; have_counted_tags::<Ripemd320>(&TAGS_320));
+    assert!(rt; have_counted_tags::<Ripemd128Function>(&TAGS_128));
+    assert!(rt; have_counted_tags::<Ripemd160Function>(&TAGS_160));
+    assert!(rt; have_counted_tags::<Ripemd256Function>(&TAGS_256));
+    assert!(rt; have_counted_tags::<Ripemd320Function>(&TAGS_320));
 }

@@ -1,4 +1,4 @@
-use Rattle.std.proofs.Common.{◌≡◌, ◌++◌, ap, ◌∙◌}
+use Rattle.std.proofs.Common.{◌++◌, ap, ◌∙◌}
 use Rattle.ripemd.specs.Laws.{fed_twice, finish_fed}
 use Rattle.ripemd.specs.States.{initial_state, finish, fed}
 use Rattle.ripemd_uses.proofs.calling.digest_put_aside.Goals as goal

@@ -1,15 +1,19 @@
-use crate::batch;
-use crate::block::digest_of_short;
-use crate::calling::{
+//! The tests of `ripemd_uses`, the callers that the pages show.
+
+use ripemd::replay::Command;
+use ripemd::{Ripemd128, Ripemd160};
+use ripemd_uses::batch;
+use ripemd_uses::block::digest_of_short;
+use ripemd_uses::calling::{
     collision_of_160, digest_of, digest_of_reader, digest_of_three, digest_put_aside, digests_of,
     has_digest, has_digest_by, places_of_collision, prefixed_digest, prefixed_digest_160,
     toy_digest, toy_put_aside, toy_replay,
 };
-use crate::commands::digests_of_ends;
-use crate::readme::digest_of_two;
-use crate::tags::{has_tag, has_tag_by, tag_of_two, toy_tag};
-use ripemd::replay::Command;
-use ripemd::{Ripemd128, Ripemd160};
+use ripemd_uses::commands::digests_of_ends;
+use ripemd_uses::readme::digest_of_two;
+use ripemd_uses::tags::{
+    has_tag, has_tag_by, saved_after, tag_of_saved, tag_of_two, tags_of_two, toy_tag,
+};
 use std::io;
 use std::io::Read;
 
@@ -150,6 +154,15 @@ fn tags(rt: HostRuntime) {
     assert!(rt; !has_tag(&key, b"Hi There", &TAG[..19]));
     assert!(rt; !has_tag(&key, b"Hi there", &TAG));
     assert!(rt; has_tag_by::<Ripemd128>(&key[..16], b"Hi There", &TAG_128));
+}
+
+#[test]
+fn tags_of_many(rt: HostRuntime) {
+    let (first, second) = tags_of_two(&[0x0b; 20], b"Hi There", b"Hi There");
+    assert!(rt; first == TAG && second == TAG);
+    let saved = saved_after::<Ripemd160>(&[0x0b; 20], b"Hi");
+    let loaded = tag_of_saved::<Ripemd160>(&saved, b" There");
+    assert!(rt; loaded.is_ok_and(|tag| tag == TAG));
 }
 
 // The expected values come from Python's `hmac` over a textbook program of the toy.
