@@ -1,10 +1,10 @@
--- Hashers that stand for a key and a text, and their tag.
+-- Hash states that stand for a key and a text, and their tag.
 use Rattle.std.proofs.Common.{◌≡◌, ℕ, List, [], ◌++◌, sym, ap, ◌∙◌}
 use Rattle.std.proofs.lemmas.List.{append-nil, append_assoc}
 use Rattle.ripemd.specs.Standard.Hashing.{hash}
 use Rattle.ripemd.specs.States.{Meaning, initial_state, fed, finish}
 use Rattle.ripemd.specs.Laws.{fed_twice, finish_fed}
-use Rattle.ripemd_mac.specs.Keyed.{key_block, masked, inner_message, outer_message, hmac, KeyedState, StandsFor}
+use Rattle.ripemd_mac.specs.Keyed.{key_block, masked, inner_message, outer_message, hmac, KeyedState, fed_text, tag_of, StandsFor}
 
 module _ (start : List ℕ) (step : List ℕ → List ℕ → List ℕ) (output : List ℕ → List ℕ) (key : List ℕ) where
   abbrev h : List ℕ → List ℕ
@@ -22,33 +22,27 @@ module _ (start : List ℕ) (step : List ℕ → List ℕ → List ℕ) (output 
   }
 
   -- one more piece
-  pub stands_for_more : (text bytes : List ℕ) (old new : KeyedState) → StandsFor start step output key text old
-      → new.inner ≡ fed step old.inner bytes → new.outer ≡ old.outer
-      → StandsFor start step output key (text ++ bytes) new
+  pub stands_for_more : (text bytes : List ℕ) (state : KeyedState) → StandsFor start step output key text state
+      → StandsFor start step output key (text ++ bytes) (fed_text step state bytes)
   unfolding inner_message
-  stands_for_more text bytes old new stands inner outer = record {
-    inner = inner ∙ ap (λ (m : Meaning). fed step m bytes) stands.inner
+  stands_for_more text bytes state stands = record {
+    inner = ap (λ (m : Meaning). fed step m bytes) stands.inner
         ∙ fed_twice step (initial_state start) (inner_message h key text) bytes
         ∙ ap (fed step (initial_state start)) (append_assoc (masked 0x36 (key_block h key)) text bytes);
-    outer = outer ∙ stands.outer;
+    outer = stands.outer;
   }
 
-  -- the first hash
-  pub inner_hash : (text digest : List ℕ) (state : KeyedState) → StandsFor start step output key text state
-      → digest ≡ finish step output state.inner → digest ≡ h (inner_message h key text)
-  inner_hash text digest state stands is =
-      is ∙ ap (finish step output) stands.inner ∙ finish_fed start step output (inner_message h key text)
-
   -- the tag
-  pub tag_of : (text digest bytes tag : List ℕ) (state : KeyedState) (last : Meaning)
-      → StandsFor start step output key text state
-      → digest ≡ finish step output state.inner → bytes ≡ digest → last ≡ fed step state.outer bytes
-      → tag ≡ finish step output last → tag ≡ hmac h key text
+  pub tag_of_text : (text : List ℕ) (state : KeyedState) → StandsFor start step output key text state
+      → tag_of step output state ≡ hmac h key text
   unfolding hmac outer_message
-  tag_of text digest bytes tag state last stands inner same outer is =
-      let first = same ∙ inner_hash text digest state stands inner in
-      let all : last ≡ fed step (initial_state start) (outer_message h key text) =
-      outer ∙ ap (λ (m : Meaning). fed step m bytes) stands.outer
-      ∙ fed_twice step (initial_state start) (masked 0x5c (key_block h key)) bytes
-      ∙ ap (λ (bs : List ℕ). fed step (initial_state start) (masked 0x5c (key_block h key) ++ bs)) first in
-      is ∙ ap (finish step output) all ∙ finish_fed start step output (outer_message h key text)
+  tag_of_text text state stands =
+      let masked_key = masked 0x5c (key_block h key) in
+      let first : finish step output state.inner ≡ h (inner_message h key text) =
+      ap (finish step output) stands.inner ∙ finish_fed start step output (inner_message h key text) in
+      let all : fed step state.outer (finish step output state.inner)
+      ≡ fed step (initial_state start) (outer_message h key text) =
+      ap (λ (m : Meaning). fed step m (finish step output state.inner)) stands.outer
+      ∙ fed_twice step (initial_state start) masked_key (finish step output state.inner)
+      ∙ ap (λ (bs : List ℕ). fed step (initial_state start) (masked_key ++ bs)) first in
+      ap (finish step output) all ∙ finish_fed start step output (outer_message h key text)

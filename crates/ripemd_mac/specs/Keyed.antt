@@ -2,7 +2,7 @@
 use Rattle.std.specs.Prelude.{◌≡◌, ℕ, ◌-◌, nat_le, if◌then◌else◌, List, ◌++◌, length, map, replicate}
 use Rattle.std.specs.Int.Bits.{bit_xor}
 use Rattle.ripemd.specs.Standard.Hashing.{hash}
-use Rattle.ripemd.specs.States.{Meaning, initial_state, fed}
+use Rattle.ripemd.specs.States.{Meaning, initial_state, fed, finish}
 
 -- ---- the tag
 
@@ -35,6 +35,14 @@ hmac hash key text = hash (outer_message hash key text)
 pub record KeyedState : Type 0 where
   pub inner : Meaning
   pub outer : Meaning
+
+-- after more bytes of the text: the inner hash has taken them in
+abbrev pub fed_text : (List ℕ → List ℕ → List ℕ) → KeyedState → List ℕ → KeyedState
+fed_text step state bytes = record state { inner = fed step state.inner bytes }
+
+-- the tag that they give: the digest of the outer hash after it has taken in the digest of the inner one
+abbrev pub tag_of : (List ℕ → List ℕ → List ℕ) → (List ℕ → List ℕ) → KeyedState → List ℕ
+tag_of step output state = finish step output (fed step state.outer (finish step output state.inner))
 
 -- they stand for a key and a text: the one has taken in the inner message, and the other the masked key
 -- of the outer one

@@ -2,7 +2,16 @@
 
 ghost use Rattle.std.specs.Prelude.{◌≡◌, ◌≤◌, ◌↔◌, ℕ, List, [], ◌++◌, length, IsTrue, IfOk, IfErr, ⊤};
 ghost use Rattle.ripemd.specs.Standard.Hashing.{hash};
-ghost use Rattle.ripemd_mac.specs.Keyed.{filled, key_block, masked, hmac, KeyedState, StandsFor};
+ghost use Rattle.ripemd_mac.specs.Keyed.{
+  KeyedState,
+  StandsFor,
+  fed_text,
+  filled,
+  hmac,
+  key_block,
+  masked,
+  tag_of,
+};
 ghost use Rattle.ripemd_mac.specs.Saved.{IsKeyedState, IsSavedAs, IsSavedFor};
 
 use ripemd::digest::{BlockDigest, Digest, SerializableState};
@@ -50,7 +59,8 @@ impl<D: BlockDigest> Hmac<D> {
 
     /// Takes bytes in, after those of the text so far.
     pub fn update(&mut self, bytes: &[u8])
-        ensures { (key text : List ℕ) → StandsFor D.start D.step D.output key text self.old
+        ensures state { self.new ≡ fed_text D.step self.old bytes.now }
+        ensures text { (key text : List ℕ) → StandsFor D.start D.step D.output key text self.old
             → StandsFor D.start D.step D.output key (text ++ bytes.now) self.new }
     {
         self.inner.update(bytes);
@@ -69,7 +79,8 @@ impl<D: BlockDigest> Hmac<D> {
 
     /// Gives the tag.
     pub fn finalize(self) -> D::Output
-        ensures tag { (key text : List ℕ) → StandsFor D.start D.step D.output key text self
+        ensures state { D.bytes_of result ≡ tag_of D.step D.output self }
+        ensures text { (key text : List ℕ) → StandsFor D.start D.step D.output key text self
             → D.bytes_of result ≡ hmac (hash D.start D.step D.output) key text }
         ensures size { length (D.bytes_of result) ≡ D.OUTPUT_SIZE }
     {
@@ -81,7 +92,8 @@ impl<D: BlockDigest> Hmac<D> {
     /// length, whatever they are, and refuses a tag of another length at once. That the time is
     /// always the same is not proved.
     pub fn verify(self, tag: &[u8]) -> bool
-        ensures { (key text : List ℕ) → StandsFor D.start D.step D.output key text self
+        ensures state { IsTrue result ↔ (tag.now ≡ tag_of D.step D.output self) }
+        ensures text { (key text : List ℕ) → StandsFor D.start D.step D.output key text self
             → IsTrue result ↔ (tag.now ≡ hmac (hash D.start D.step D.output) key text) }
     {
         let whole = self.finalize();
