@@ -1,9 +1,9 @@
 # What people who install software are used to, over the toolchain's command `rt`.
 #
 #   make               builds the program, proved, as crates/ripemd_sum/out/ripemd_sum
-#   make check         the gate: every proof, every wrong body and every test from nothing, and then
-#                      the built program on its cases
-#   make quick         the proofs and tests, without the wrong bodies and over what earlier runs kept
+#   make check         the gate: every proof, every mutant and every test from nothing, and then the
+#                      built program and libraries on their cases
+#   make quick         the proofs and tests, without the mutants and over what earlier runs kept
 #   make bench         the program's speed on 256 MiB in memory, beside the library's and that of other
 #                      programs, as a table; then, with a C compiler, the speed of the functions that C
 #                      calls beside those of other libraries; that of lists of messages, at once

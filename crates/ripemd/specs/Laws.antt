@@ -1,4 +1,4 @@
--- The laws of a hash under way, for callers of the hashers: name them in `using(..)`.
+-- The laws of hash states, for callers of the hashers: name them in `using(..)`.
 use Rattle.std.proofs.Common.{◌≡◌, ℕ, ◌^◌, ◌<◌, List, [], ◌++◌, length, sym, ◌∙◌, arith}
 use Rattle.ripemd_block.specs.Standard.Words.{block_size}
 use Rattle.ripemd_block.specs.Standard.Hashing.{hash}

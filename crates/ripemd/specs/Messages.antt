@@ -2,6 +2,6 @@
 use Rattle.std.specs.Prelude.{◌≡◌, ℕ, List}
 use Rattle.ripemd_block.specs.States.{Meaning, initial_state, fed}
 
--- a hash under way of this message: that of a new hasher, fed the message
+-- the hash state of this message: that of a new hasher, fed the message
 pub record IsHashing (start : List ℕ) (step : List ℕ → List ℕ → List ℕ) (message : List ℕ) (h : Meaning) : Type 0 where
   pub is : h ≡ fed step (initial_state start) message

@@ -10,7 +10,7 @@ use Rattle.ripemd.specs.declared.replay.ReplayError.TheVariants.{NoHasher, NoSav
 
 -- ---- what the machine has
 
--- a hash under way: the state that it began from, and the bytes that it was fed since
+-- a hasher or saved state: the state that it began from, and the bytes that it was fed since
 pub record History : Type 0 where
   pub origin : Meaning
   pub bytes : List ℕ

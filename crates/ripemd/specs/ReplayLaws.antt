@@ -35,7 +35,7 @@ size m = length m.hashers + length m.saved + length m.digests
 
 module _ (start : List ℕ) (step : List ℕ → List ℕ → List ℕ) (output : List ℕ → List ℕ)
     (is_valid : Meaning → Type 0) (state_bytes : Meaning → List ℕ) where
-  -- ---- what memory was refused to
+  -- ---- lists that run out of memory
 
   -- a command that needs room adds one thing
   pub grows : (c : Command) (m n : Machine) → Does start step output is_valid state_bytes c m n → Grows c
@@ -82,7 +82,7 @@ module _ (start : List ℕ) (step : List ℕ → List ℕ → List ℕ) (output 
       let same : b ≡ c = cc in (b, refl, good_first b n (rw (same, ← before) does))
   first_at (b ∷ cs) (suc place) c m n (i, first, others) at does = (b, refl, good_first b i first)
 
-  -- where memory was refused, the list begins with such a command
+  -- at `OutOfMemory` the list begins with such a command
   pub first_of_refused : (cs : List Command) → Stops start step output is_valid state_bytes cs OutOfMemory
       → (c : Command) × (slice_get cs 0 ≡ Some c) × IsGoodFirst c
   first_of_refused cs stops =
@@ -113,7 +113,7 @@ module _ (start : List ℕ) (step : List ℕ → List ℕ → List ℕ) (output 
   state_there (Import y) x m n (h, valid, same, is) named = (h, valid, cc)
   state_there _ x m n does named = absurd (cc)
 
-  -- so an error that explains it can only be that memory was refused
+  -- so an error that explains it can only be `OutOfMemory`
   bad_or_refused : (m n : Machine) (place : ℕ) (c : Command) (error : ReplayError)
       → Does start step output is_valid state_bytes c m n
       → Explains start step output is_valid state_bytes m place c error → error ≡ OutOfMemory
@@ -138,7 +138,7 @@ module _ (start : List ℕ) (step : List ℕ → List ℕ → List ℕ) (output 
   saved_or_state (Import y) i x named state = cc
   saved_or_state _ i x named state = cc
 
-  -- two errors that explain the same command are the same, unless one is that memory was refused
+  -- two errors that explain the same command are the same, unless one is `OutOfMemory`
   one_reason : (m : Machine) (place : ℕ) (c : Command) (e f : ReplayError)
       → Explains start step output is_valid state_bytes m place c e
       → Explains start step output is_valid state_bytes m place c f → e ≢ OutOfMemory → f ≢ OutOfMemory → e ≡ f
@@ -200,7 +200,7 @@ module _ (start : List ℕ) (step : List ℕ → List ℕ → List ℕ) (output 
     gives_once cs ds es (m, runs, are) (n, others, too) =
         sym are ∙ ap (λ (m : Machine). m.digests) (runs_once cs empty_machine m n runs others) ∙ too
 
-    -- and then no error explains anything, but that memory was refused
+    -- and then no error explains anything, but `OutOfMemory`
     pub gives_or_stops : (cs : List Command) (ds : List (List ℕ)) (e : ReplayError)
         → Gives start step output is_valid state_bytes cs ds → Stops start step output is_valid state_bytes cs e
         → e ≡ OutOfMemory
@@ -212,7 +212,7 @@ module _ (start : List ℕ) (step : List ℕ → List ℕ → List ℕ) (output 
         bad_or_refused stops.machine l stops.place stops.command e
         (subst (λ (k : Machine). Does start step output is_valid state_bytes stops.command k l) here does) stops.reason
 
-    -- what explains an earlier place can only be that memory was refused
+    -- what explains an earlier place can only be `OutOfMemory`
     earlier : (cs : List Command) (e f : ReplayError) (a : Stops start step output is_valid state_bytes cs e)
         (b : Stops start step output is_valid state_bytes cs f) → a.place < b.place → e ≡ OutOfMemory
     earlier cs e f a b less =

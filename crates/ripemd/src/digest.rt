@@ -10,8 +10,8 @@ pub use ripemd_block::block_api::{
     HashMeaning, OutputSizeUser, Reset, SerializableState, UpdateCore,
 };
 
-/// A hash function that takes a message in piece by piece and gives its digest at the end (1996).
-/// Its calls have the names of the Rust crate `digest`, and none of them takes memory or fails.
+/// A hash function that takes a message in pieces and gives its digest at the end (1996). Its calls
+/// have the names of the Rust crate `digest`, and none of them allocates or fails.
 ///
 /// How a message is cut into pieces makes no difference. Its length in bits is taken modulo 2^64,
 /// as MD4 does, and so is the count of its blocks.
@@ -31,7 +31,7 @@ pub trait Digest: OutputSizeUser + HashMeaning + Drop {
         ensures message { IsHashing start step [] (Self.meaning result) }
         ensures valid { Self.is_valid (Self.meaning result) };
 
-    /// Takes bytes in, after those of the message so far.
+    /// Appends bytes to the message.
     fn update(&mut self, bytes: &[u8])
         ensures fed { Self.meaning self.new ≡ fed step (Self.meaning self.old) bytes.now }
         ensures message { (message : List ℕ)
@@ -57,7 +57,7 @@ pub trait Digest: OutputSizeUser + HashMeaning + Drop {
         ensures valid_old { Self.is_valid (Self.meaning self.old) }
         ensures valid_new { Self.is_valid (Self.meaning self.new) };
 
-    /// A second hasher of the same message. From then on each goes its own way.
+    /// A second hasher of the same message, independent of this one.
     fn duplicate(&self) -> Self
         ensures same { result ≡ self.now }
         ensures valid { Self.is_valid (Self.meaning self.now) };
@@ -81,7 +81,7 @@ pub trait Digest: OutputSizeUser + HashMeaning + Drop {
         hasher
     }
 
-    /// The hasher after `bytes` are taken in, so that calls can stand in a row.
+    /// The hasher after an `update` with `bytes`, so that calls can be chained.
     final fn chain_update(self, bytes: &[u8]) -> Self
     where
         Self: Sized,

@@ -17,7 +17,7 @@ use std::fmt;
 use std::marker::Model;
 
 /// The hasher of a block function, by the padding of MD4 (1996): its block core, and the tail of the
-/// message after the core's blocks. Contracts see both as one hash under way.
+/// message after the core's blocks. Contracts see both as one hash state.
 #[derive(Drop)]
 pub struct BlockHasher<F: HashFunction> {
     pub(crate) core: BlockCore<F>,

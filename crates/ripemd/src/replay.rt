@@ -15,7 +15,7 @@ use thiserror::Error;
 pub enum Command<'a> {
     /// Makes the next hasher, of the empty message.
     New,
-    /// Feeds bytes to a hasher.
+    /// Updates a hasher with bytes.
     Update { hasher: usize, bytes: &'a [u8] },
     /// Makes a hasher as new.
     Reset { hasher: usize },
@@ -43,7 +43,7 @@ pub enum ReplayError {
     /// No state is saved as the bytes of the command, which is an import.
     #[error("command {at}: bad state")]
     BadState { at: usize },
-    /// Memory was refused, before any command that is bad.
+    /// An allocation failed, before any command that is bad.
     #[error("out of memory")]
     OutOfMemory,
 }
@@ -51,16 +51,16 @@ pub enum ReplayError {
 /// Runs commands in order, from no hashers and no saved states, and gives the digests of the
 /// hashers that were finished, in that order.
 ///
-/// Each digest is the hash of the bytes that its hasher was fed since it was new: by `New`, `Reset`
-/// or `Finish`. A fork has the bytes of the hasher that it was copied from, and a loaded hasher
-/// those that the saved one had. Where the bytes follow a state handed in by `Import`, the digest
-/// is that of this state, fed these bytes.
+/// Each digest is the hash of the bytes that its hasher was updated with since it was new: by `New`,
+/// `Reset` or `Finish`. A fork has the bytes of the hasher that it was copied from, and a loaded
+/// hasher those that the saved one had. Where the bytes follow a state given by `Import`, the digest
+/// is that of this state, updated with these bytes.
 ///
 /// # Errors
 ///
 /// `NoHasher`, `NoSaved` or `BadState` at the first bad command, before which all others ran. A
-/// command is found to be bad before it asks for memory. `OutOfMemory` if memory is refused to a
-/// command before that one. An empty list, and a list whose first command is bad, ask for none.
+/// command is found to be bad before it allocates. `OutOfMemory` if an allocation of a command
+/// before that one fails. An empty list, and a list whose first command is bad, allocate nothing.
 pub fn replay<D: Digest + SerializableState>(
     alloc: Global,
     commands: &[Command],

@@ -40,7 +40,7 @@ pub struct Collision<S> {
 ///
 /// `None` exactly if the messages are equal or their hashes differ. Each message has fewer than
 /// 2^61 bytes, since from there on messages of different lengths can end in the same length in
-/// bits. It searches for nothing, goes over both walks once and takes no memory.
+/// bits. It searches for nothing, hashes both messages once and allocates nothing.
 pub fn collision_witness<F: BlockFunction>(a: &[u8], b: &[u8]) -> Option<Collision<F::State>>
     requires a_short { length a.now < 2 ^ 61 }
     requires b_short { length b.now < 2 ^ 61 }

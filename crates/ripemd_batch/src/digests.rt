@@ -93,7 +93,7 @@ impl BatchDigest for Ripemd320 {
 }
 
 /// Writes the digest of each message to the place in `digests` that the message has in `messages`.
-/// There must be as many places as messages. No memory is taken.
+/// There must be as many places as messages. Nothing is allocated.
 ///
 /// The messages go in groups of eight as they come, and a group takes as long as its longest
 /// message if all its messages are hashed at once. A group that would leave most lanes without work

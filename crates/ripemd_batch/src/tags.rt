@@ -11,7 +11,7 @@ use ripemd_mac::keyed::{filled, masked_keys};
 
 /// Writes the tag of each text under the key (RFC 2104) to the place in `tags` that the text has in
 /// `texts`: the tag that `Hmac` gives. The key has any length, and there must be as many places as
-/// texts. No memory is taken.
+/// texts. Nothing is allocated.
 ///
 /// The key is hashed once for all texts. These go in groups of eight as they come, as messages do in
 /// [`digest_each`](crate::digests::digest_each), and so it is fastest if neighbours have like

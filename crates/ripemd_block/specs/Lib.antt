@@ -1,4 +1,4 @@
--- The standard's definitions, and those of a hash under way: what has to be believed.
+-- The standard's definitions, and those of hash states: what has to be trusted.
 pub mod Standard
 pub mod States
 -- What the authors published, as facts of these definitions.

@@ -1,5 +1,5 @@
 -- What the authors published of the four variants, as facts that these definitions compute to:
--- digests, the tables of the two lines, and the constants. Then states under way: finishing where the
+-- digests, the tables of the two lines, and the constants. Then hash states: finishing where the
 -- length or the count wraps, saved bytes, and which states can occur.
 use Rattle.std.specs.Prelude.{◌≡◌, ℕ, ◌+◌, ◌-◌, ◌*◌, ◌/◌, ◌%◌, ◌^◌, ◌<◌, ◌≤◌, codes}
 use Rattle.std.specs.Prelude.{List, [], ◌∷◌, ◌++◌, replicate, drop, map, slice_index}

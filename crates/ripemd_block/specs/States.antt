@@ -1,4 +1,4 @@
--- A hash under way (this repository's own): what a core or a hasher stands for while a message
+-- A hash state (this repository's own): what a core or a hasher stands for while a message
 -- comes in, how it takes bytes in, how it is finished, and the bytes that it is saved as.
 use Rattle.std.specs.Prelude.{◌≡◌, ℕ, ◌+◌, ◌-◌, ◌*◌, ◌%◌, ◌^◌, ◌<◌, List, [], ◌∷◌, ◌++◌, length, replicate}
 use Rattle.std.specs.List.{All}
@@ -8,7 +8,7 @@ use Rattle.ripemd_block.specs.Standard.Hashing.{with_padding, blocks, partial_bl
 
 -- ---- the state
 
--- a hash under way: the words after the whole blocks so far, how many those were modulo 2 ^ 64, and
+-- a hash state: the words (chaining value) after the whole blocks so far, how many those were modulo 2 ^ 64, and
 -- the tail of bytes after them
 pub record Meaning : Type 0 where
   pub words : List ℕ

@@ -63,7 +63,7 @@ pub trait AlgorithmName {
         ensures styled { WritesStyledOnOk W.write_str_gives f.old result name f.new };
 }
 
-/// A core or a hasher that contracts see as a hash under way: words, a count of blocks and a tail.
+/// A core or a hasher that contracts see as a hash state: chaining value, count of blocks, tail.
 pub trait HashMeaning {
     // What it stands for.
     ghost meaning: { Self → Meaning };
@@ -248,8 +248,8 @@ pub trait HashFunction: BlockFunction<Digest: ByteArray> {
     ghost digest_most: { Self.Digest.LEN ≤ 64 };
 }
 
-/// A block function that gives a state back from its output, so that a hash under way can be saved
-/// as bytes and taken up again: it is saved as its state's output, the count of its blocks, and its
+/// A block function that gives a state back from its output, so that a hash state can be saved as
+/// bytes and loaded: it is saved as its chaining value's output, the count of its blocks, and its
 /// tail.
 pub trait ResumableFunction: HashFunction {
     /// The saved bytes of a core: 8 more than a digest has.

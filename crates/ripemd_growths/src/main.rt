@@ -1,9 +1,9 @@
-//! The calls that take memory, `replay` and `mac_collision`, where a growth may be refused. Each call
-//! has to give the right answer, or the error of memory; where it was refused, the same call has to
-//! give the right answer afterwards.
+//! The calls that allocate, `replay` and `mac_collision`, where an allocation may fail. Each call has
+//! to give the right answer, or the error of memory; after the error, the same call has to give the
+//! right answer.
 //!
-//! For each byte on standard input it first takes memory once and gives it back, so that a run can
-//! have any growth of these calls refused, whichever allocation it is that fails.
+//! For each byte on standard input it first allocates once and frees that. So the allocation that
+//! fails, the same one in each run, can be any of these calls'.
 #![tactic(auto)]
 
 mod lists;

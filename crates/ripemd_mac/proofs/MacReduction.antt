@@ -55,7 +55,7 @@ module _ (hash : List ℕ → List ℕ) (key : List ℕ) where
     something differ together (inl same) = differ same
     something differ together (inr apart) = together apart
 
-    -- an answer that is there, one that is not, and none for want of memory
+    -- an answer that is there, one that is not, and out of memory
     pub some_answer : {X E : Type 0} (r : Result (Option X) E) (x : X) → r ≡ Ok (Some x) → a ≢ b
         → ¬ (hmac hash key a ≢ hmac hash key b) → (r ≡ Ok None) ↔ Nothing
     some_answer r x is differ together = (λ none. absurd (cc), λ nothing. absurd (something differ together nothing))

@@ -1,4 +1,4 @@
--- HMAC, the hash of a text under a key, by any hash function (RFC 2104), and a computation of it under way.
+-- HMAC, the hash of a text under a key, by any hash function (RFC 2104), and its states.
 use Rattle.std.specs.Prelude.{◌≡◌, ℕ, ◌-◌, nat_le, if◌then◌else◌, List, ◌++◌, length, map, replicate}
 use Rattle.std.specs.Int.Bits.{bit_xor}
 use Rattle.ripemd.specs.Standard.Hashing.{hash}
@@ -29,9 +29,9 @@ outer_message hash key text = masked 0x5c (key_block hash key) ++ hash (inner_me
 unfoldable pub hmac : (List ℕ → List ℕ) → List ℕ → List ℕ → List ℕ
 hmac hash key text = hash (outer_message hash key text)
 
--- ---- a tag under way
+-- ---- HMAC states
 
--- two hashes under way
+-- two hash states
 pub record KeyedState : Type 0 where
   pub inner : Meaning
   pub outer : Meaning

@@ -1,6 +1,6 @@
 -- What the tag of a text under a key is.
 pub mod Keyed
--- What a tag under way is saved as.
+-- What an HMAC state is saved as.
 pub mod Saved
 -- To what collisions two texts with one tag lead.
 pub mod MacCollisions

@@ -1,9 +1,9 @@
--- The bytes that a tag under way is saved as (this repository's own).
+-- The bytes that an HMAC state is saved as (this repository's own).
 use Rattle.std.specs.Prelude.{◌≡◌, ℕ, List}
 use Rattle.ripemd.specs.States.{Meaning}
 use Rattle.ripemd_mac.specs.Keyed.{KeyedState, StandsFor}
 
--- it can occur, if both hashes under way can
+-- it can occur, if both hash states can
 pub record IsKeyedState (is_valid : Meaning → Type 0) (state : KeyedState) : Type 0 where
   pub inner : is_valid state.inner
   pub outer : is_valid state.outer
@@ -13,7 +13,7 @@ pub record IsSavedAs (state_bytes : Meaning → List ℕ) (first second : List �
   pub inner : state_bytes state.inner ≡ first
   pub outer : state_bytes state.outer ≡ second
 
--- these are the bytes of a tag under way that stands for this key and this text
+-- these are the bytes of a state that stands for this key and this text
 pub record IsSavedFor (start : List ℕ) (step : List ℕ → List ℕ → List ℕ) (output : List ℕ → List ℕ)
     (is_valid : Meaning → Type 0) (state_bytes : Meaning → List ℕ) (key text first second : List ℕ) : Type 0 where
   pub state : KeyedState

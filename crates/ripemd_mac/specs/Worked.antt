@@ -1,5 +1,5 @@
--- Worked examples, as facts of these definitions: tags, a tag under way that is saved, and collisions of a small
--- block function.
+-- Worked examples, as facts of these definitions: tags, a saved HMAC state, and collisions of a small block
+-- function.
 use Rattle.std.specs.Prelude.{◌≡◌, ℕ, ◌+◌, ◌-◌, ◌*◌, ◌%◌, codes, List, [], ◌∷◌, ◌++◌, length, replicate, slice_index_or}
 use Rattle.ripemd.specs.Standard.Words.{word_bytes}
 use Rattle.ripemd.specs.Standard.Compression.{ripemd128, ripemd160, compress}
@@ -32,7 +32,7 @@ pub record WorkedTags : Type 0 where
   pub whole_block : hexadecimal (hmac (ripemd ripemd160) (replicate 64 0xaa) (codes "Hi There"))
       ≡ codes "551147982017d1c4764ecba3a5f5ea96153b0c5d"
 
--- ---- a tag under way, saved
+-- ---- a saved HMAC state
 
 -- the bytes of a RIPEMD-160 hasher after one block and a tail, where the bytes of its words are these
 abbrev pub saved_after_a_block : List ℕ → List ℕ → List ℕ

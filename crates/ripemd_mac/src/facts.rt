@@ -9,7 +9,7 @@ pub fn tags()
     ensures { WorkedTags }
 {}
 
-/// A tag of RIPEMD-160 under way and the bytes that it is saved as, with the words that OpenSSL has.
+/// A saved HMAC state of RIPEMD-160, with the chaining values that OpenSSL has.
 pub fn saved_tag()
     ensures { WorkedSaved }
 {}

@@ -19,9 +19,9 @@ use ripemd::state::DeserializeStateError;
 use std::alloc::AllocError;
 use std::marker::Model;
 
-/// The tag of a text under a key, by any hash function (RFC 2104). The text comes in piece by
-/// piece, and how it is cut makes no difference. No call takes memory, and `load` and `load_slices`
-/// alone can fail.
+/// An HMAC state: the tag of a text under a key, by any hash function (RFC 2104). The text comes in
+/// pieces, and how it is cut makes no difference. No call allocates, and only `load` and
+/// `load_slices` can fail.
 #[derive(Drop)]
 pub struct Hmac<D: Digest> {
     inner: D,
@@ -34,8 +34,8 @@ impl<D: Digest> Model for Hmac<D> {
     ghost view = { λ h. record { inner = D.meaning h.inner; outer = D.meaning h.outer } };
 }
 
-/// The saved bytes of a tag under way: those of its two hashers, as `serialize` gives them. They are
-/// as secret as the key: whoever has them can make tags under it.
+/// The saved bytes of an HMAC state: those of its two hashers, as `serialize` gives them. They are as
+/// secret as the key: whoever has them can make tags under it.
 #[derive(Clone, Copy)]
 pub struct SavedTag<S> {
     /// Those of the hasher of the key masked by 0x36 and the text so far.
@@ -45,8 +45,8 @@ pub struct SavedTag<S> {
 }
 
 impl<D: BlockDigest> Hmac<D> {
-    /// The tag under a key, of the empty text. The key has any length; one longer than 64 bytes
-    /// counts as its digest, and one that is shorter as if zeros followed it to 64 bytes.
+    /// The state of a key and the empty text. The key has any length: a longer one than 64 bytes
+    /// counts as its digest, and a shorter one is filled with zeros to 64 bytes.
     pub fn new(key: &[u8]) -> Hmac<D>
         ensures { StandsFor D.start D.step D.output key.now [] result }
     {
@@ -57,7 +57,7 @@ impl<D: BlockDigest> Hmac<D> {
         }
     }
 
-    /// Takes bytes in, after those of the text so far.
+    /// Appends bytes to the text.
     pub fn update(&mut self, bytes: &[u8])
         ensures state { self.new ≡ fed_text D.step self.old bytes.now }
         ensures text { (key text : List ℕ) → StandsFor D.start D.step D.output key text self.old
@@ -66,8 +66,8 @@ impl<D: BlockDigest> Hmac<D> {
         self.inner.update(bytes);
     }
 
-    /// A second tag under way, of the same key and text. From then on each goes its own way. Copies
-    /// of one that has taken in no text yet spare hashing the key again for each of many texts.
+    /// A second state of the same key and text, independent of this one. Copies of a state of the
+    /// empty text spare hashing the key again for each of many texts.
     pub fn duplicate(&self) -> Hmac<D>
         ensures { result ≡ self.now }
     {
@@ -112,8 +112,8 @@ impl<D: BlockDigest> Clone for Hmac<D> {
 }
 
 impl<D: BlockDigest + SerializableState> Hmac<D> {
-    /// Saves the tag under way, so that it can be taken up later, here or elsewhere. The saved
-    /// bytes are as secret as the key.
+    /// Saves the state, to be loaded later, here or elsewhere. The saved bytes are as secret as the
+    /// key.
     pub fn save(&self) -> SavedTag<D::Saved>
         ensures bytes { IsSavedAs D.state_bytes
             (D.saved_bytes result.inner) (D.saved_bytes result.outer) self.now }
@@ -129,11 +129,11 @@ impl<D: BlockDigest + SerializableState> Hmac<D> {
         }
     }
 
-    /// Makes the tag under way that was saved as these bytes.
+    /// Makes the state that was saved as these bytes.
     ///
     /// # Errors
     ///
-    /// `DeserializeStateError` if no tag under way is saved as these bytes.
+    /// `DeserializeStateError` if no state is saved as these bytes.
     pub fn load(saved: &SavedTag<D::Saved>) -> Result<Hmac<D>, DeserializeStateError>
         ensures ok { IfOk result (IsSavedAs D.state_bytes
             (D.saved_bytes saved.now.inner) (D.saved_bytes saved.now.outer)) }
@@ -152,13 +152,13 @@ impl<D: BlockDigest + SerializableState> Hmac<D> {
         })
     }
 
-    /// Makes the tag under way that was saved as these bytes: all the bytes of the first array of a
+    /// Makes the state that was saved as these bytes: all the bytes of the first array of a
     /// `SavedTag`, and all of the second.
     ///
     /// # Errors
     ///
-    /// `DeserializeStateError` if no tag under way is saved as these bytes, so for any other number
-    /// of them than the arrays have.
+    /// `DeserializeStateError` if no state is saved as these bytes, so for any other number of them
+    /// than the arrays have.
     pub fn load_slices(inner: &[u8], outer: &[u8]) -> Result<Hmac<D>, DeserializeStateError>
         ensures ok { IfOk result (IsSavedAs D.state_bytes inner.now outer.now) }
         ensures valid { IfOk result (IsKeyedState D.is_valid) }

@@ -33,8 +33,8 @@ pub enum MacCollision<S> {
 ///
 /// # Errors
 ///
-/// `AllocError` if memory is refused to the inner messages. Where their digests differ, or the
-/// texts are equal, it takes none.
+/// `AllocError` if the inner messages cannot be allocated. Where their digests differ, or the texts
+/// are equal, it allocates nothing.
 pub fn mac_collision<D: BlockDigest>(
     alloc: Global,
     key: &[u8],

@@ -31,7 +31,7 @@ const LONGEST_LINE: usize = 81;
 /// line in lower case hexadecimal.
 ///
 /// The reader has not failed and has given nothing yet, and the writer has not failed. Nothing is
-/// written before the reader has ended, and no memory is taken.
+/// written before the reader has ended, and nothing is allocated.
 ///
 /// # Errors
 ///
@@ -134,7 +134,7 @@ fn write_tag<F: HashFunction, R: Read, W: Write>(
     write_sum::<Hmac<BlockHasher<F>>, R, W>(Hmac::new(key), reader, writer, limit)
 }
 
-// The run for one digest or tag under way, whose line is not too long.
+// The run for one hasher or `Hmac`, whose line is not too long.
 fn write_sum<S: Summing, R: Read, W: Write>(
     summing: S,
     reader: &mut Tracked<R>,
@@ -163,7 +163,7 @@ fn write_sum<S: Summing, R: Read, W: Write>(
 /// Reads to the end of the reader, and gives the digest of all that it gave.
 ///
 /// The reader has not failed and has given nothing yet. It is read through an array of 4,096
-/// bytes, and no memory is taken.
+/// bytes, and nothing is allocated.
 ///
 /// # Errors
 ///

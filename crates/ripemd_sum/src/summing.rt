@@ -11,7 +11,7 @@ use ripemd::digest::{BlockDigest, OutputSizeUser};
 use ripemd_mac::Hmac;
 use std::marker::Model;
 
-/// A digest or a tag under way: it takes a text in piece by piece and gives its sum at the end.
+/// What a run updates, a hasher or an `Hmac`: it takes a text in pieces and gives its sum at the end.
 pub trait Summing: Sized + Drop {
     /// The hash function whose digests its sums are.
     type Hash: Digest;
@@ -22,7 +22,7 @@ pub trait Summing: Sized + Drop {
     // The sum of a text under a key.
     ghost sum_of: { List ℕ → List ℕ → List ℕ };
 
-    /// Takes bytes in, after those of the text so far.
+    /// Appends bytes to the text.
     fn update(&mut self, bytes: &[u8])
         ensures { (key text : List ℕ) → stands_for self.old key text
             → stands_for self.new key (text ++ bytes.now) };
@@ -33,7 +33,7 @@ pub trait Summing: Sized + Drop {
             → Self.Hash.bytes_of result ≡ sum_of key text };
 }
 
-/// A digest under way.
+/// A hasher, whose sum has no key.
 #[derive(Drop)]
 pub struct Plain<D: Digest> {
     hasher: D,

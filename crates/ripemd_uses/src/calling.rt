@@ -78,7 +78,7 @@ ghost use Rattle.ripemd.specs.Saving.{IsSavedAfter};
 use ripemd::digest::SerializableState;
 use ripemd::state::DeserializeStateError;
 
-/// What to keep before the first piece of a message.
+/// What to save before the first piece of a message.
 #[tactic(auto, using(ripemd::specs::Saving::saved_first))]
 pub fn start_saved() -> [u8; 92]
     ensures { IsSavedAfter ripemd160 [] result }
@@ -86,11 +86,11 @@ pub fn start_saved() -> [u8; 92]
     Ripemd160::new().serialize()
 }
 
-/// What to keep after the next piece of a message, given what was kept before it.
+/// What to save after the next piece of a message, given what was saved before it.
 ///
 /// # Errors
 ///
-/// `DeserializeStateError` if these bytes were kept after no message.
+/// `DeserializeStateError` if these bytes were saved after no message.
 #[tactic(auto, using(ripemd::specs::Saving::saved_next, ripemd::specs::Saving::saved_after_none))]
 pub fn update_saved(saved: &[u8; 92], piece: &[u8]) -> Result<[u8; 92], DeserializeStateError>
     ensures ok { IfOk result (λ next. (message : List ℕ)
@@ -104,11 +104,11 @@ pub fn update_saved(saved: &[u8; 92], piece: &[u8]) -> Result<[u8; 92], Deserial
     Ok(hasher.serialize())
 }
 
-/// The RIPEMD-160 digest of the message, given what was kept after its last piece.
+/// The RIPEMD-160 digest of the message, given what was saved after its last piece.
 ///
 /// # Errors
 ///
-/// `DeserializeStateError` if these bytes were kept after no message.
+/// `DeserializeStateError` if these bytes were saved after no message.
 #[tactic(auto, using(ripemd::specs::Saving::saved_digest, ripemd::specs::Saving::saved_after_none))]
 pub fn digest_of_saved(saved: &[u8; 92]) -> Result<[u8; 20], DeserializeStateError>
     ensures ok { IfOk result (λ digest. (message : List ℕ)
@@ -125,7 +125,7 @@ pub fn digest_of_saved(saved: &[u8; 92]) -> Result<[u8; 20], DeserializeStateErr
 ///
 /// # Errors
 ///
-/// `DeserializeStateError` if these bytes were kept after no message.
+/// `DeserializeStateError` if these bytes were saved after no message.
 pub fn saved_has_digest(
     saved: &[u8; 92],
     expected: &[u8; 20],
@@ -140,7 +140,7 @@ pub fn saved_has_digest(
     Ok(digest == *expected)
 }
 
-/// The digest of a message in two pieces, put aside between them, by any hash function.
+/// The digest of a message in two pieces, saved between them, by any hash function.
 pub fn digest_put_aside<D: Digest + SerializableState>(first: &[u8], second: &[u8]) -> D::Output
     ensures { D.bytes_of result ≡ hash D.start D.step D.output (first.now ++ second.now) }
 {

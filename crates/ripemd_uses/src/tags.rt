@@ -43,7 +43,7 @@ pub fn has_tag_by<D: BlockDigest>(key: &[u8], text: &[u8], tag: &[u8]) -> bool
 ghost use Rattle.std.specs.Prelude.{ℕ, List, []};
 ghost use Rattle.ripemd_mac.specs.Keyed.{StandsFor};
 
-/// The tag of a text, given a tag under way that has taken in a key and no text yet.
+/// The tag of a text, given the state of a key and the empty text.
 pub fn tag_under<D: BlockDigest>(keyed: &Hmac<D>, text: &[u8]) -> D::Output
     ensures { (key : List ℕ) → StandsFor D.start D.step D.output key [] keyed.now
         → D.bytes_of result ≡ hmac (hash D.start D.step D.output) key text.now }
@@ -72,7 +72,7 @@ use ripemd::digest::SerializableState;
 use ripemd::state::DeserializeStateError;
 use ripemd_mac::SavedTag;
 
-/// What to keep of the tag of a text after its first piece.
+/// What to save of the tag of a text after its first piece.
 pub fn saved_after<D: BlockDigest + SerializableState>(
     key: &[u8],
     first: &[u8],
@@ -85,11 +85,11 @@ pub fn saved_after<D: BlockDigest + SerializableState>(
     mac.save()
 }
 
-/// The tag of a text, given what was kept before its last piece, and this piece.
+/// The tag of a text, given what was saved before its last piece, and this piece.
 ///
 /// # Errors
 ///
-/// `DeserializeStateError` if no tag under way is saved as these bytes.
+/// `DeserializeStateError` if no state is saved as these bytes.
 pub fn tag_of_saved<D: BlockDigest + SerializableState>(
     saved: &SavedTag<D::Saved>,
     last: &[u8],

@@ -1,4 +1,4 @@
--- Laws of the states of a hash under way, for every block function: however bytes come in, the
+-- Laws of hash states, for every block function: however bytes come in, the
 -- state is that of all of them, and a finished state gives the hash.
 use Rattle.std.proofs.Common.{◌≡◌, ℕ, ◌+◌, ◌*◌, ◌%◌, ◌^◌, ◌<◌, refl, ap, arith}
 use Rattle.std.proofs.Common.{List, [], ◌∷◌, ◌++◌, length, replicate}

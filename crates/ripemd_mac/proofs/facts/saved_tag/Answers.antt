@@ -6,7 +6,7 @@ use Rattle.ripemd_mac.specs.Keyed.{key_block, inner_message}
 use Rattle.ripemd_mac.specs.Worked.{saved_outer}
 use Rattle.ripemd_mac.proofs.facts.saved_tag.Goals as goal
 
--- the two hashes under way
+-- the two hash states
 abbrev inner : Meaning
 inner = record {
   words = 0xe6081cb3 ∷ 0xf2b8b5ad ∷ 0x705421c4 ∷ 0xb049affd ∷ 0x16f0e84e ∷ [];
