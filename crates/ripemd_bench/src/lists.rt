@@ -1,8 +1,8 @@
 //! Lists of messages of unlike lengths, at once and one after another: how many lists have the same
-//! digests and the same tags both ways, and how long the one way takes, as a part of the other, for
-//! lists whose groups would leave lanes without work.
+//! digests and the same tags both ways, and the time of the one way divided by that of the other, for
+//! lists whose groups would leave lanes idle.
 
-use ripemd::{Ripemd128, Ripemd160, Ripemd256, Ripemd320};
+use crate::variants::{Task, VARIANTS, of_variant};
 use ripemd_batch::{BatchDigest, digest_each, tag_each};
 use ripemd_mac::Hmac;
 use std::io;
@@ -82,7 +82,7 @@ fn write<D: BatchDigest>(what: What, at_once: bool, messages: &[&[u8]], places: 
 }
 
 // Whether a list has the same digests or tags both ways. `other` has as many places as `places`.
-fn agrees<D: BatchDigest>(
+pub(super) fn agrees<D: BatchDigest>(
     what: What,
     messages: &[&[u8]],
     places: &mut [D::Output],
@@ -119,7 +119,7 @@ fn time_of<D: BatchDigest>(
 
 // The least time of both ways in turn, of slices of a millisecond or so: how many hundredths the
 // first is of the second.
-fn hundredths<D: BatchDigest>(
+pub(super) fn hundredths<D: BatchDigest>(
     rt: &HostRuntime,
     what: What,
     messages: &[&[u8]],
@@ -136,6 +136,16 @@ fn hundredths<D: BatchDigest>(
     Ok(at_once.saturating_mul(100) / one_by_one.max(1))
 }
 
+// Prints the part of a list for each variant, and ends its row.
+fn print_parts<'a>(rt: &HostRuntime, what: What, messages: &'a [&'a [u8]]) -> io::Result<()> {
+    let task = Task::Compare { what, messages };
+    for variant in VARIANTS {
+        let part = of_variant(rt, variant, &task)?;
+        print!(rt; " | {}.{:02}", part / 100, part % 100)?;
+    }
+    println!(rt; " |")
+}
+
 // Prints a row of the table: the list, and the part for each variant.
 fn print_row(
     rt: &HostRuntime,
@@ -147,21 +157,11 @@ fn print_row(
     if count > 32 {
         return Ok(());
     }
-    let messages = &messages[..count];
     print!(rt; "| {} of {} bytes", list[0], list[1])?;
     if list[2] > 0 {
         print!(rt; ", {} of {}", list[2], list[3])?;
     }
-    let parts = [
-        hundredths::<Ripemd128>(rt, what, messages, &mut [[0; 16]; 32][..count])?,
-        hundredths::<Ripemd160>(rt, what, messages, &mut [[0; 20]; 32][..count])?,
-        hundredths::<Ripemd256>(rt, what, messages, &mut [[0; 32]; 32][..count])?,
-        hundredths::<Ripemd320>(rt, what, messages, &mut [[0; 40]; 32][..count])?,
-    ];
-    for part in parts {
-        print!(rt; " | {}.{:02}", part / 100, part % 100)?;
-    }
-    println!(rt; " |")
+    print_parts(rt, what, &messages[..count])
 }
 
 // Prints, as a table, the time that each list takes at once, as a part of that one after another.
@@ -180,10 +180,13 @@ pub(super) fn print_table(rt: &HostRuntime, what: What) -> io::Result<()> {
 }
 
 // How many texts are timed under one key.
-const TEXTS: usize = 8_192;
+pub(super) const TEXTS: usize = 8_192;
 
 // The least time for the tag of each of many texts of 32 bytes, in nanoseconds.
-fn time_of_tag<D: BatchDigest>(rt: &HostRuntime, places: &mut [D::Output]) -> io::Result<u64> {
+pub(super) fn time_of_tag<D: BatchDigest>(
+    rt: &HostRuntime,
+    places: &mut [D::Output],
+) -> io::Result<u64> {
     let bytes = [b'a'; 32];
     let texts: [&[u8]; TEXTS] = [&bytes; TEXTS];
     let mut least = u64::MAX;
@@ -195,47 +198,27 @@ fn time_of_tag<D: BatchDigest>(rt: &HostRuntime, places: &mut [D::Output]) -> io
 
 // Prints these times, as a table with one row.
 pub(super) fn print_times(rt: &HostRuntime) -> io::Result<()> {
-    let times = [
-        time_of_tag::<Ripemd128>(rt, &mut [[0; 16]; TEXTS])?,
-        time_of_tag::<Ripemd160>(rt, &mut [[0; 20]; TEXTS])?,
-        time_of_tag::<Ripemd256>(rt, &mut [[0; 32]; TEXTS])?,
-        time_of_tag::<Ripemd320>(rt, &mut [[0; 40]; TEXTS])?,
-    ];
     println!(rt;
         "| 8,192 texts of 32 bytes, ours at once, ns for each tag | 128 | 160 | 256 | 320 |"
     )?;
     println!(rt; "|---|---|---|---|---|")?;
     print!(rt; "| ours")?;
-    for time in times {
+    for variant in VARIANTS {
+        let time = of_variant(rt, variant, &Task::TimeTags)?;
         print!(rt; " | {time}")?;
     }
     println!(rt; " |")
 }
 
 // Whether a list has the same digests or tags both ways, by all four hash functions.
-fn all_agree(what: What, messages: &[&[u8]]) -> bool {
-    let count = messages.len().min(32);
-    agrees::<Ripemd128>(
-        what,
-        messages,
-        &mut [[0; 16]; 32][..count],
-        &mut [[0; 16]; 32][..count],
-    ) && agrees::<Ripemd160>(
-        what,
-        messages,
-        &mut [[0; 20]; 32][..count],
-        &mut [[0; 20]; 32][..count],
-    ) && agrees::<Ripemd256>(
-        what,
-        messages,
-        &mut [[0; 32]; 32][..count],
-        &mut [[0; 32]; 32][..count],
-    ) && agrees::<Ripemd320>(
-        what,
-        messages,
-        &mut [[0; 40]; 32][..count],
-        &mut [[0; 40]; 32][..count],
-    )
+fn all_agree(rt: &HostRuntime, what: What, messages: &[&[u8]]) -> io::Result<bool> {
+    for variant in VARIANTS {
+        let task = Task::Agree { what, messages };
+        if of_variant(rt, variant, &task)? == 0 {
+            return Ok(false);
+        }
+    }
+    Ok(true)
 }
 
 // Prints how many lists have the same digests and tags both ways.
@@ -246,7 +229,7 @@ pub(super) fn print_agreement(rt: &HostRuntime) -> io::Result<()> {
         let (messages, count) = messages_of(list, &bytes);
         if count <= 32 {
             let messages = &messages[..count];
-            if all_agree(What::Digests, messages) && all_agree(What::Tags, messages) {
+            if all_agree(rt, What::Digests, messages)? && all_agree(rt, What::Tags, messages)? {
                 agreeing = agreeing.saturating_add(1);
             }
         }

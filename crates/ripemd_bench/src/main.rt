@@ -8,26 +8,12 @@
 
 mod lists;
 mod tags;
+mod variants;
 
 use lists::What;
-use ripemd::{Digest, Ripemd128, Ripemd160, Ripemd256, Ripemd320};
 use std::process::ExitCode;
 use std::{env, io};
-
-// Hashes so many MiB of the letter "a", in pieces of 64 KiB, and prints the digest in hexadecimal.
-fn hash_much<D: Digest>(rt: &HostRuntime, mebibytes: usize) -> io::Result<()> {
-    let piece = [b'a'; 65_536];
-    let mut hasher = D::new();
-    for _ in 0..mebibytes {
-        for _ in 0..16 {
-            hasher.update(&piece);
-        }
-    }
-    for byte in D::output_bytes(&hasher.finalize()) {
-        print!(rt; "{byte:02x}")?;
-    }
-    println!(rt; "")
-}
+use variants::{Task, of_variant};
 
 // What the arguments ask for; the status is 2 if they are unknown.
 fn perform(rt: &HostRuntime) -> io::Result<ExitCode> {
@@ -37,15 +23,16 @@ fn perform(rt: &HostRuntime) -> io::Result<ExitCode> {
         [name] => name.as_str(),
         _ => return Ok(ExitCode::from(2)),
     };
+    let much = Task::Hash { mebibytes: 256 };
     match name {
         "" => {
-            hash_much::<Ripemd160>(rt, 1)?;
+            of_variant(rt, 160, &Task::Hash { mebibytes: 1 })?;
             lists::print_agreement(rt)?;
         }
-        "128" => hash_much::<Ripemd128>(rt, 256)?,
-        "160" => hash_much::<Ripemd160>(rt, 256)?,
-        "256" => hash_much::<Ripemd256>(rt, 256)?,
-        "320" => hash_much::<Ripemd320>(rt, 256)?,
+        "128" => drop(of_variant(rt, 128, &much)?),
+        "160" => drop(of_variant(rt, 160, &much)?),
+        "256" => drop(of_variant(rt, 256, &much)?),
+        "320" => drop(of_variant(rt, 320, &much)?),
         "lists" => {
             lists::print_table(rt, What::Digests)?;
             println!(rt; "")?;
@@ -53,7 +40,7 @@ fn perform(rt: &HostRuntime) -> io::Result<ExitCode> {
             println!(rt; "")?;
             lists::print_times(rt)?;
         }
-        "tags" => tags::print_table(rt)?,
+        "tags" => drop(of_variant(rt, 160, &Task::Verify)?),
         _ => return Ok(ExitCode::from(2)),
     }
     Ok(ExitCode::SUCCESS)

@@ -1,6 +1,6 @@
 //! How long `verify` takes for a right tag, and for tags of which one byte is wrong.
 
-use ripemd::Ripemd160;
+use ripemd_batch::BatchDigest;
 use ripemd_mac::Hmac;
 use std::io;
 use std::time::Instant;
@@ -12,7 +12,11 @@ const CALLS: u32 = 200;
 static NAMES: [&str; 3] = ["right", "first byte wrong", "last byte wrong"];
 
 // The time of a slice of calls, in nanoseconds, and how many of them took the tag.
-fn time_of(rt: &HostRuntime, keyed: &Hmac<Ripemd160>, tag: &[u8]) -> io::Result<(u64, u32)> {
+fn time_of<D: BatchDigest>(
+    rt: &HostRuntime,
+    keyed: &Hmac<D>,
+    tag: &[u8],
+) -> io::Result<(u64, u32)> {
     let start = Instant::now(rt)?;
     let mut taken: u32 = 0;
     for _ in 0..CALLS {
@@ -24,20 +28,25 @@ fn time_of(rt: &HostRuntime, keyed: &Hmac<Ripemd160>, tag: &[u8]) -> io::Result<
     Ok((time, taken))
 }
 
-// Prints, as a table, the least time of `verify` for each of the tags, of slices in turn: RIPEMD-160,
-// a text of 8 bytes.
-pub(super) fn print_table(rt: &HostRuntime) -> io::Result<()> {
-    let mut keyed = Hmac::<Ripemd160>::new(&[0x0b; 20]);
+// Prints, as a table, the least time of `verify` for each of the tags, of slices in turn, of a text
+// of 8 bytes.
+pub(super) fn print_verification<D: BatchDigest>(rt: &HostRuntime) -> io::Result<()> {
+    let mut keyed = Hmac::<D>::new(&[0x0b; 20]);
     keyed.update(b"Hi There");
     let right = keyed.duplicate().finalize();
-    let mut tags = [right; 3];
+    let right = D::output_bytes(&right);
+    let mut tags = [[0; 64]; 3];
+    for i in 0..3 {
+        tags[i][..right.len()].copy_from_slice(right);
+    }
+    let last = right.len().saturating_sub(1);
     tags[1][0] ^= 1;
-    tags[2][19] ^= 1;
+    tags[2][last] ^= 1;
     let mut least = [u64::MAX; 3];
     let mut taken = [0; 3];
     for _ in 0..5_000 {
         for i in 0..3 {
-            let (time, count) = time_of(rt, &keyed, &tags[i])?;
+            let (time, count) = time_of::<D>(rt, &keyed, &tags[i][..right.len()])?;
             least[i] = least[i].min(time);
             taken[i] = count;
         }

@@ -90,7 +90,7 @@ pub fn start_saved() -> [u8; 92]
 ///
 /// # Errors
 ///
-/// `DeserializeStateError` if these bytes were saved after no message.
+/// `DeserializeStateError`, only if no message leads to these bytes.
 #[tactic(auto, using(ripemd::specs::Saving::saved_next, ripemd::specs::Saving::saved_after_none))]
 pub fn update_saved(saved: &[u8; 92], piece: &[u8]) -> Result<[u8; 92], DeserializeStateError>
     ensures ok { IfOk result (λ next. (message : List ℕ)
@@ -108,7 +108,7 @@ pub fn update_saved(saved: &[u8; 92], piece: &[u8]) -> Result<[u8; 92], Deserial
 ///
 /// # Errors
 ///
-/// `DeserializeStateError` if these bytes were saved after no message.
+/// `DeserializeStateError`, only if no message leads to these bytes.
 #[tactic(auto, using(ripemd::specs::Saving::saved_digest, ripemd::specs::Saving::saved_after_none))]
 pub fn digest_of_saved(saved: &[u8; 92]) -> Result<[u8; 20], DeserializeStateError>
     ensures ok { IfOk result (λ digest. (message : List ℕ)
@@ -125,7 +125,7 @@ pub fn digest_of_saved(saved: &[u8; 92]) -> Result<[u8; 20], DeserializeStateErr
 ///
 /// # Errors
 ///
-/// `DeserializeStateError` if these bytes were saved after no message.
+/// `DeserializeStateError`, only if no message leads to these bytes.
 pub fn saved_has_digest(
     saved: &[u8; 92],
     expected: &[u8; 20],
@@ -196,7 +196,7 @@ ghost use Rattle.ripemd.specs.Collisions.{IsCollision};
 use ripemd::block_api::Ripemd160Core;
 use ripemd::witness::{Collision, collision_witness};
 
-/// From two messages with one RIPEMD-160 digest, the collision of its compression function to which
+/// From two messages with the same RIPEMD-160 digest, the collision of its compression function to which
 /// they lead; `None` exactly if the messages are equal or their digests differ.
 pub fn collision_of_160(a: &[u8], b: &[u8]) -> Option<Collision<[u32; 5]>>
     requires a_short { length a.now < 2 ^ 61 }

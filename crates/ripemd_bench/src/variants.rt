@@ -1,0 +1,84 @@
+//! What is measured of each variant. Each hasher is named at one place alone, since a call at a hasher
+//! takes the prover long.
+
+use crate::lists::{TEXTS, What, agrees, hundredths, time_of_tag};
+use crate::tags::print_verification;
+use ripemd::{Ripemd128, Ripemd160, Ripemd256, Ripemd320};
+use ripemd_batch::BatchDigest;
+use std::io;
+
+// The variants, by the bits of their digests.
+pub(super) const VARIANTS: [usize; 4] = [128, 160, 256, 320];
+
+// What to do by a hash function, and what the number says that comes of it.
+#[derive(Drop)]
+pub(super) enum Task<'a> {
+    // Prints the digest of so many MiB; 0.
+    Hash {
+        mebibytes: usize,
+    },
+    // Whether a list has the same digests or tags both ways: 1 or 0.
+    Agree {
+        what: What,
+        messages: &'a [&'a [u8]],
+    },
+    // The time of a list at once, in hundredths of that of one after another.
+    Compare {
+        what: What,
+        messages: &'a [&'a [u8]],
+    },
+    // The time for each tag of many texts, in nanoseconds.
+    TimeTags,
+    // Prints the time of verifying right and wrong tags; 0.
+    Verify,
+}
+
+// Hashes so many MiB of the letter "a", in pieces of 64 KiB, and prints the digest in hexadecimal.
+fn hash_much<D: BatchDigest>(rt: &HostRuntime, mebibytes: usize) -> io::Result<()> {
+    let piece = [b'a'; 65_536];
+    let mut hasher = D::new();
+    for _ in 0..mebibytes {
+        for _ in 0..16 {
+            hasher.update(&piece);
+        }
+    }
+    for byte in D::output_bytes(&hasher.finalize()) {
+        print!(rt; "{byte:02x}")?;
+    }
+    println!(rt; "")
+}
+
+// Does a task by a hash function. Both slices have the same number of places.
+fn work<D: BatchDigest>(
+    rt: &HostRuntime,
+    task: &Task,
+    places: &mut [D::Output],
+    other: &mut [D::Output],
+) -> io::Result<u64> {
+    match task {
+        Task::Hash { mebibytes } => hash_much::<D>(rt, *mebibytes)?,
+        Task::Verify => print_verification::<D>(rt)?,
+        Task::TimeTags => return time_of_tag::<D>(rt, places),
+        Task::Agree { what, messages }
+            if messages.len() <= places.len() && messages.len() <= other.len() => {
+            let count = messages.len();
+            let agree = agrees::<D>(*what, messages, &mut places[..count], &mut other[..count]);
+            return Ok(u64::from(agree));
+        }
+        Task::Compare { what, messages } if messages.len() <= places.len() => {
+            return hundredths::<D>(rt, *what, messages, &mut places[..messages.len()]);
+        }
+        _ => {}
+    }
+    Ok(0)
+}
+
+// Does a task by the hash function of a variant.
+pub(super) fn of_variant(rt: &HostRuntime, variant: usize, task: &Task) -> io::Result<u64> {
+    match variant {
+        128 => work::<Ripemd128>(rt, task, &mut [[0; 16]; TEXTS], &mut [[0; 16]; TEXTS]),
+        160 => work::<Ripemd160>(rt, task, &mut [[0; 20]; TEXTS], &mut [[0; 20]; TEXTS]),
+        256 => work::<Ripemd256>(rt, task, &mut [[0; 32]; TEXTS], &mut [[0; 32]; TEXTS]),
+        _ => work::<Ripemd320>(rt, task, &mut [[0; 40]; TEXTS], &mut [[0; 40]; TEXTS]),
+    }
+}
