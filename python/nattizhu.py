@@ -21,8 +21,9 @@ import threading
 
 __all__ = [
     "Hasher", "Hmac", "algorithms_available", "digest_each", "file_digest",
-    "from_state", "hmac_digest", "hmac_from_state", "hmac_new", "new",
-    "ripemd128", "ripemd160", "ripemd256", "ripemd320",
+    "from_state", "hmac_digest", "hmac_digest_each", "hmac_from_state",
+    "hmac_new", "hmac_verify", "new", "ripemd128", "ripemd160", "ripemd256",
+    "ripemd320",
 ]
 __version__ = "0.1.0"
 
@@ -63,8 +64,8 @@ def _load():
 
 class _Calls:
     """The functions of the library for one variant. Those that answer a bool
-    always answer True here, but for tag_verify and, in from_state, final:
-    the states are the library's own."""
+    always answer True here, but for the two that verify and, in from_state,
+    final: the states are the library's own."""
 
     def __init__(self, library, name):
         self.name = name
@@ -86,6 +87,11 @@ class _Calls:
         self.update = call("_update_nonnull", [place] + read)
         self.final = call("_final", [place, place])
         self.tag = call("_nonnull", read + read + [place], None, "hmac_")
+        self.tag_each = call(
+            "_each_nonnull", 2 * read + [number, place, number],
+            prefix="hmac_")
+        self.tag_verify_text = call(
+            "_verify_text_nonnull", 3 * read, prefix="hmac_")
         self.tag_init = call("_init_nonnull", [place] + read, None, "hmac_")
         self.tag_update = call(
             "_update_nonnull", [place] + read, prefix="hmac_")
@@ -324,6 +330,11 @@ def digest_each(name, records, size):
     It raises ValueError if size is not at least 1, or the bytes are not a
     whole number of records."""
     calls = _calls(name)
+    return _each(calls, calls.each, (), records, size)
+
+
+def _each(calls, call, arguments, records, size):
+    """What the call writes of each record, after these arguments."""
     size = operator.index(size)
     if size < 1:
         raise ValueError("the size of a record must be at least 1")
@@ -334,9 +345,9 @@ def digest_each(name, records, size):
                              f"records of {size} bytes")
         if count == 0:
             return []
-        digests = (ctypes.c_char * (count * calls.size))()
-        calls.each(held.address, held.length, size, digests, count)
-    written = digests.raw
+        places = (ctypes.c_char * (count * calls.size))()
+        call(*arguments, held.address, held.length, size, places, count)
+    written = places.raw
     return [written[at:at + calls.size]
             for at in range(0, len(written), calls.size)]
 
@@ -386,6 +397,26 @@ def hmac_digest(key, msg, name):
         calls.tag(
             secret.address, secret.length, text.address, text.length, tag)
     return tag.raw
+
+
+def hmac_verify(key, msg, name, tag):
+    """Whether these bytes are the tag of msg under the key, all of them. All
+    bytes of a tag of the right length are compared, whatever they are."""
+    calls = _calls(name)
+    with _Bytes(key) as secret, _Bytes(msg) as text, _Bytes(tag) as held:
+        return calls.tag_verify_text(
+            secret.address, secret.length, text.address, text.length,
+            held.address, held.length)
+
+
+def hmac_digest_each(key, records, size, name):
+    """The list of the tags under one key of the records, each of size bytes,
+    which lie one after another in records. It raises ValueError as
+    digest_each does."""
+    calls = _calls(name)
+    with _Bytes(key) as secret:
+        return _each(calls, calls.tag_each, (secret.address, secret.length),
+                     records, size)
 
 
 def hmac_from_state(name, state):

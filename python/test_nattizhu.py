@@ -227,6 +227,8 @@ class Buffers(unittest.TestCase):
         data.extend(b"d")  # refused while a buffer of it is held
         with self.assertRaises(ValueError):
             nattizhu.digest_each("ripemd160", data, 3)
+        with self.assertRaises(ValueError):
+            nattizhu.hmac_digest_each(data, data, 3, "ripemd160")
         data.extend(b"e")
         with self.assertRaises(ValueError):
             nattizhu.from_state("ripemd160", data)
@@ -246,6 +248,12 @@ class Buffers(unittest.TestCase):
             for call in (lambda: nattizhu.hmac_new(data, b"", "ripemd160"),
                          lambda: nattizhu.hmac_digest(b"", data, "ripemd160"),
                          lambda: nattizhu.digest_each("ripemd160", data, 1),
+                         lambda: nattizhu.hmac_digest_each(
+                             b"", data, 1, "ripemd160"),
+                         lambda: nattizhu.hmac_digest_each(
+                             data, b"", 1, "ripemd160"),
+                         lambda: nattizhu.hmac_verify(
+                             b"", b"", "ripemd160", data),
                          lambda: nattizhu.from_state("ripemd160", data),
                          lambda: nattizhu.hmac_new(
                              b"", None, "ripemd160").verify(data)):
@@ -260,7 +268,11 @@ class Errors(unittest.TestCase):
                          lambda name: nattizhu.from_state(name, bytes(92)),
                          lambda name: nattizhu.digest_each(name, b"", 1),
                          lambda name: nattizhu.hmac_new(b"", b"", name),
-                         lambda name: nattizhu.hmac_digest(b"", b"", name)):
+                         lambda name: nattizhu.hmac_digest(b"", b"", name),
+                         lambda name: nattizhu.hmac_digest_each(
+                             b"", b"", 1, name),
+                         lambda name: nattizhu.hmac_verify(
+                             b"", b"", name, b"")):
                 with self.assertRaises(ValueError):
                     call(name)
         for name in (None, 160, b"ripemd160"):
@@ -271,6 +283,8 @@ class Errors(unittest.TestCase):
         for size in (0, -1, 4, 2**64 + 3, 2**70):
             with self.assertRaises(ValueError):
                 nattizhu.digest_each("ripemd160", b"abcdef", size)
+            with self.assertRaises(ValueError):
+                nattizhu.hmac_digest_each(b"key", b"abcdef", size, "ripemd160")
         with self.assertRaises(TypeError):
             nattizhu.digest_each("ripemd160", b"abcdef", 2.0)
         self.assertEqual(nattizhu.digest_each("ripemd160", b"", 2**70), [])
@@ -375,6 +389,41 @@ class Tags(unittest.TestCase):
             self.assertFalse(tag.verify(right + b"\0"))
             tag.update(b"more")
             self.assertFalse(tag.verify(right))
+
+    def test_verify_a_text(self):
+        for name in NAMES:
+            for length in (0, 20, 64, 65, 200):
+                key = bytes(range(length))
+                right = hmac.digest(key, b"text", CONSTRUCTORS[name])
+                self.assertIs(
+                    nattizhu.hmac_verify(key, b"text", name, right), True)
+                for at in range(len(right)):
+                    wrong = bytearray(right)
+                    wrong[at] ^= 1
+                    self.assertIs(
+                        nattizhu.hmac_verify(key, b"text", name, wrong), False)
+                    self.assertFalse(nattizhu.hmac_verify(
+                        key, b"text", name, right[:at]))
+                self.assertFalse(
+                    nattizhu.hmac_verify(key, b"text", name, right + b"\0"))
+                self.assertFalse(
+                    nattizhu.hmac_verify(key, b"texts", name, right))
+                self.assertFalse(
+                    nattizhu.hmac_verify(key + b"x", b"text", name, right))
+
+    def test_each(self):
+        source = random.Random(7)
+        for name in NAMES:
+            for length in (0, 20, 64, 65, 200):
+                key = source.randbytes(length)
+                for size, count in ((1, 300), (33, 0), (64, 1), (65, 9),
+                                    (1000, 129)):
+                    records = source.randbytes(size * count)
+                    self.assertEqual(
+                        nattizhu.hmac_digest_each(key, records, size, name),
+                        [hmac.digest(key, records[at:at + size],
+                                     CONSTRUCTORS[name])
+                         for at in range(0, len(records), size)])
 
     def test_copies(self):
         keyed = nattizhu.hmac_new(b"key", None, "ripemd160")

@@ -24,6 +24,8 @@ typedef struct {
   bool (*tag_update)(uint8_t *, const uint8_t *, size_t);
   bool (*tag_final)(const uint8_t *, uint8_t *);
   bool (*tag_verify)(const uint8_t *, const uint8_t *, size_t);
+  bool (*verify_text)(const uint8_t *, size_t, const uint8_t *, size_t, const uint8_t *, size_t);
+  bool (*tag_each)(const uint8_t *, size_t, const uint8_t *, size_t, size_t, uint8_t *, size_t);
 } variant;
 
 #define EACH(bits)                                                                                 \
@@ -31,6 +33,12 @@ typedef struct {
                           size_t count) {                                                          \
     return nattizhu_ripemd##bits##_each(                                                           \
         bytes, length, size, (uint8_t(*)[NATTIZHU_RIPEMD##bits##_SIZE])(void *)digests, count);    \
+  }                                                                                                \
+  static bool tag_each_##bits(const uint8_t *key, size_t key_length, const uint8_t *bytes,         \
+                              size_t length, size_t size, uint8_t *tags, size_t count) {           \
+    return nattizhu_hmac_ripemd##bits##_each(                                                      \
+        key, key_length, bytes, length, size,                                                      \
+        (uint8_t(*)[NATTIZHU_RIPEMD##bits##_SIZE])(void *)tags, count);                            \
   }
 EACH(128)
 EACH(160)
@@ -44,7 +52,8 @@ EACH(320)
         nattizhu_ripemd##bits##_init, nattizhu_ripemd##bits##_update,                              \
         nattizhu_ripemd##bits##_final, nattizhu_hmac_ripemd##bits,                                 \
         nattizhu_hmac_ripemd##bits##_init, nattizhu_hmac_ripemd##bits##_update,                    \
-        nattizhu_hmac_ripemd##bits##_final, nattizhu_hmac_ripemd##bits##_verify                    \
+        nattizhu_hmac_ripemd##bits##_final, nattizhu_hmac_ripemd##bits##_verify,                   \
+        nattizhu_hmac_ripemd##bits##_verify_text, tag_each_##bits                                  \
   }
 static const variant ALL[VARIANTS] = {FUNCTIONS(128), FUNCTIONS(160), FUNCTIONS(256),
                                       FUNCTIONS(320)};
@@ -120,6 +129,25 @@ static void try_whole(const variant *v, size_t length, const char *wanted) {
         length);
 }
 
+// A state under a key, after a text.
+typedef struct {
+  const variant *v;
+  const uint8_t *state, *key, *text;
+  size_t key_length, text_length;
+} keyed;
+
+// Tries whether these bytes are the tag, as they are or not, by the state and by the whole text.
+static void try_verify(const keyed *k, const uint8_t *tag, size_t length, bool right,
+                       const char *what) {
+  if (tag)
+    tag = copied(1, tag, length);
+  check(k->v->tag_verify(k->state, tag, length) == right, what, k->v->bits, length);
+  check(k->v->verify_text(copied(0, k->key, k->key_length), k->key_length,
+                          copied(3, k->text, k->text_length), k->text_length, tag,
+                          length) == right,
+        what, k->v->bits, length);
+}
+
 // A tag whole, in two pieces, and verified, right and wrong.
 static void try_tag(const variant *v, const uint8_t *key, size_t key_length, const uint8_t *text,
                     size_t length, const char *wanted) {
@@ -135,18 +163,17 @@ static void try_tag(const variant *v, const uint8_t *key, size_t key_length, con
   memset(tag, 7, v->size);
   right &= v->tag_final(state, tag);
   check(right && !memcmp(tag, bytes, v->size), "a tag in pieces", v->bits, key_length);
-  check(v->tag_verify(state, tag, v->size), "a right tag", v->bits, key_length);
+  const keyed k = {v, state, key, text, key_length, length};
+  try_verify(&k, bytes, v->size, true, "a right tag");
   for (size_t i = 0; i < v->size; i++) {
-    tag[i] ^= 1;
-    check(!v->tag_verify(state, tag, v->size), "a wrong tag", v->bits, i);
-    tag[i] ^= 1;
+    try_verify(&k, bytes, i, false, "a short tag");
+    bytes[i] ^= 1;
+    try_verify(&k, bytes, v->size, false, "a wrong tag");
+    bytes[i] ^= 1;
   }
-  check(!v->tag_verify(state, copied(0, bytes, v->size - 1), v->size - 1), "a short tag", v->bits,
-        key_length);
   bytes[v->size] = 0;
-  check(!v->tag_verify(state, copied(0, bytes, v->size + 1), v->size + 1), "a long tag", v->bits,
-        key_length);
-  check(!v->tag_verify(state, NULL, 0), "no tag", v->bits, key_length);
+  try_verify(&k, bytes, v->size + 1, false, "a long tag");
+  try_verify(&k, NULL, 0, false, "no tag");
 }
 
 // The message in two pieces at every cut, and then the state copied and taken on in another place.
@@ -210,12 +237,13 @@ static void try_forged(const variant *v) {
   }
 }
 
+static const size_t RECORD_SIZES[SIZES] = {0, 1, 64, 65, LONGEST};
+
 // Records of some sizes, as many as 1 to 300, against the digest of each alone.
 static void try_records(const variant *v) {
-  static const size_t sizes[SIZES] = {0, 1, 64, 65, LONGEST};
   static uint8_t alone[MOST * 40];
   for (int s = 0; s < SIZES; s++) {
-    size_t size = sizes[s];
+    size_t size = RECORD_SIZES[s];
     for (size_t i = 0; i < MOST; i++)
       v->digest(ramp + i * size, size, alone + i * v->size);
     for (size_t count = 1; count <= MOST; count++) {
@@ -226,6 +254,30 @@ static void try_records(const variant *v) {
     }
   }
   check(v->each(NULL, 0, 7, NULL, 0), "no records", v->bits, 0);
+}
+
+// The tags of records under keys of some lengths, against the tag of each alone.
+static void try_tag_records(const variant *v) {
+  static const size_t counts[] = {1, 2, 7, 8, 9, 127, 128, 129, 256, MOST};
+  static const size_t keys[] = {0, 20, 64, 65, 200};
+  static uint8_t alone[MOST * 40];
+  for (size_t k = 0; k < sizeof keys / sizeof keys[0]; k++)
+    for (int s = 0; s < SIZES; s++) {
+      size_t size = RECORD_SIZES[s];
+      const uint8_t *key = ramp + 7;
+      for (size_t i = 0; i < MOST; i++)
+        v->hmac(key, keys[k], ramp + i * size, size, alone + i * v->size);
+      for (size_t c = 0; c < sizeof counts / sizeof counts[0]; c++) {
+        size_t all = counts[c] * size;
+        uint8_t *tags = in_room(1, counts[c] * v->size);
+        memset(tags, 7, counts[c] * v->size);
+        bool done = v->tag_each(copied(2, key, keys[k]), keys[k], copied(0, ramp, all), all, size,
+                                tags, counts[c]);
+        check(done && !memcmp(tags, alone, counts[c] * v->size), "tags of records", v->bits,
+              counts[c]);
+      }
+    }
+  check(v->tag_each(ramp, 20, NULL, 0, 7, NULL, 0), "tags of no records", v->bits, 0);
 }
 
 static void try_wrong_lengths(const variant *v) {
@@ -240,6 +292,11 @@ static void try_wrong_lengths(const variant *v) {
     bool done = v->each(copied(0, ramp, wrong[i].length), wrong[i].length, wrong[i].size, digests,
                         wrong[i].count);
     check(!done && all_are(digests, size, 7), "a wrong length", v->bits, i);
+    for (size_t key = 0; key <= 200; key += 100) {
+      done = v->tag_each(copied(2, ramp, key), key, copied(0, ramp, wrong[i].length),
+                         wrong[i].length, wrong[i].size, digests, wrong[i].count);
+      check(!done && all_are(digests, size, 7), "a wrong length of tags", v->bits, i);
+    }
   }
 }
 
@@ -335,6 +392,10 @@ static void try_null(const variant *v) {
   v->tag_init(state, NULL, 0);
   check(v->tag_update(state, NULL, 0) && v->tag_verify(state, some, v->size), "a null key",
         v->bits, 0);
+  check(v->verify_text(NULL, 0, NULL, 0, some, v->size), "a null key and text verified", v->bits,
+        0);
+  check(v->tag_each(NULL, 0, NULL, 0, 0, none, 1) && !memcmp(some, none, v->size),
+        "a null key of records", v->bits, 0);
   v->digest(ramp, 0, some);
   v->digest(NULL, 0, none);
   check(!memcmp(some, none, v->size), "a null message", v->bits, 0);
@@ -354,6 +415,7 @@ int main(int argc, char **argv) {
       try_pieces(v);
       try_forged(v);
       try_records(v);
+      try_tag_records(v);
       try_wrong_lengths(v);
       try_null(v);
     }

@@ -2,7 +2,7 @@
  *
  * What each call writes and answers is proved, if its caller sees to this, which nothing checks:
  *
- * - A pointer leads to as many bytes, or digests, as the number after it says, or as its size in
+ * - A pointer leads to as many bytes, digests or tags as the number after it says, or as its size in
  *   brackets. Each of these pieces of memory is smaller than 2^63 bytes.
  * - A pointer with a number after it may be null where the number is 0. No other pointer is null.
  * - What a call writes overlaps nothing else that it is given; what it only reads may overlap.
@@ -10,8 +10,8 @@
  *
  * What was in the memory of a digest or a tag, or of a state before its init, makes no difference.
  *
- * No call takes memory, keeps a pointer, or has data of its own: all calls are reentrant, and may run
- * at once in any number of threads. Nothing is wiped from memory, neither keys nor texts. */
+ * No call allocates memory, keeps a pointer, or has data of its own: all calls are reentrant, and may
+ * run at once in any number of threads. Nothing is wiped from memory, neither keys nor texts. */
 #ifndef NATTIZHU_H
 #define NATTIZHU_H
 
@@ -110,6 +110,32 @@ bool nattizhu_hmac_ripemd256_verify_nonnull(const uint8_t state[NATTIZHU_HMAC_RI
                                             const uint8_t *tag, size_t length);
 bool nattizhu_hmac_ripemd320_verify_nonnull(const uint8_t state[NATTIZHU_HMAC_RIPEMD320_STATE_SIZE],
                                             const uint8_t *tag, size_t length);
+
+bool nattizhu_hmac_ripemd128_verify_text_nonnull(const uint8_t *key, size_t key_length,
+                                                 const uint8_t *text, size_t text_length,
+                                                 const uint8_t *tag, size_t tag_length);
+bool nattizhu_hmac_ripemd160_verify_text_nonnull(const uint8_t *key, size_t key_length,
+                                                 const uint8_t *text, size_t text_length,
+                                                 const uint8_t *tag, size_t tag_length);
+bool nattizhu_hmac_ripemd256_verify_text_nonnull(const uint8_t *key, size_t key_length,
+                                                 const uint8_t *text, size_t text_length,
+                                                 const uint8_t *tag, size_t tag_length);
+bool nattizhu_hmac_ripemd320_verify_text_nonnull(const uint8_t *key, size_t key_length,
+                                                 const uint8_t *text, size_t text_length,
+                                                 const uint8_t *tag, size_t tag_length);
+
+bool nattizhu_hmac_ripemd128_each_nonnull(const uint8_t *key, size_t key_length,
+                                          const uint8_t *bytes, size_t length, size_t size,
+                                          uint8_t (*tags)[NATTIZHU_RIPEMD128_SIZE], size_t count);
+bool nattizhu_hmac_ripemd160_each_nonnull(const uint8_t *key, size_t key_length,
+                                          const uint8_t *bytes, size_t length, size_t size,
+                                          uint8_t (*tags)[NATTIZHU_RIPEMD160_SIZE], size_t count);
+bool nattizhu_hmac_ripemd256_each_nonnull(const uint8_t *key, size_t key_length,
+                                          const uint8_t *bytes, size_t length, size_t size,
+                                          uint8_t (*tags)[NATTIZHU_RIPEMD256_SIZE], size_t count);
+bool nattizhu_hmac_ripemd320_each_nonnull(const uint8_t *key, size_t key_length,
+                                          const uint8_t *bytes, size_t length, size_t size,
+                                          uint8_t (*tags)[NATTIZHU_RIPEMD320_SIZE], size_t count);
 
 /* A pointer that is not null, in place of one that leads to no bytes. */
 static inline const uint8_t *nattizhu_some(const uint8_t *bytes) {
@@ -246,6 +272,77 @@ static inline void nattizhu_hmac_ripemd320(const uint8_t *key, size_t key_length
                                   nattizhu_some(text), text_length, tag);
 }
 
+/* Answers whether these bytes are the tag of the text under the key, all of them. It compares all bytes
+ * of a tag of the right length, whatever they are, and answers false at once to another length. It
+ * writes nothing. That the time is always the same is not proved. */
+static inline bool nattizhu_hmac_ripemd128_verify_text(const uint8_t *key, size_t key_length,
+                                                       const uint8_t *text, size_t text_length,
+                                                       const uint8_t *tag, size_t tag_length) {
+  return nattizhu_hmac_ripemd128_verify_text_nonnull(nattizhu_some(key), key_length,
+                                                     nattizhu_some(text), text_length,
+                                                     nattizhu_some(tag), tag_length);
+}
+static inline bool nattizhu_hmac_ripemd160_verify_text(const uint8_t *key, size_t key_length,
+                                                       const uint8_t *text, size_t text_length,
+                                                       const uint8_t *tag, size_t tag_length) {
+  return nattizhu_hmac_ripemd160_verify_text_nonnull(nattizhu_some(key), key_length,
+                                                     nattizhu_some(text), text_length,
+                                                     nattizhu_some(tag), tag_length);
+}
+static inline bool nattizhu_hmac_ripemd256_verify_text(const uint8_t *key, size_t key_length,
+                                                       const uint8_t *text, size_t text_length,
+                                                       const uint8_t *tag, size_t tag_length) {
+  return nattizhu_hmac_ripemd256_verify_text_nonnull(nattizhu_some(key), key_length,
+                                                     nattizhu_some(text), text_length,
+                                                     nattizhu_some(tag), tag_length);
+}
+static inline bool nattizhu_hmac_ripemd320_verify_text(const uint8_t *key, size_t key_length,
+                                                       const uint8_t *text, size_t text_length,
+                                                       const uint8_t *tag, size_t tag_length) {
+  return nattizhu_hmac_ripemd320_verify_text_nonnull(nattizhu_some(key), key_length,
+                                                     nattizhu_some(text), text_length,
+                                                     nattizhu_some(tag), tag_length);
+}
+
+/* Writes the tag of each of `count` records under one key to its place in `tags`, and answers true. The
+ * records lie as those of nattizhu_ripemd160_each, and a wrong `length` is answered as there. */
+static inline bool nattizhu_hmac_ripemd128_each(const uint8_t *key, size_t key_length,
+                                                const uint8_t *bytes, size_t length, size_t size,
+                                                uint8_t (*tags)[NATTIZHU_RIPEMD128_SIZE],
+                                                size_t count) {
+  uint8_t none[1][NATTIZHU_RIPEMD128_SIZE];
+  return nattizhu_hmac_ripemd128_each_nonnull(nattizhu_some(key), key_length,
+                                              nattizhu_some(bytes), length, size,
+                                              tags ? tags : none, count);
+}
+static inline bool nattizhu_hmac_ripemd160_each(const uint8_t *key, size_t key_length,
+                                                const uint8_t *bytes, size_t length, size_t size,
+                                                uint8_t (*tags)[NATTIZHU_RIPEMD160_SIZE],
+                                                size_t count) {
+  uint8_t none[1][NATTIZHU_RIPEMD160_SIZE];
+  return nattizhu_hmac_ripemd160_each_nonnull(nattizhu_some(key), key_length,
+                                              nattizhu_some(bytes), length, size,
+                                              tags ? tags : none, count);
+}
+static inline bool nattizhu_hmac_ripemd256_each(const uint8_t *key, size_t key_length,
+                                                const uint8_t *bytes, size_t length, size_t size,
+                                                uint8_t (*tags)[NATTIZHU_RIPEMD256_SIZE],
+                                                size_t count) {
+  uint8_t none[1][NATTIZHU_RIPEMD256_SIZE];
+  return nattizhu_hmac_ripemd256_each_nonnull(nattizhu_some(key), key_length,
+                                              nattizhu_some(bytes), length, size,
+                                              tags ? tags : none, count);
+}
+static inline bool nattizhu_hmac_ripemd320_each(const uint8_t *key, size_t key_length,
+                                                const uint8_t *bytes, size_t length, size_t size,
+                                                uint8_t (*tags)[NATTIZHU_RIPEMD320_SIZE],
+                                                size_t count) {
+  uint8_t none[1][NATTIZHU_RIPEMD320_SIZE];
+  return nattizhu_hmac_ripemd320_each_nonnull(nattizhu_some(key), key_length,
+                                              nattizhu_some(bytes), length, size,
+                                              tags ? tags : none, count);
+}
+
 /* Writes the state under this key, of the empty text. */
 static inline void nattizhu_hmac_ripemd128_init(uint8_t state[NATTIZHU_HMAC_RIPEMD128_STATE_SIZE],
                                                 const uint8_t *key, size_t length) {
@@ -294,10 +391,9 @@ bool nattizhu_hmac_ripemd256_final(const uint8_t state[NATTIZHU_HMAC_RIPEMD256_S
 bool nattizhu_hmac_ripemd320_final(const uint8_t state[NATTIZHU_HMAC_RIPEMD320_STATE_SIZE],
                                    uint8_t tag[NATTIZHU_RIPEMD320_SIZE]);
 
-/* Answers whether these `length` bytes are the tag of the text so far, all of them. It compares all
- * bytes of a tag of the right length, whatever they are, and answers false at once to another length;
- * also if no tag under way has these bytes as its state. It writes nothing. That the time is always
- * the same is not proved. */
+/* Answers whether these `length` bytes are the tag of the text so far, all of them, as
+ * nattizhu_hmac_ripemd160_verify_text does of a whole text; false too if no tag under way has these
+ * bytes as its state. */
 static inline bool nattizhu_hmac_ripemd128_verify(
     const uint8_t state[NATTIZHU_HMAC_RIPEMD128_STATE_SIZE], const uint8_t *tag, size_t length) {
   return nattizhu_hmac_ripemd128_verify_nonnull(state, nattizhu_some(tag), length);

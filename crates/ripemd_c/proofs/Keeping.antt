@@ -9,7 +9,9 @@ use Rattle.ripemd.specs.Listed.{TellsWords}
 use Rattle.ripemd.specs.Saving.{SavesAs, IsSavedAfter, saved_first}
 use Rattle.ripemd.specs.Laws.{fed_twice, finish_fed}
 use Rattle.ripemd_block.specs.Laws.Saving.{one_saved_hasher}
-use Rattle.ripemd_c.specs.Kept.{IsKept, Keeps}
+use Rattle.ripemd_mac.specs.Keyed.{KeyedState, fed_text, tag_of}
+use Rattle.ripemd_mac.specs.Saved.{IsKeyedState, IsSavedAs}
+use Rattle.ripemd_c.specs.Kept.{IsKept, Keeps, IsKeptTag}
 
 module _ {are_words : List ℕ → Type 0} {output : List ℕ → List ℕ} {n : ℕ} (tells : TellsWords are_words output n)
     {loaded : Meaning} {old : List ℕ} (valid : IsUnderWay are_words loaded) (same : core_and_tail output loaded ≡ old) where
@@ -60,3 +62,33 @@ pub message_digest : {v : Parameters} {state digest : List ℕ} {Done : Type 0}
 message_digest {v} finishes message before =
     let both = finishes (fed (compress v) (new_state v) message) (kept_after before) in
     (both.0, both.1 ∙ finish_fed v.start (compress v) word_bytes message)
+
+-- ---- tags under way
+
+module _ {are_words : List ℕ → Type 0} {output : List ℕ → List ℕ} {n : ℕ} (tells : TellsWords are_words output n)
+    {loaded : KeyedState} {inner outer : List ℕ} (valid : IsKeyedState (IsUnderWay are_words) loaded)
+    (same : IsSavedAs (core_and_tail output) inner outer loaded) where
+  -- what was loaded is what was kept
+  pub one_kept_tag : {tag : KeyedState} → IsKeptTag are_words output inner outer tag → loaded ≡ tag
+  one_kept_tag {tag} kept =
+      let first : loaded.inner ≡ tag.inner =
+      one_saved_hasher tells loaded.inner tag.inner valid.inner kept.valid.inner (same.inner ∙ sym kept.saved.inner) in
+      let second : loaded.outer ≡ tag.outer =
+      one_saved_hasher tells loaded.outer tag.outer valid.outer kept.valid.outer (same.outer ∙ sym kept.saved.outer) in
+      ap (λ (m : Meaning). record loaded { inner = m }) first ∙ ap (λ (m : Meaning). record tag { outer = m }) second
+
+  -- and is kept again after a piece
+  pub kept_tag_next : (step : List ℕ → List ℕ → List ℕ) (piece : List ℕ) {after : KeyedState} {first second : List ℕ}
+      → after ≡ fed_text step loaded piece → IsKeyedState (IsUnderWay are_words) after
+      → IsSavedAs (core_and_tail output) first second after
+      → (tag : KeyedState) → IsKeptTag are_words output inner outer tag
+      → IsKeptTag are_words output first second (fed_text step tag piece)
+  kept_tag_next step piece {after = after} update valid_after saved tag kept =
+      let after_tag : after ≡ fed_text step tag piece =
+      update ∙ ap (λ (t : KeyedState). fed_text step t piece) (one_kept_tag kept) in
+      record { valid = rw (← after_tag) valid_after; saved = rw (← after_tag) saved }
+
+  -- its tag is that of what was kept
+  pub kept_tag : (step : List ℕ → List ℕ → List ℕ) {bytes : List ℕ} → bytes ≡ tag_of step output loaded
+      → (tag : KeyedState) → IsKeptTag are_words output inner outer tag → bytes ≡ tag_of step output tag
+  kept_tag step done tag kept = done ∙ ap (tag_of step output) (one_kept_tag kept)

@@ -2,3 +2,5 @@
 pub mod Records
 -- What C keeps of a hash under way and of a tag under way.
 pub mod Kept
+-- A worked example of this.
+pub mod Worked

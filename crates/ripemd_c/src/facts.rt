@@ -1,7 +1,8 @@
-//! What is proved of the definition of records. The function does nothing; its contract is the fact.
+//! What is proved of the definitions. The functions do nothing; their contracts are the facts.
 
 ghost use Rattle.std.specs.Prelude.{◌≡◌, [], ◌∷◌, ◌++◌, replicate};
 ghost use Rattle.ripemd_c.specs.Records.{records};
+ghost use Rattle.ripemd_c.specs.Worked.{WorkedKept};
 
 /// Three records of two bytes, with a byte behind them; two that are longer than a block; and two
 /// empty ones.
@@ -11,4 +12,9 @@ pub fn worked_records()
     ensures long { records 2 65 (1 ∷ replicate 65 2 ++ 3 ∷ replicate 63 4)
         ≡ (1 ∷ replicate 64 2) ∷ (2 ∷ 3 ∷ replicate 63 4) ∷ [] }
     ensures empty { records 2 0 [] ≡ [] ∷ [] ∷ [] }
+{}
+
+/// The 92 bytes of a RIPEMD-160 hasher after 65 bytes, with OpenSSL's words, and bytes of no hasher.
+pub fn worked_states()
+    ensures { WorkedKept }
 {}

@@ -2,10 +2,11 @@
 //! a tag under way is saved as: those of its inner hasher, and then those of its outer one.
 
 ghost use Rattle.std.specs.Prelude.{◌≡◌, ◌↔◌, ℕ, List, [], ◌++◌, IsTrue, IsFalse};
-ghost use Rattle.ripemd.specs.Standard.Compression.{ripemd128, ripemd160, ripemd256, ripemd320};
+ghost use Rattle.ripemd.specs.Standard.Words.{word_bytes};
+ghost use Rattle.ripemd.specs.Standard.Compression.{compress, ripemd128, ripemd160, ripemd256, ripemd320};
 ghost use Rattle.ripemd.specs.Standard.Hashing.{hash, ripemd};
 ghost use Rattle.ripemd.specs.States.{IsUnderWay, core_and_tail};
-ghost use Rattle.ripemd_mac.specs.Keyed.{KeyedState, hmac};
+ghost use Rattle.ripemd_mac.specs.Keyed.{KeyedState, StandsFor, fed_text, tag_of, hmac};
 ghost use Rattle.ripemd_mac.specs.Saved.{IsSavedFor};
 ghost use Rattle.ripemd_c.specs.Kept.{IsKeptTag, KeepsTag, IsTagAfter};
 
@@ -60,6 +61,19 @@ pub extern "C" fn nattizhu_hmac_ripemd128_nonnull(key: &[u8], text: &[u8], tag: 
     whole_tag::<Ripemd128Function>(key, text, tag);
 }
 
+/// Whether these bytes are the tag of the text under the key, all of them, by RIPEMD-128. It
+/// compares all bytes of a tag of the right length, whatever they are.
+#[unsafe(no_mangle)]
+pub extern "C" fn nattizhu_hmac_ripemd128_verify_text_nonnull(
+    key: &[u8],
+    text: &[u8],
+    tag: &[u8],
+) -> bool
+    ensures { IsTrue result ↔ (tag.now ≡ hmac (ripemd ripemd128) key.now text.now) }
+{
+    verify_text::<Ripemd128Function>(key, text, tag)
+}
+
 /// Writes the state of a tag by RIPEMD-128, under the key, of the empty text.
 #[unsafe(no_mangle)]
 pub extern "C" fn nattizhu_hmac_ripemd128_init_nonnull(state: &mut TagState128, key: &[u8])
@@ -75,6 +89,9 @@ pub extern "C" fn nattizhu_hmac_ripemd128_update_nonnull(
     state: &mut TagState128,
     bytes: &[u8],
 ) -> bool
+    ensures state { (tag : KeyedState) → KeepsTag ripemd128 state.old.inner state.old.outer tag
+        → IsTrue result × KeepsTag ripemd128 state.new.inner state.new.outer
+        (fed_text (compress ripemd128) tag bytes.now) }
     ensures text { (key text : List ℕ)
         → IsTagAfter ripemd128 key text state.old.inner state.old.outer → IsTrue result
         × IsTagAfter ripemd128 key (text ++ bytes.now) state.new.inner state.new.outer }
@@ -89,7 +106,9 @@ pub extern "C" fn nattizhu_hmac_ripemd128_update_nonnull(
 /// nothing is written.
 #[unsafe(no_mangle)]
 pub extern "C" fn nattizhu_hmac_ripemd128_final(state: &TagState128, tag: &mut [u8; 16]) -> bool
-    ensures tag { (key text : List ℕ)
+    ensures state { (keyed : KeyedState) → KeepsTag ripemd128 state.now.inner state.now.outer keyed
+        → IsTrue result × (tag.new ≡ tag_of (compress ripemd128) word_bytes keyed) }
+    ensures text { (key text : List ℕ)
         → IsTagAfter ripemd128 key text state.now.inner state.now.outer
         → IsTrue result × (tag.new ≡ hmac (ripemd ripemd128) key text) }
     ensures refused { IsFalse result
@@ -103,7 +122,9 @@ pub extern "C" fn nattizhu_hmac_ripemd128_final(state: &TagState128, tag: &mut [
 /// state is that of no tag.
 #[unsafe(no_mangle)]
 pub extern "C" fn nattizhu_hmac_ripemd128_verify_nonnull(state: &TagState128, tag: &[u8]) -> bool
-    ensures tag { (key text : List ℕ)
+    ensures state { (keyed : KeyedState) → KeepsTag ripemd128 state.now.inner state.now.outer keyed
+        → IsTrue result ↔ (tag.now ≡ tag_of (compress ripemd128) word_bytes keyed) }
+    ensures text { (key text : List ℕ)
         → IsTagAfter ripemd128 key text state.now.inner state.now.outer
         → IsTrue result ↔ (tag.now ≡ hmac (ripemd ripemd128) key text) }
     ensures refused { ((tag : KeyedState)
@@ -118,6 +139,19 @@ pub extern "C" fn nattizhu_hmac_ripemd160_nonnull(key: &[u8], text: &[u8], tag: 
     ensures { tag.new ≡ hmac (ripemd ripemd160) key.now text.now }
 {
     whole_tag::<Ripemd160Function>(key, text, tag);
+}
+
+/// Whether these bytes are the tag of the text under the key, all of them, by RIPEMD-160. It
+/// compares all bytes of a tag of the right length, whatever they are.
+#[unsafe(no_mangle)]
+pub extern "C" fn nattizhu_hmac_ripemd160_verify_text_nonnull(
+    key: &[u8],
+    text: &[u8],
+    tag: &[u8],
+) -> bool
+    ensures { IsTrue result ↔ (tag.now ≡ hmac (ripemd ripemd160) key.now text.now) }
+{
+    verify_text::<Ripemd160Function>(key, text, tag)
 }
 
 /// Writes the state of a tag by RIPEMD-160, under the key, of the empty text.
@@ -135,6 +169,9 @@ pub extern "C" fn nattizhu_hmac_ripemd160_update_nonnull(
     state: &mut TagState160,
     bytes: &[u8],
 ) -> bool
+    ensures state { (tag : KeyedState) → KeepsTag ripemd160 state.old.inner state.old.outer tag
+        → IsTrue result × KeepsTag ripemd160 state.new.inner state.new.outer
+        (fed_text (compress ripemd160) tag bytes.now) }
     ensures text { (key text : List ℕ)
         → IsTagAfter ripemd160 key text state.old.inner state.old.outer → IsTrue result
         × IsTagAfter ripemd160 key (text ++ bytes.now) state.new.inner state.new.outer }
@@ -149,7 +186,9 @@ pub extern "C" fn nattizhu_hmac_ripemd160_update_nonnull(
 /// nothing is written.
 #[unsafe(no_mangle)]
 pub extern "C" fn nattizhu_hmac_ripemd160_final(state: &TagState160, tag: &mut [u8; 20]) -> bool
-    ensures tag { (key text : List ℕ)
+    ensures state { (keyed : KeyedState) → KeepsTag ripemd160 state.now.inner state.now.outer keyed
+        → IsTrue result × (tag.new ≡ tag_of (compress ripemd160) word_bytes keyed) }
+    ensures text { (key text : List ℕ)
         → IsTagAfter ripemd160 key text state.now.inner state.now.outer
         → IsTrue result × (tag.new ≡ hmac (ripemd ripemd160) key text) }
     ensures refused { IsFalse result
@@ -163,7 +202,9 @@ pub extern "C" fn nattizhu_hmac_ripemd160_final(state: &TagState160, tag: &mut [
 /// state is that of no tag.
 #[unsafe(no_mangle)]
 pub extern "C" fn nattizhu_hmac_ripemd160_verify_nonnull(state: &TagState160, tag: &[u8]) -> bool
-    ensures tag { (key text : List ℕ)
+    ensures state { (keyed : KeyedState) → KeepsTag ripemd160 state.now.inner state.now.outer keyed
+        → IsTrue result ↔ (tag.now ≡ tag_of (compress ripemd160) word_bytes keyed) }
+    ensures text { (key text : List ℕ)
         → IsTagAfter ripemd160 key text state.now.inner state.now.outer
         → IsTrue result ↔ (tag.now ≡ hmac (ripemd ripemd160) key text) }
     ensures refused { ((tag : KeyedState)
@@ -178,6 +219,19 @@ pub extern "C" fn nattizhu_hmac_ripemd256_nonnull(key: &[u8], text: &[u8], tag: 
     ensures { tag.new ≡ hmac (ripemd ripemd256) key.now text.now }
 {
     whole_tag::<Ripemd256Function>(key, text, tag);
+}
+
+/// Whether these bytes are the tag of the text under the key, all of them, by RIPEMD-256. It
+/// compares all bytes of a tag of the right length, whatever they are.
+#[unsafe(no_mangle)]
+pub extern "C" fn nattizhu_hmac_ripemd256_verify_text_nonnull(
+    key: &[u8],
+    text: &[u8],
+    tag: &[u8],
+) -> bool
+    ensures { IsTrue result ↔ (tag.now ≡ hmac (ripemd ripemd256) key.now text.now) }
+{
+    verify_text::<Ripemd256Function>(key, text, tag)
 }
 
 /// Writes the state of a tag by RIPEMD-256, under the key, of the empty text.
@@ -195,6 +249,9 @@ pub extern "C" fn nattizhu_hmac_ripemd256_update_nonnull(
     state: &mut TagState256,
     bytes: &[u8],
 ) -> bool
+    ensures state { (tag : KeyedState) → KeepsTag ripemd256 state.old.inner state.old.outer tag
+        → IsTrue result × KeepsTag ripemd256 state.new.inner state.new.outer
+        (fed_text (compress ripemd256) tag bytes.now) }
     ensures text { (key text : List ℕ)
         → IsTagAfter ripemd256 key text state.old.inner state.old.outer → IsTrue result
         × IsTagAfter ripemd256 key (text ++ bytes.now) state.new.inner state.new.outer }
@@ -209,7 +266,9 @@ pub extern "C" fn nattizhu_hmac_ripemd256_update_nonnull(
 /// nothing is written.
 #[unsafe(no_mangle)]
 pub extern "C" fn nattizhu_hmac_ripemd256_final(state: &TagState256, tag: &mut [u8; 32]) -> bool
-    ensures tag { (key text : List ℕ)
+    ensures state { (keyed : KeyedState) → KeepsTag ripemd256 state.now.inner state.now.outer keyed
+        → IsTrue result × (tag.new ≡ tag_of (compress ripemd256) word_bytes keyed) }
+    ensures text { (key text : List ℕ)
         → IsTagAfter ripemd256 key text state.now.inner state.now.outer
         → IsTrue result × (tag.new ≡ hmac (ripemd ripemd256) key text) }
     ensures refused { IsFalse result
@@ -223,7 +282,9 @@ pub extern "C" fn nattizhu_hmac_ripemd256_final(state: &TagState256, tag: &mut [
 /// state is that of no tag.
 #[unsafe(no_mangle)]
 pub extern "C" fn nattizhu_hmac_ripemd256_verify_nonnull(state: &TagState256, tag: &[u8]) -> bool
-    ensures tag { (key text : List ℕ)
+    ensures state { (keyed : KeyedState) → KeepsTag ripemd256 state.now.inner state.now.outer keyed
+        → IsTrue result ↔ (tag.now ≡ tag_of (compress ripemd256) word_bytes keyed) }
+    ensures text { (key text : List ℕ)
         → IsTagAfter ripemd256 key text state.now.inner state.now.outer
         → IsTrue result ↔ (tag.now ≡ hmac (ripemd ripemd256) key text) }
     ensures refused { ((tag : KeyedState)
@@ -238,6 +299,19 @@ pub extern "C" fn nattizhu_hmac_ripemd320_nonnull(key: &[u8], text: &[u8], tag: 
     ensures { tag.new ≡ hmac (ripemd ripemd320) key.now text.now }
 {
     whole_tag::<Ripemd320Function>(key, text, tag);
+}
+
+/// Whether these bytes are the tag of the text under the key, all of them, by RIPEMD-320. It
+/// compares all bytes of a tag of the right length, whatever they are.
+#[unsafe(no_mangle)]
+pub extern "C" fn nattizhu_hmac_ripemd320_verify_text_nonnull(
+    key: &[u8],
+    text: &[u8],
+    tag: &[u8],
+) -> bool
+    ensures { IsTrue result ↔ (tag.now ≡ hmac (ripemd ripemd320) key.now text.now) }
+{
+    verify_text::<Ripemd320Function>(key, text, tag)
 }
 
 /// Writes the state of a tag by RIPEMD-320, under the key, of the empty text.
@@ -255,6 +329,9 @@ pub extern "C" fn nattizhu_hmac_ripemd320_update_nonnull(
     state: &mut TagState320,
     bytes: &[u8],
 ) -> bool
+    ensures state { (tag : KeyedState) → KeepsTag ripemd320 state.old.inner state.old.outer tag
+        → IsTrue result × KeepsTag ripemd320 state.new.inner state.new.outer
+        (fed_text (compress ripemd320) tag bytes.now) }
     ensures text { (key text : List ℕ)
         → IsTagAfter ripemd320 key text state.old.inner state.old.outer → IsTrue result
         × IsTagAfter ripemd320 key (text ++ bytes.now) state.new.inner state.new.outer }
@@ -269,7 +346,9 @@ pub extern "C" fn nattizhu_hmac_ripemd320_update_nonnull(
 /// nothing is written.
 #[unsafe(no_mangle)]
 pub extern "C" fn nattizhu_hmac_ripemd320_final(state: &TagState320, tag: &mut [u8; 40]) -> bool
-    ensures tag { (key text : List ℕ)
+    ensures state { (keyed : KeyedState) → KeepsTag ripemd320 state.now.inner state.now.outer keyed
+        → IsTrue result × (tag.new ≡ tag_of (compress ripemd320) word_bytes keyed) }
+    ensures text { (key text : List ℕ)
         → IsTagAfter ripemd320 key text state.now.inner state.now.outer
         → IsTrue result × (tag.new ≡ hmac (ripemd ripemd320) key text) }
     ensures refused { IsFalse result
@@ -283,7 +362,9 @@ pub extern "C" fn nattizhu_hmac_ripemd320_final(state: &TagState320, tag: &mut [
 /// state is that of no tag.
 #[unsafe(no_mangle)]
 pub extern "C" fn nattizhu_hmac_ripemd320_verify_nonnull(state: &TagState320, tag: &[u8]) -> bool
-    ensures tag { (key text : List ℕ)
+    ensures state { (keyed : KeyedState) → KeepsTag ripemd320 state.now.inner state.now.outer keyed
+        → IsTrue result ↔ (tag.now ≡ tag_of (compress ripemd320) word_bytes keyed) }
+    ensures text { (key text : List ℕ)
         → IsTagAfter ripemd320 key text state.now.inner state.now.outer
         → IsTrue result ↔ (tag.now ≡ hmac (ripemd ripemd320) key text) }
     ensures refused { ((tag : KeyedState)
@@ -297,9 +378,24 @@ fn whole_tag<F: ResumableFunction>(key: &[u8], text: &[u8], tag: &mut F::Digest)
     ensures { F.Digest.bytes tag.new
         ≡ hmac (hash (F.list F.start_of) F.step F.output) key.now text.now }
 {
+    *tag = mac_of::<F>(key, text).finalize();
+}
+
+// Whether these bytes are the tag of a text that is there as a whole, all of them.
+fn verify_text<F: ResumableFunction>(key: &[u8], text: &[u8], tag: &[u8]) -> bool
+    ensures { IsTrue result
+        ↔ (tag.now ≡ hmac (hash (F.list F.start_of) F.step F.output) key.now text.now) }
+{
+    mac_of::<F>(key, text).verify(tag)
+}
+
+// A tag under way that has taken in a key and a whole text.
+fn mac_of<F: ResumableFunction>(key: &[u8], text: &[u8]) -> Hmac<BlockHasher<F>>
+    ensures { StandsFor (F.list F.start_of) F.step F.output key.now text.now result }
+{
     let mut mac = Hmac::<BlockHasher<F>>::new(key);
     mac.update(text);
-    *tag = mac.finalize();
+    mac
 }
 
 // Writes the saved bytes of a tag under way that has taken in a key and no text.
@@ -324,6 +420,11 @@ fn update_tag<F: ResumableFunction>(
     outer: &mut F::SavedHasher,
     bytes: &[u8],
 ) -> bool
+    ensures state { (tag : KeyedState) → IsKeptTag F.are_words F.output
+        (F.SavedHasher.bytes inner.old) (F.SavedHasher.bytes outer.old) tag
+        → IsTrue result × IsKeptTag F.are_words F.output
+        (F.SavedHasher.bytes inner.new) (F.SavedHasher.bytes outer.new)
+        (fed_text F.step tag bytes.now) }
     ensures text { (key text : List ℕ)
         → IsSavedFor (F.list F.start_of) F.step F.output (IsUnderWay F.are_words)
         (core_and_tail F.output) key text
@@ -356,7 +457,10 @@ fn final_tag<F: ResumableFunction>(
     outer: &F::SavedHasher,
     tag: &mut F::Digest,
 ) -> bool
-    ensures tag { (key text : List ℕ)
+    ensures state { (keyed : KeyedState) → IsKeptTag F.are_words F.output
+        (F.SavedHasher.bytes inner.now) (F.SavedHasher.bytes outer.now) keyed
+        → IsTrue result × (F.Digest.bytes tag.new ≡ tag_of F.step F.output keyed) }
+    ensures text { (key text : List ℕ)
         → IsSavedFor (F.list F.start_of) F.step F.output (IsUnderWay F.are_words)
         (core_and_tail F.output) key text
         (F.SavedHasher.bytes inner.now) (F.SavedHasher.bytes outer.now)
@@ -382,7 +486,10 @@ fn verify_tag<F: ResumableFunction>(
     outer: &F::SavedHasher,
     tag: &[u8],
 ) -> bool
-    ensures tag { (key text : List ℕ)
+    ensures state { (keyed : KeyedState) → IsKeptTag F.are_words F.output
+        (F.SavedHasher.bytes inner.now) (F.SavedHasher.bytes outer.now) keyed
+        → IsTrue result ↔ (tag.now ≡ tag_of F.step F.output keyed) }
+    ensures text { (key text : List ℕ)
         → IsSavedFor (F.list F.start_of) F.step F.output (IsUnderWay F.are_words)
         (core_and_tail F.output) key text
         (F.SavedHasher.bytes inner.now) (F.SavedHasher.bytes outer.now)

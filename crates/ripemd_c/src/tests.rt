@@ -1,8 +1,17 @@
 ghost use Rattle.std.specs.Prelude.{◌≤◌, ◌<◌};
 
 use crate::each::{
-    nattizhu_ripemd128_each_nonnull, nattizhu_ripemd160_each_nonnull,
-    nattizhu_ripemd256_each_nonnull, nattizhu_ripemd320_each_nonnull,
+    nattizhu_hmac_ripemd160_each_nonnull, nattizhu_ripemd128_each_nonnull,
+    nattizhu_ripemd160_each_nonnull, nattizhu_ripemd256_each_nonnull,
+    nattizhu_ripemd320_each_nonnull,
+};
+use crate::streams::{
+    nattizhu_ripemd160_final, nattizhu_ripemd160_init, nattizhu_ripemd160_update_nonnull,
+};
+use crate::tags::{
+    TagState160, nattizhu_hmac_ripemd160_final, nattizhu_hmac_ripemd160_init_nonnull,
+    nattizhu_hmac_ripemd160_nonnull, nattizhu_hmac_ripemd160_update_nonnull,
+    nattizhu_hmac_ripemd160_verify_nonnull, nattizhu_hmac_ripemd160_verify_text_nonnull,
 };
 use crate::{
     nattizhu_ripemd128_nonnull, nattizhu_ripemd160_nonnull, nattizhu_ripemd256_nonnull,
@@ -174,4 +183,80 @@ fn wrong_lengths(rt: HostRuntime) {
     let mut by_320 = [[7; 40]; 2];
     assert!(rt; !nattizhu_ripemd320_each_nonnull(b"abcdef", 0, &mut by_320));
     assert!(rt; by_320 == [[7; 40]; 2]);
+}
+
+// "abc" in two pieces, and then a state with a byte behind its tail that is not zero: nothing is
+// written.
+#[test]
+fn pieces(rt: HostRuntime) {
+    let mut state = [7; 92];
+    nattizhu_ripemd160_init(&mut state);
+    assert!(rt; nattizhu_ripemd160_update_nonnull(&mut state, b"a"));
+    assert!(rt; nattizhu_ripemd160_update_nonnull(&mut state, b"bc"));
+    let mut digest = [7; 20];
+    assert!(rt; nattizhu_ripemd160_final(&state, &mut digest));
+    assert!(rt; digest == BY_160);
+    state[91] = 1;
+    let forged = state;
+    digest = [7; 20];
+    assert!(rt; !nattizhu_ripemd160_final(&state, &mut digest));
+    assert!(rt; digest == [7; 20]);
+    assert!(rt; !nattizhu_ripemd160_update_nonnull(&mut state, b"d"));
+    assert!(rt; state == forged);
+}
+
+// The tag of "Hi There" under 20 bytes 0x0b, of RFC 2286.
+const TAG: [u8; 20] = [
+    0x24, 0xcb, 0x4b, 0xd6, 0x7d, 0x20, 0xfc, 0x1a, 0x5d, 0x2e, 0xd7, 0x73, 0x2d, 0xcc, 0x39, 0x37,
+    0x7f, 0x0a, 0x56, 0x68,
+];
+
+const KEY: [u8; 20] = [0x0b; 20];
+
+#[test]
+fn tag_in_pieces(rt: HostRuntime) {
+    let mut state = TagState160 {
+        inner: [7; 92],
+        outer: [7; 92],
+    };
+    nattizhu_hmac_ripemd160_init_nonnull(&mut state, &KEY);
+    assert!(rt; nattizhu_hmac_ripemd160_update_nonnull(&mut state, b"Hi "));
+    assert!(rt; nattizhu_hmac_ripemd160_update_nonnull(&mut state, b"There"));
+    let mut tag = [7; 20];
+    assert!(rt; nattizhu_hmac_ripemd160_final(&state, &mut tag));
+    assert!(rt; tag == TAG);
+    assert!(rt; nattizhu_hmac_ripemd160_verify_nonnull(&state, &TAG));
+    assert!(rt; !nattizhu_hmac_ripemd160_verify_nonnull(&state, &TAG[..19]));
+    state.outer[91] = 1;
+    tag = [7; 20];
+    assert!(rt; !nattizhu_hmac_ripemd160_final(&state, &mut tag));
+    assert!(rt; tag == [7; 20]);
+    assert!(rt; !nattizhu_hmac_ripemd160_update_nonnull(&mut state, b"!"));
+    assert!(rt; !nattizhu_hmac_ripemd160_verify_nonnull(&state, &TAG));
+    let TagState160 { inner: _, outer: _ } = state;
+}
+
+#[test]
+fn tag_of_a_text(rt: HostRuntime) {
+    let mut tag = [7; 20];
+    nattizhu_hmac_ripemd160_nonnull(&KEY, b"Hi There", &mut tag);
+    assert!(rt; tag == TAG);
+    assert!(rt; nattizhu_hmac_ripemd160_verify_text_nonnull(&KEY, b"Hi There", &TAG));
+    assert!(rt; !nattizhu_hmac_ripemd160_verify_text_nonnull(&KEY, b"Hi there", &TAG));
+    assert!(rt; !nattizhu_hmac_ripemd160_verify_text_nonnull(&KEY, b"Hi There", &TAG[..10]));
+    tag[19] = 0;
+    assert!(rt; !nattizhu_hmac_ripemd160_verify_text_nonnull(&KEY, b"Hi There", &tag));
+}
+
+// Two records, and then one byte too few for them.
+#[test]
+fn tags_of_records(rt: HostRuntime) {
+    let mut other = [0; 20];
+    nattizhu_hmac_ripemd160_nonnull(&KEY, b"Hi Where", &mut other);
+    let mut tags = [[7; 20]; 2];
+    assert!(rt; nattizhu_hmac_ripemd160_each_nonnull(&KEY, b"Hi WhereHi There", 8, &mut tags));
+    assert!(rt; tags == [other, TAG]);
+    tags = [[7; 20]; 2];
+    assert!(rt; !nattizhu_hmac_ripemd160_each_nonnull(&KEY, b"Hi WhereHi Ther", 8, &mut tags));
+    assert!(rt; tags == [[7; 20]; 2]);
 }
