@@ -30,15 +30,19 @@ AT = $(DESTDIR)$(PREFIX)
 SITE = $(shell python3 -c 'import sys; print("lib/python%d.%d/site-packages" % sys.version_info[:2])' \
   2>/dev/null)
 
-.PHONY: all library check quick bench install install-program install-library uninstall clean
+.PHONY: all library toolchain prefix check quick bench install install-program install-library uninstall clean
 
 # `rt run` proves, builds and then runs the program, here on no input. The libraries are proved first,
 # where they have changed.
-all:
+all: toolchain
 	@[ -e $(PROGRAM) ] || echo 'make: proving and building the program: some minutes the first time' >&2
 	@tests/tell $$$$ >&2 & teller=$$!; \
 	(cd crates/ripemd_sum && rt run $(if $(CPU),--cpu $(CPU)) </dev/null >/dev/null); status=$$?; \
 	kill $$teller; exit $$status
+
+toolchain:
+	@rt version >/dev/null 2>&1 || { echo 'make: the command rt of the Rattle toolchain does not run;' \
+	  'it needs python3' >&2; exit 1; }
 
 check:
 	tests/check rt ci
@@ -54,20 +58,24 @@ bench: all
 	@echo && crates/ripemd_bench/out/ripemd_bench tags
 
 # `rt lib` proves the library and builds it.
-library:
+library: toolchain
 	@echo 'make: proving and building the library' >&2
 	@mkdir -p $(BUILT) && cd crates/ripemd_c && rt lib $(if $(CPU),--cpu $(CPU)) >out/log 2>&1 || { cat out/log; exit 1; }
 	@tests/shared $(BUILT)
 
-install: all library
+# nattizhu.pc has the prefix in it.
+prefix:
+	@case '$(PREFIX)' in /*) ;; *) echo 'make: PREFIX must begin with /' >&2; exit 1 ;; esac
+
+install: prefix all library
 	@$(MAKE) --no-print-directory install-program install-library
 
 # These two copy what is built.
-install-program:
+install-program: prefix
 	install -D -m 755 $(PROGRAM) "$(AT)/bin/ripemd_sum"
 	install -D -m 644 crates/ripemd_sum/ripemd_sum.1 "$(AT)/share/man/man1/ripemd_sum.1"
 
-install-library:
+install-library: prefix
 	install -D -m 644 $(BUILT)/libnattizhu.a "$(AT)/lib/libnattizhu.a"
 	install -D -m 644 crates/ripemd_c/nattizhu.h "$(AT)/include/nattizhu.h"
 	install -d "$(AT)/lib/pkgconfig"
@@ -91,7 +99,7 @@ install-library:
 	  fi; \
 	fi
 
-uninstall:
+uninstall: prefix
 	rm -f "$(AT)/bin/ripemd_sum" "$(AT)/share/man/man1/ripemd_sum.1" "$(AT)/lib/libnattizhu.a" \
 	  "$(AT)/lib/libnattizhu.so" "$(AT)/lib/libnattizhu.so.0" "$(AT)/include/nattizhu.h" \
 	  "$(AT)/lib/pkgconfig/nattizhu.pc" "$(AT)"/lib/python3.*/site-packages/nattizhu.py \

@@ -2,10 +2,9 @@
 // the machine has, and prints tables in Markdown on standard output.
 //   linked LEVEL=FILE.so..      ours, as built for some levels of processors
 // A function is timed only after its digests were compared with a published one and, at many
-// lengths, with ours, and its tags with a published one. Our tags are in no function for C; their time
-// is printed by ripemd_bench. A figure is the best of many slices of some 10 ms, in the thread's processor
-// time. The rounds are outermost: a disturbance of seconds spoils a round of all figures, not all
-// rounds of one.
+// lengths, with ours, and its tags with a published one. A figure is the best of many slices of some
+// 10 ms, in the thread's processor time. The rounds are outermost: a disturbance of seconds spoils a
+// round of all figures, not all rounds of one.
 #include <dlfcn.h>
 #include <stdbool.h>
 #include <stdint.h>
@@ -38,9 +37,13 @@ static const struct task {
     {"One message of 32 bytes, ns", 32, 1, 1, 0},
     {"128 messages of 4 KiB, ours at once, MB/s", 4096, 128, 0, 0},
     {"8,192 messages of 32 bytes, ours at once, ns for each", 32, 8192, 1, 0},
-    {"8,192 texts of 32 bytes under one key, ns for each tag", 32, 8192, 1, 1},
+    {"8,192 texts of 32 bytes under one key, ours at once, ns for each tag", 32, 8192, 1, 1},
 };
 enum { TASKS_COUNT = sizeof TASKS / sizeof TASKS[0] };
+
+// Pieces of a message, each taken in by one call.
+static const size_t PIECES[] = {1, 64, 4096, MIB};
+enum { PIECES_COUNT = sizeof PIECES / sizeof PIECES[0] };
 
 // The key of 20 bytes 0x0b, and the tag that RFC 2286 publishes for "Hi There" by RIPEMD-160.
 static uint8_t key[20];
@@ -48,14 +51,21 @@ static const char TEXT[] = "Hi There";
 static const char TAG[] = "24cb4bd67d20fc1a5d2ed7732dcc39377f0a5668";
 
 // A library's functions by variant, NULL where it has none, and the least seconds of each task. A tag
-// is made from a copy of the state after the key, which the library keeps.
+// is made from a copy of the state after the key, which the library keeps; ours hashes the key for
+// each 128 texts. The functions of messages in pieces are those of RIPEMD-160.
 struct library {
   char name[80];
   void (*digest[VARIANTS])(const uint8_t *message, size_t length, uint8_t *digest);
   void (*tag[VARIANTS])(const uint8_t *text, size_t length, uint8_t *tag);
   bool (*each[VARIANTS])(const uint8_t *bytes, size_t length, size_t size, uint8_t *digests,
                          size_t count);
-  double seconds[TASKS_COUNT][VARIANTS];
+  bool (*tag_each[VARIANTS])(const uint8_t *key, size_t key_length, const uint8_t *bytes,
+                             size_t length, size_t size, uint8_t *tags, size_t count);
+  void *state;
+  void (*init)(void *state);
+  bool (*update)(void *state, const uint8_t *bytes, size_t length);
+  bool (*final)(void *state, uint8_t *digest);
+  double seconds[TASKS_COUNT][VARIANTS], piece_seconds[PIECES_COUNT];
 };
 
 static struct library libraries[MOST]; // ours first
@@ -194,18 +204,37 @@ static void tag_by_openssl(const uint8_t *text, size_t length, uint8_t *tag) {
   HMAC_Final(openssl_keyed, tag, NULL);
 }
 
+static const void *(*EVP_ripemd160)(void);
+static int (*EVP_DigestInit_ex)(void *, const void *, void *);
+static int (*EVP_DigestUpdate)(void *, const void *, size_t);
+static int (*EVP_DigestFinal_ex)(void *, unsigned char *, unsigned *);
+static void openssl_init(void *context) {
+  EVP_DigestInit_ex(context, EVP_ripemd160(), NULL);
+}
+static bool openssl_update(void *context, const uint8_t *bytes, size_t length) {
+  return EVP_DigestUpdate(context, bytes, length);
+}
+static bool openssl_final(void *context, uint8_t *digest) {
+  return EVP_DigestFinal_ex(context, digest, NULL);
+}
+
 static void add_openssl(void *from) {
   const char *(*OpenSSL_version)(int);
-  void *(*HMAC_CTX_new)(void);
-  const void *(*EVP_ripemd160)(void);
+  void *(*HMAC_CTX_new)(void), *(*EVP_MD_CTX_new)(void);
   TAKE(from, RIPEMD160), TAKE(from, OpenSSL_version), TAKE(from, HMAC_CTX_new);
   TAKE(from, EVP_ripemd160), TAKE(from, HMAC_Init_ex), TAKE(from, HMAC_Update);
-  TAKE(from, HMAC_Final);
+  TAKE(from, HMAC_Final), TAKE(from, EVP_MD_CTX_new), TAKE(from, EVP_DigestInit_ex);
+  TAKE(from, EVP_DigestUpdate), TAKE(from, EVP_DigestFinal_ex);
   struct library *openssl = add("OpenSSL", OpenSSL_version(6)); // 6: the number alone
   openssl->digest[1] = by_openssl;
   openssl_keyed = HMAC_CTX_new();
   if (HMAC_Init_ex(openssl_keyed, key, sizeof key, EVP_ripemd160(), NULL))
     openssl->tag[1] = tag_by_openssl;
+  openssl->state = EVP_MD_CTX_new();
+  openssl->init = openssl_init;
+  openssl->final = openssl_final;
+  if (EVP_DigestInit_ex(openssl->state, EVP_ripemd160(), NULL))
+    openssl->update = openssl_update;
 }
 
 // ---- ours
@@ -225,14 +254,24 @@ static void add_ours(char *argument) {
     *(void **)&added->digest[v] = function(from, name);
     snprintf(name, sizeof name, "nattizhu_ripemd%d_each_nonnull", 8 * SIZES[v]);
     *(void **)&added->each[v] = function(from, name);
+    snprintf(name, sizeof name, "nattizhu_hmac_ripemd%d_each_nonnull", 8 * SIZES[v]);
+    *(void **)&added->tag_each[v] = function(from, name);
   }
+  static uint8_t states[MOST][92];
+  added->state = states[added - libraries];
+  *(void **)&added->init = function(from, "nattizhu_ripemd160_init");
+  *(void **)&added->update = function(from, "nattizhu_ripemd160_update_nonnull");
+  *(void **)&added->final = function(from, "nattizhu_ripemd160_final");
 }
 
 // ---- what they answer, and how fast
 
 static void perform(const struct library *by, int v, const struct task *task) {
-  if (by->each[v] && task->count > 1)
-    by->each[v](bytes, task->count * task->size, task->size, digests, task->count);
+  size_t length = task->count * task->size;
+  if (task->keyed && by->tag_each[v])
+    by->tag_each[v](key, sizeof key, bytes, length, task->size, digests, task->count);
+  else if (!task->keyed && by->each[v] && task->count > 1)
+    by->each[v](bytes, length, task->size, digests, task->count);
   else
     for (size_t i = 0; i < task->count; i++)
       (task->keyed ? by->tag : by->digest)[v](bytes + i * task->size, task->size,
@@ -241,7 +280,7 @@ static void perform(const struct library *by, int v, const struct task *task) {
 
 // Whether the library has a function for it.
 static int has(const struct library *by, int v, const struct task *task) {
-  return (task->keyed ? by->tag : by->digest)[v] != NULL;
+  return task->keyed ? by->tag[v] || by->tag_each[v] : by->digest[v] != NULL;
 }
 
 static void check_tag(const struct library *by, int v) {
@@ -249,7 +288,10 @@ static void check_tag(const struct library *by, int v) {
   for (int i = 0; i < 20; i++)
     sscanf(TAG + 2 * i, "%2hhx", &wanted[i]);
   for (int again = 0; again < 2; again++) {
-    by->tag[v]((const uint8_t *)TEXT, strlen(TEXT), tag);
+    if (by->tag_each[v])
+      by->tag_each[v](key, sizeof key, (const uint8_t *)TEXT, strlen(TEXT), strlen(TEXT), tag, 1);
+    else
+      by->tag[v]((const uint8_t *)TEXT, strlen(TEXT), tag);
     if (memcmp(tag, wanted, 20))
       fail(by->name, "a wrong tag");
   }
@@ -280,6 +322,18 @@ static void check(const struct library *by, int v) {
     fail(by->name, "a wrong digest");
 }
 
+// The published message, byte by byte.
+static void check_pieces(const struct library *by) {
+  uint8_t digest[20], wanted[20];
+  for (int i = 0; i < 20; i++)
+    sscanf(DIGESTS[1] + 2 * i, "%2hhx", &wanted[i]);
+  by->init(by->state);
+  for (const char *at = MESSAGE; *at; at++)
+    by->update(by->state, (const uint8_t *)at, 1);
+  if (!by->final(by->state, digest) || memcmp(digest, wanted, 20))
+    fail(by->name, "a wrong digest of pieces");
+}
+
 static double now(void) {
   struct timespec time;
   clock_gettime(CLOCK_THREAD_CPUTIME_ID, &time);
@@ -300,6 +354,23 @@ static void measure(struct library *by, int v, int t) {
         perform(by, v, task);
         memcpy(bytes, digests, 8);
       }
+      taken = now() - start;
+    } while (taken < 0.01);
+    if (!*least || taken / calls < *least)
+      *least = taken / calls;
+  }
+}
+
+static void measure_pieces(struct library *by, int p) {
+  double *least = &by->piece_seconds[p];
+  int batch = 4096 / (PIECES[p] / 64 + 1) + 1;
+  by->init(by->state);
+  for (int s = 0; s < SLICES; s++) {
+    double start = now(), taken;
+    int calls = 0;
+    do {
+      for (int i = 0; i < batch; i++, calls++)
+        by->update(by->state, bytes, PIECES[p]);
       taken = now() - start;
     } while (taken < 0.01);
     if (!*least || taken / calls < *least)
@@ -335,6 +406,25 @@ static void print_table(int t) {
   }
 }
 
+// The same of pieces.
+static void print_pieces(void) {
+  printf("\nOne piece of a message, RIPEMD-160:\n\n"
+         "| | 1 byte, ns | 64 bytes, ns | 4,096 bytes, ns | 1 MiB, MB/s |\n|---|---|---|---|---|\n");
+  for (int l = 0; l < count; l++) {
+    if (!libraries[l].update)
+      continue;
+    printf("| %s |", libraries[l].name);
+    for (int p = 0; p < PIECES_COUNT; p++) {
+      double taken = libraries[l].piece_seconds[p];
+      printf(" %.0f", PIECES[p] == MIB ? MIB / taken / 1e6 : 1e9 * taken);
+      if (l < ours && libraries[count - 1].update)
+        printf(" (%.2f)", libraries[count - 1].piece_seconds[p] / taken);
+      printf(" |");
+    }
+    printf("\n");
+  }
+}
+
 int main(int argc, char **argv) {
   for (int i = 0; i < MIB; i++)
     bytes[i] = i * 7 + (i >> 8);
@@ -355,14 +445,23 @@ int main(int argc, char **argv) {
       if (libraries[l].digest[v])
         check(&libraries[l], v);
   for (int l = 0; l < count; l++)
-    if (libraries[l].tag[1])
+    if (libraries[l].tag[1] || libraries[l].tag_each[1])
       check_tag(&libraries[l], 1);
-  for (int round = 0; round < ROUNDS; round++)
+  for (int l = 0; l < count; l++)
+    if (libraries[l].update)
+      check_pieces(&libraries[l]);
+  for (int round = 0; round < ROUNDS; round++) {
+    for (int p = 0; p < PIECES_COUNT; p++)
+      for (int l = 0; l < count; l++)
+        if (libraries[l].update)
+          measure_pieces(&libraries[l], p);
     for (int t = 0; t < TASKS_COUNT; t++)
       for (int v = 0; v < VARIANTS; v++)
         for (int l = 0; l < count; l++)
           if (has(&libraries[l], v, &TASKS[t]))
             measure(&libraries[l], v, t);
+  }
   for (int t = 0; t < TASKS_COUNT; t++)
     print_table(t);
+  print_pieces();
 }
