@@ -27,7 +27,7 @@ __all__ = [
 ]
 __version__ = "0.1.0"
 
-# Bytes of a digest, and of the state of one under way. A tag's has twice that.
+# Bytes of a digest, and of a hash state. An HMAC state has twice that.
 _SIZES = {
     "ripemd128": (16, 88),
     "ripemd160": (20, 92),
@@ -179,7 +179,7 @@ class _Bytes:
 
 
 class _UnderWay:
-    """What a digest and a tag under way have in common."""
+    """What hashers and HMACs have in common."""
 
     __slots__ = ("_calls", "_lock", "_state")
     block_size = property(lambda self: _BLOCK_SIZE, doc="Bytes of a block.")
@@ -251,7 +251,7 @@ class _UnderWay:
 
 
 class Hasher(_UnderWay):
-    """A digest under way, as hashlib has them. new() makes one."""
+    """A hasher, as hashlib has them. new() makes one."""
 
     __slots__ = ()
     _state_type = staticmethod(lambda calls: calls.state_type)
@@ -265,7 +265,7 @@ class Hasher(_UnderWay):
 
 
 class Hmac(_UnderWay):
-    """A tag under way. hmac_new() makes one. Its saved bytes, and so its
+    """An HMAC. hmac_new() makes one. Its saved bytes, and so its
     pickle, are as secret as the key."""
 
     __slots__ = ()
@@ -378,7 +378,7 @@ def file_digest(fileobj, name, /, *, _bufsize=2**18):
 
 
 def hmac_new(key, msg, name):
-    """The tag under way of msg under the key, which may have any length. msg
+    """The HMAC of msg under the key, which may have any length. msg
     may be None, for nothing yet."""
     calls = _calls(name)
     made = Hmac._of(calls, calls.tag_state_type())
@@ -420,6 +420,6 @@ def hmac_digest_each(key, records, size, name):
 
 
 def hmac_from_state(name, state):
-    """The tag under way that is saved as these bytes, as its state() gave
+    """The HMAC that is saved as these bytes, as its state() gave
     them. It raises ValueError if none of this variant is."""
     return Hmac._from_state(name, state)

@@ -1,6 +1,6 @@
 /* Nattizhu: RIPEMD-128, RIPEMD-160, RIPEMD-256 and RIPEMD-320 (1996) and HMAC over them (RFC 2104).
  *
- * What each call writes and answers is proved, if its caller sees to this, which nothing checks:
+ * What each call writes and answers is proved, if its caller ensures this, which nothing checks:
  *
  * - A pointer leads to as many bytes, digests or tags as the number after it says, or as its size in
  *   brackets. Each of these pieces of memory is smaller than 2^63 bytes.
@@ -29,13 +29,13 @@
 #define NATTIZHU_RIPEMD256_SIZE 32
 #define NATTIZHU_RIPEMD320_SIZE 40
 
-/* Bytes of the state of a digest under way. */
+/* Bytes of a hash state. */
 #define NATTIZHU_RIPEMD128_STATE_SIZE 88
 #define NATTIZHU_RIPEMD160_STATE_SIZE 92
 #define NATTIZHU_RIPEMD256_STATE_SIZE 104
 #define NATTIZHU_RIPEMD320_STATE_SIZE 112
 
-/* Bytes of the state of a tag under way. */
+/* Bytes of an HMAC state. */
 #define NATTIZHU_HMAC_RIPEMD128_STATE_SIZE 176
 #define NATTIZHU_HMAC_RIPEMD160_STATE_SIZE 184
 #define NATTIZHU_HMAC_RIPEMD256_STATE_SIZE 208
@@ -198,10 +198,9 @@ static inline bool nattizhu_ripemd320_each(const uint8_t *bytes, size_t length, 
 
 /* ---- Digests of messages in pieces
  *
- * Between the calls the state is all that there is of a digest under way: bytes without pointers, the
- * same on every machine, which may be copied, compared, stored, and taken up by another process. They
- * are those that the library in Rattle saves a hasher as. Nothing in them shows who wrote them: bytes
- * that were changed are refused only if no message's state could have their form. */
+ * A hash state is bytes without pointers, the same on every machine: it may be copied, compared,
+ * stored, and loaded by another process. They are the saved bytes of a hasher of the library in Rattle.
+ * Nothing in them shows who wrote them: changed bytes are refused only if they are no hash state. */
 
 /* Writes the state of the empty message. */
 void nattizhu_ripemd128_init(uint8_t state[NATTIZHU_RIPEMD128_STATE_SIZE]);
@@ -209,8 +208,8 @@ void nattizhu_ripemd160_init(uint8_t state[NATTIZHU_RIPEMD160_STATE_SIZE]);
 void nattizhu_ripemd256_init(uint8_t state[NATTIZHU_RIPEMD256_STATE_SIZE]);
 void nattizhu_ripemd320_init(uint8_t state[NATTIZHU_RIPEMD320_STATE_SIZE]);
 
-/* Takes bytes in, after those of the message so far: writes the state that follows, and answers true.
- * If no digest under way has these bytes as its state, it writes nothing and answers false. */
+/* Appends bytes to the message: writes the state that follows, and answers true.
+ * If these bytes are no hash state, it writes nothing and answers false. */
 static inline bool nattizhu_ripemd128_update(uint8_t state[NATTIZHU_RIPEMD128_STATE_SIZE],
                                              const uint8_t *bytes, size_t length) {
   return nattizhu_ripemd128_update_nonnull(state, nattizhu_some(bytes), length);
@@ -228,9 +227,8 @@ static inline bool nattizhu_ripemd320_update(uint8_t state[NATTIZHU_RIPEMD320_ST
   return nattizhu_ripemd320_update_nonnull(state, nattizhu_some(bytes), length);
 }
 
-/* Writes the digest of the message so far, and answers true. The state stays as it is, and may take
- * more bytes in. If no digest under way has these bytes as its state, the call writes nothing and
- * answers false. */
+/* Writes the digest of the message so far, and answers true. The state stays as it is, and the message
+ * may go on. If these bytes are no hash state, the call writes nothing and answers false. */
 bool nattizhu_ripemd128_final(const uint8_t state[NATTIZHU_RIPEMD128_STATE_SIZE],
                               uint8_t digest[NATTIZHU_RIPEMD128_SIZE]);
 bool nattizhu_ripemd160_final(const uint8_t state[NATTIZHU_RIPEMD160_STATE_SIZE],
@@ -242,9 +240,9 @@ bool nattizhu_ripemd320_final(const uint8_t state[NATTIZHU_RIPEMD320_STATE_SIZE]
 
 /* ---- Tags (HMAC)
  *
- * A key has any length. One longer than 64 bytes counts as its digest, and a shorter one as if zeros
- * followed it to 64 bytes. The state of a tag under way is as that of a digest, twice, and as secret as
- * the key: whoever has it can make tags. To make many tags under one key, copy its state after init. */
+ * A key has any length: one longer than 64 bytes is replaced by its digest, and a shorter one is filled
+ * with zeros to 64 bytes. An HMAC state is two hash states, and as secret as the key: whoever has it
+ * can make tags. For many tags under one key, copy the state after init. */
 
 /* Writes the tag of the text under the key. */
 static inline void nattizhu_hmac_ripemd128(const uint8_t *key, size_t key_length,
@@ -361,8 +359,8 @@ static inline void nattizhu_hmac_ripemd320_init(uint8_t state[NATTIZHU_HMAC_RIPE
   nattizhu_hmac_ripemd320_init_nonnull(state, nattizhu_some(key), length);
 }
 
-/* Takes bytes in, after those of the text so far: writes the state that follows, and answers true. If
- * no tag under way has these bytes as its state, it writes nothing and answers false. */
+/* Appends bytes to the text: writes the state that follows, and answers true. If these bytes are no
+ * HMAC state, it writes nothing and answers false. */
 static inline bool nattizhu_hmac_ripemd128_update(uint8_t state[NATTIZHU_HMAC_RIPEMD128_STATE_SIZE],
                                                   const uint8_t *bytes, size_t length) {
   return nattizhu_hmac_ripemd128_update_nonnull(state, nattizhu_some(bytes), length);
@@ -380,8 +378,8 @@ static inline bool nattizhu_hmac_ripemd320_update(uint8_t state[NATTIZHU_HMAC_RI
   return nattizhu_hmac_ripemd320_update_nonnull(state, nattizhu_some(bytes), length);
 }
 
-/* Writes the tag of the text so far, and answers true. The state stays as it is. If no tag under way
- * has these bytes as its state, the call writes nothing and answers false. */
+/* Writes the tag of the text so far, and answers true. The state stays as it is. If these bytes are no
+ * HMAC state, the call writes nothing and answers false. */
 bool nattizhu_hmac_ripemd128_final(const uint8_t state[NATTIZHU_HMAC_RIPEMD128_STATE_SIZE],
                                    uint8_t tag[NATTIZHU_RIPEMD128_SIZE]);
 bool nattizhu_hmac_ripemd160_final(const uint8_t state[NATTIZHU_HMAC_RIPEMD160_STATE_SIZE],
@@ -392,8 +390,7 @@ bool nattizhu_hmac_ripemd320_final(const uint8_t state[NATTIZHU_HMAC_RIPEMD320_S
                                    uint8_t tag[NATTIZHU_RIPEMD320_SIZE]);
 
 /* Answers whether these `length` bytes are the tag of the text so far, all of them, as
- * nattizhu_hmac_ripemd160_verify_text does of a whole text; false too if no tag under way has these
- * bytes as its state. */
+ * nattizhu_hmac_ripemd160_verify_text does of a whole text; false too if the state is no HMAC state. */
 static inline bool nattizhu_hmac_ripemd128_verify(
     const uint8_t state[NATTIZHU_HMAC_RIPEMD128_STATE_SIZE], const uint8_t *tag, size_t length) {
   return nattizhu_hmac_ripemd128_verify_nonnull(state, nattizhu_some(tag), length);

@@ -1,4 +1,4 @@
--- What is kept of a hash under way tells it: what is loaded is what was kept, and so is what is kept of
+-- What is kept of a hash state tells it: what is loaded is what was kept, and so is what is kept of
 -- a message.
 use Rattle.std.proofs.Common.{◌≡◌, ℕ, List, [], ◌++◌, refl, sym, ap, ◌∙◌}
 use Rattle.ripemd.specs.Standard.Words.{word_bytes}
@@ -63,7 +63,7 @@ message_digest {v} finishes message before =
     let both = finishes (fed (compress v) (new_state v) message) (kept_after before) in
     (both.0, both.1 ∙ finish_fed v.start (compress v) word_bytes message)
 
--- ---- tags under way
+-- ---- HMAC states
 
 module _ {are_words : List ℕ → Type 0} {output : List ℕ → List ℕ} {n : ℕ} (tells : TellsWords are_words output n)
     {loaded : KeyedState} {inner outer : List ℕ} (valid : IsKeyedState (IsUnderWay are_words) loaded)

@@ -2,5 +2,5 @@
 mod Placing
 -- Keys that are longer than a block.
 mod Keys
--- What is kept of a hash under way tells it; what is kept of a message.
+-- What is kept of a hash state tells it; what is kept of a message.
 pub mod Keeping

@@ -1,4 +1,4 @@
--- The bytes that C keeps of a hash under way, and those that it keeps of a tag under way.
+-- The bytes that C keeps of a hash state, and those that it keeps of an HMAC state.
 use Rattle.std.specs.Prelude.{◌≡◌, ℕ, List, length}
 use Rattle.ripemd.specs.Standard.Words.{word_bytes}
 use Rattle.ripemd.specs.Standard.Compression.{Parameters, compress}
@@ -6,7 +6,7 @@ use Rattle.ripemd.specs.States.{Meaning, AreWords, IsUnderWay, IsState, core_and
 use Rattle.ripemd_mac.specs.Keyed.{KeyedState}
 use Rattle.ripemd_mac.specs.Saved.{IsKeyedState, IsSavedAs, IsSavedFor}
 
--- a hash under way that can occur, and the bytes that it is saved as
+-- a hash state that can occur, and the bytes that it is saved as
 pub record IsKept (are_words : List ℕ → Type 0) (output : List ℕ → List ℕ) (h : Meaning) (bytes : List ℕ) : Type 0 where
   pub valid : IsUnderWay are_words h
   pub saved : core_and_tail output h ≡ bytes
@@ -15,7 +15,7 @@ pub record IsKept (are_words : List ℕ → Type 0) (output : List ℕ → List 
 abbrev pub Keeps : Parameters → Meaning → List ℕ → Type 0
 Keeps v = IsKept (AreWords (length v.start)) word_bytes
 
--- a tag under way that can occur, and the bytes that its two hashes are saved as
+-- an HMAC state that can occur, and the bytes that its two hash states are saved as
 pub record IsKeptTag (are_words : List ℕ → Type 0) (output : List ℕ → List ℕ) (inner outer : List ℕ)
     (tag : KeyedState) : Type 0 where
   pub valid : IsKeyedState (IsUnderWay are_words) tag

@@ -1,4 +1,4 @@
--- A worked example of the bytes that are kept of a hash under way, as facts of these definitions.
+-- A worked example of the bytes that are kept of a hash state, as facts of these definitions.
 use Rattle.std.specs.Prelude.{ℕ, List, [], ◌∷◌, ◌++◌, replicate}
 use Rattle.ripemd.specs.Standard.Compression.{ripemd160, compress}
 use Rattle.ripemd.specs.States.{Meaning, new_state, fed}

@@ -25,8 +25,8 @@ pub extern "C" fn nattizhu_ripemd128_init(state: &mut [u8; 88])
     init_state::<Ripemd128Function>(state);
 }
 
-/// Takes bytes in, after those of the message so far. False exactly if the state is that of no
-/// hasher, and then nothing is written.
+/// Appends bytes to the message. False exactly if the state is that of no hasher, and then nothing
+/// is written.
 #[unsafe(no_mangle)]
 pub extern "C" fn nattizhu_ripemd128_update_nonnull(state: &mut [u8; 88], bytes: &[u8]) -> bool
     ensures state { (h : Meaning) → Keeps ripemd128 h state.old
@@ -63,8 +63,8 @@ pub extern "C" fn nattizhu_ripemd160_init(state: &mut [u8; 92])
     init_state::<Ripemd160Function>(state);
 }
 
-/// Takes bytes in, after those of the message so far. False exactly if the state is that of no
-/// hasher, and then nothing is written.
+/// Appends bytes to the message. False exactly if the state is that of no hasher, and then nothing
+/// is written.
 #[unsafe(no_mangle)]
 pub extern "C" fn nattizhu_ripemd160_update_nonnull(state: &mut [u8; 92], bytes: &[u8]) -> bool
     ensures state { (h : Meaning) → Keeps ripemd160 h state.old
@@ -101,8 +101,8 @@ pub extern "C" fn nattizhu_ripemd256_init(state: &mut [u8; 104])
     init_state::<Ripemd256Function>(state);
 }
 
-/// Takes bytes in, after those of the message so far. False exactly if the state is that of no
-/// hasher, and then nothing is written.
+/// Appends bytes to the message. False exactly if the state is that of no hasher, and then nothing
+/// is written.
 #[unsafe(no_mangle)]
 pub extern "C" fn nattizhu_ripemd256_update_nonnull(state: &mut [u8; 104], bytes: &[u8]) -> bool
     ensures state { (h : Meaning) → Keeps ripemd256 h state.old
@@ -139,8 +139,8 @@ pub extern "C" fn nattizhu_ripemd320_init(state: &mut [u8; 112])
     init_state::<Ripemd320Function>(state);
 }
 
-/// Takes bytes in, after those of the message so far. False exactly if the state is that of no
-/// hasher, and then nothing is written.
+/// Appends bytes to the message. False exactly if the state is that of no hasher, and then nothing
+/// is written.
 #[unsafe(no_mangle)]
 pub extern "C" fn nattizhu_ripemd320_update_nonnull(state: &mut [u8; 112], bytes: &[u8]) -> bool
     ensures state { (h : Meaning) → Keeps ripemd320 h state.old
@@ -175,7 +175,7 @@ fn init_state<F: ResumableFunction>(state: &mut F::SavedHasher)
     *state = BlockHasher::<F>::new().serialize();
 }
 
-// Takes bytes in. False exactly if no hasher is saved as these bytes, and then nothing is written.
+// Appends bytes. False exactly if no hasher is saved as these bytes, and then nothing is written.
 fn update_state<F: ResumableFunction>(state: &mut F::SavedHasher, bytes: &[u8]) -> bool
     ensures fed { (h : Meaning) → IsKept F.are_words F.output h (F.SavedHasher.bytes state.old)
         → IsTrue result × IsKept F.are_words F.output (fed F.step h bytes.now)

@@ -1,5 +1,5 @@
 //! Tags of texts under keys (RFC 2104). Between the pieces of a text the caller keeps the bytes that
-//! a tag under way is saved as: those of its inner hasher, and then those of its outer one.
+//! an HMAC state is saved as: those of its inner hasher, and then those of its outer one.
 
 ghost use Rattle.std.specs.Prelude.{◌≡◌, ◌↔◌, ℕ, List, [], ◌++◌, IsTrue, IsFalse};
 ghost use Rattle.ripemd.specs.Standard.Words.{word_bytes};
@@ -82,8 +82,8 @@ pub extern "C" fn nattizhu_hmac_ripemd128_init_nonnull(state: &mut TagState128, 
     init_tag::<Ripemd128Function>(&mut state.inner, &mut state.outer, key);
 }
 
-/// Takes bytes in, after those of the text so far. False exactly if the state is that of no tag, and
-/// then nothing is written.
+/// Appends bytes to the text. False exactly if the state is no HMAC state, and then nothing is
+/// written.
 #[unsafe(no_mangle)]
 pub extern "C" fn nattizhu_hmac_ripemd128_update_nonnull(
     state: &mut TagState128,
@@ -162,8 +162,8 @@ pub extern "C" fn nattizhu_hmac_ripemd160_init_nonnull(state: &mut TagState160, 
     init_tag::<Ripemd160Function>(&mut state.inner, &mut state.outer, key);
 }
 
-/// Takes bytes in, after those of the text so far. False exactly if the state is that of no tag, and
-/// then nothing is written.
+/// Appends bytes to the text. False exactly if the state is no HMAC state, and then nothing is
+/// written.
 #[unsafe(no_mangle)]
 pub extern "C" fn nattizhu_hmac_ripemd160_update_nonnull(
     state: &mut TagState160,
@@ -242,8 +242,8 @@ pub extern "C" fn nattizhu_hmac_ripemd256_init_nonnull(state: &mut TagState256, 
     init_tag::<Ripemd256Function>(&mut state.inner, &mut state.outer, key);
 }
 
-/// Takes bytes in, after those of the text so far. False exactly if the state is that of no tag, and
-/// then nothing is written.
+/// Appends bytes to the text. False exactly if the state is no HMAC state, and then nothing is
+/// written.
 #[unsafe(no_mangle)]
 pub extern "C" fn nattizhu_hmac_ripemd256_update_nonnull(
     state: &mut TagState256,
@@ -322,8 +322,8 @@ pub extern "C" fn nattizhu_hmac_ripemd320_init_nonnull(state: &mut TagState320, 
     init_tag::<Ripemd320Function>(&mut state.inner, &mut state.outer, key);
 }
 
-/// Takes bytes in, after those of the text so far. False exactly if the state is that of no tag, and
-/// then nothing is written.
+/// Appends bytes to the text. False exactly if the state is no HMAC state, and then nothing is
+/// written.
 #[unsafe(no_mangle)]
 pub extern "C" fn nattizhu_hmac_ripemd320_update_nonnull(
     state: &mut TagState320,
@@ -389,7 +389,7 @@ fn verify_text<F: ResumableFunction>(key: &[u8], text: &[u8], tag: &[u8]) -> boo
     mac_of::<F>(key, text).verify(tag)
 }
 
-// A tag under way that has taken in a key and a whole text.
+// The HMAC state of a key and a whole text.
 fn mac_of<F: ResumableFunction>(key: &[u8], text: &[u8]) -> Hmac<BlockHasher<F>>
     ensures { StandsFor (F.list F.start_of) F.step F.output key.now text.now result }
 {
@@ -398,7 +398,7 @@ fn mac_of<F: ResumableFunction>(key: &[u8], text: &[u8]) -> Hmac<BlockHasher<F>>
     mac
 }
 
-// Writes the saved bytes of a tag under way that has taken in a key and no text.
+// Writes the saved bytes of the HMAC state of a key and the empty text.
 fn init_tag<F: ResumableFunction>(
     inner: &mut F::SavedHasher,
     outer: &mut F::SavedHasher,
@@ -413,7 +413,7 @@ fn init_tag<F: ResumableFunction>(
     *outer = saved.outer;
 }
 
-// Takes bytes of a text in. False exactly if no tag under way is saved as these bytes, and then
+// Appends bytes to a text. False exactly if no HMAC state is saved as these bytes, and then
 // nothing is written.
 fn update_tag<F: ResumableFunction>(
     inner: &mut F::SavedHasher,
@@ -450,7 +450,7 @@ fn update_tag<F: ResumableFunction>(
     }
 }
 
-// Writes the tag of the text so far. False exactly if no tag under way is saved as these bytes, and
+// Writes the tag of the text so far. False exactly if no HMAC state is saved as these bytes, and
 // then nothing is written.
 fn final_tag<F: ResumableFunction>(
     inner: &F::SavedHasher,
@@ -479,7 +479,7 @@ fn final_tag<F: ResumableFunction>(
     }
 }
 
-// Whether these bytes are the tag of the text so far, all of them: false too if no tag under way
+// Whether these bytes are the tag of the text so far, all of them: false too if no HMAC state
 // is saved as the bytes of the state.
 fn verify_tag<F: ResumableFunction>(
     inner: &F::SavedHasher,

@@ -7,7 +7,7 @@ use Rattle.ripemd.specs.States.{Meaning, IsState, fed, output_and_count, core_an
 use Rattle.ripemd_block.specs.Laws.Saving.{words_told, length-output_and_count, core_and_tail-split, tail_bytes}
 use Rattle.ripemd_c.proofs.facts.worked_states.Goals as goal
 
--- the hash under way
+-- the hash state
 abbrev after : Meaning
 after = record {
   words = 0xd42339f0 ∷ 0xce5b9f6f ∷ 0x2874a075 ∷ 0xdf67aaf1 ∷ 0xc6c1be1c ∷ [];
