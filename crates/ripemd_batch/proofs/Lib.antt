@@ -2,7 +2,6 @@ pub mod Blocks
 pub mod EightLanes
 pub mod Factored
 pub mod Placing
-pub mod Reading
 pub mod Tagging
 pub mod Transposing
 pub mod Walking

@@ -3,6 +3,7 @@
 ghost use Rattle.std.specs.Prelude.{◌≡◌, ◌<◌, ◌+◌, ◌*◌, ℕ, length, slice_index, slice_index_or, [], ◌∷◌};
 ghost use Rattle.ripemd_block.specs.Standard.Words.{message_word};
 
+use ripemd_block::message::four_words;
 use std::marker::Model;
 use std::simd::prelude::*;
 
@@ -42,9 +43,8 @@ impl FourWords {
         ensures { (k : ℕ) → k < 4
             → slice_index result k ≡ message_word block.now (4 * i + k) }
     {
-        let bytes = u8x16::from_slice(&block[16 * i..]);
         FourWords {
-            lanes: u32x4::from_le_bytes(bytes),
+            lanes: four_words(block, i),
         }
     }
 

@@ -3,6 +3,7 @@ pub mod Factoring
 pub mod Finishing
 pub mod LastBlocks
 pub mod PaddedBlocks
+pub mod Reading
 pub mod Rotating
 pub mod Stepping
 pub mod Tables

@@ -1,19 +1,33 @@
 -- A line, step by step and round by round, of any variant.
-use Rattle.std.proofs.Common.{◌≡◌, ℕ, zero, suc, ◌<◌, ◌+◌, ◌^◌, add-one, ap, ◌∙◌, arith}
+use Rattle.std.proofs.Common.{◌≡◌, ℕ, zero, suc, ◌<◌, ◌+◌, ◌^◌, add-one, ap, ◌∙◌, refl, arith}
 use Rattle.std.proofs.Common.{List, [], ◌∷◌, get_or, slice_get}
 use Rattle.std.specs.List.{All}
-use Rattle.ripemd_block.specs.Standard.Words.{message_word}
+use Rattle.ripemd_block.specs.Standard.Words.{◌⊞◌, message_word}
 use Rattle.ripemd_block.specs.Standard.Schedule.{Line, left_line, right_line, rotation}
 use Rattle.ripemd_block.specs.Standard.Compression.{Parameters, Lines, step, registers_after, round}
 use Rattle.ripemd_block.specs.Standard.Compression.{word_sums, exchange, lines_after, lines_from, compress}
-use Rattle.ripemd_block.specs.Code.Lines.{message_words}
+use Rattle.ripemd_block.specs.Code.Lines.{raised_words}
 use Rattle.ripemd_block.proofs.Tables.{value_at}
 
--- the message word at a place of all sixteen
-pub message_word_at : {words : List ℕ} (block : List ℕ) (j d : ℕ) → words ≡ message_words block → j < 16
-    → get_or words j d ≡ message_word block j
-unfolding message_words
-message_word_at block j d all h = rw all (value_at (message_word block) 16 j d h)
+-- the raised word at a place of all sixteen
+pub raised_word_at : {words : List ℕ} (block : List ℕ) (j d : ℕ) → words ≡ raised_words block → j < 16
+    → get_or words j d ≡ message_word block j ⊞ 1
+unfolding raised_words
+raised_word_at block j d all h = rw all (value_at (λ j. message_word block j ⊞ 1) 16 j d h)
+
+same_sum : (u x k : ℕ) → u ⊞ (x ⊞ 1) ⊞ k ≡ u ⊞ x ⊞ (k ⊞ 1)
+same_sum u x k = omega arith
+
+-- a step may take 1 from its message word to its constant
+pub lowered_step : (f : ℕ → ℕ → ℕ → ℕ) (x k s : ℕ) (registers : List ℕ)
+    → step f (x ⊞ 1) k s registers ≡ step f x (k ⊞ 1) s registers
+lowered_step f x k s [] = refl
+lowered_step f x k s (a ∷ []) = refl
+lowered_step f x k s (a ∷ b ∷ []) = refl
+lowered_step f x k s (a ∷ b ∷ c ∷ []) = refl
+lowered_step f x k s (a ∷ b ∷ c ∷ d ∷ []) = rw (same_sum (a ⊞ f b c d) x k) refl
+lowered_step f x k s (a ∷ b ∷ c ∷ d ∷ e ∷ []) = rw (same_sum (a ⊞ f b c d) x k) refl
+lowered_step f x k s (a ∷ b ∷ c ∷ d ∷ e ∷ g ∷ more) = refl
 
 -- one more step of a line, where j is the number of its message word x, k the constant and s the rotation
 pub one_more_step : (line : Line) (block : List ℕ) (r n : ℕ) (start before after : List ℕ) (j x k s : ℕ)
@@ -27,6 +41,20 @@ pub one_more_step : (line : Line) (block : List ℕ) (r n : ℕ) (start before a
 unfolding registers_after
 one_more_step line block r n start before after j x k s number word constant amount so_far made =
     rw (add-one, ← so_far, ← number, ← word, ← constant, ← amount) made
+
+-- the same, where 1 is added to the message word and taken off the constant
+pub one_more_raised_step : (line : Line) (block : List ℕ) (r n : ℕ) (start before after : List ℕ) (j x k s : ℕ)
+    → j ≡ line.word_number r n
+    → x ≡ message_word block j ⊞ 1
+    → k ⊞ 1 ≡ line.constant r
+    → s ≡ rotation r j
+    → before ≡ registers_after line block r n start
+    → after ≡ step (line.function r) x k s before
+    → after ≡ registers_after line block r (n + 1) start
+one_more_raised_step line block r n start before after j x k s number word constant amount so_far made =
+    one_more_step line block r n start before after j (message_word block j) (k ⊞ 1) s number refl constant amount so_far
+    (made ∙ ap (λ (w : ℕ). step (line.function r) w k s before) word
+    ∙ lowered_step (line.function r) (message_word block j) k s before)
 
 -- the lines after the first n rounds on a block, from where the state has them start
 pub record AfterRounds (v : Parameters) (state block : List ℕ) (n : ℕ) (lines : Lines) : Type 0 where

@@ -8,7 +8,7 @@ ghost use Rattle.ripemd_block.specs.States.{AreWords};
 ghost use Rattle.ripemd_block.specs.Code.Lines.{four_lefts, four_rights, lines_of_four_registers};
 
 use crate::four_registers::round;
-use crate::message::message_words;
+use crate::message::raised_words;
 use crate::pair::Pair;
 
 // Where the lines start.
@@ -45,7 +45,7 @@ pub(crate) fn compress(state: &mut [u32; 4], block: &[u8; 64])
     ensures old_words { AreWords 4 state.old }
     ensures new_words { AreWords 4 state.new }
 {
-    let words = message_words(block);
+    let words = raised_words(block);
     let lines = lines_from(*state);
     let lines = round(0, &words, lines);
     let lines = round(1, &words, lines);

@@ -8,7 +8,7 @@ ghost use Rattle.ripemd_block.specs.States.{AreWords};
 ghost use Rattle.ripemd_block.specs.Code.Lines.{five_lefts, five_rights, lines_of_five_registers};
 
 use crate::five_registers::round;
-use crate::message::message_words;
+use crate::message::raised_words;
 use crate::pair::Pair;
 
 // Where the lines start.
@@ -47,7 +47,7 @@ pub(crate) fn compress(state: &mut [u32; 5], block: &[u8; 64])
     ensures old_words { AreWords 5 state.old }
     ensures new_words { AreWords 5 state.new }
 {
-    let words = message_words(block);
+    let words = raised_words(block);
     let lines = lines_from(*state);
     let lines = round(0, &words, lines);
     let lines = round(1, &words, lines);

@@ -8,7 +8,7 @@ ghost use Rattle.ripemd_block.specs.States.{AreWords};
 ghost use Rattle.ripemd_block.specs.Code.Lines.{five_lefts, five_rights, lines_of_five_registers};
 
 use crate::five_registers::{exchange, round};
-use crate::message::message_words;
+use crate::message::raised_words;
 use crate::pair::Pair;
 
 // Where the lines start.
@@ -51,7 +51,7 @@ pub(crate) fn compress(state: &mut [u32; 10], block: &[u8; 64])
     ensures old_words { AreWords 10 state.old }
     ensures new_words { AreWords 10 state.new }
 {
-    let words = message_words(block);
+    let words = raised_words(block);
     let lines = lines_from(*state);
     let lines = exchange(1, round(0, &words, lines));
     let lines = exchange(3, round(1, &words, lines));

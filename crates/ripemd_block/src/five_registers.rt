@@ -2,12 +2,13 @@
 //! side.
 
 ghost use Rattle.std.specs.Prelude.{◌≡◌, ◌<◌, ◌≤◌, ◌+◌, ◌-◌, ℕ, List, Some};
+ghost use Rattle.ripemd_block.specs.Standard.Words.{◌⊞◌};
 ghost use Rattle.ripemd_block.specs.Standard.Schedule.{boolean_function, left_line, right_line};
 ghost use Rattle.ripemd_block.specs.Standard.Compression.{step, registers_after, round, exchange};
-ghost use Rattle.ripemd_block.specs.Code.Lines.{five_lefts, five_rights, lines_of_five_registers, message_words};
+ghost use Rattle.ripemd_block.specs.Code.Lines.{five_lefts, five_rights, lines_of_five_registers, raised_words};
 
 use crate::message::words_of_step;
-use crate::pair::{DoubledWord, Pair};
+use crate::pair::Pair;
 use crate::textbook::{
     left_constant, left_number, right_constant_of_five_rounds, right_number, rotation,
 };
@@ -33,14 +34,17 @@ fn functions(r: usize, x: Pair, y: Pair, z: Pair) -> Pair
     }
 }
 
-// The constants of round `r`.
+// The constants of round `r`, with 1 taken off.
 #[inline(always)]
 fn constants(r: usize) -> Pair
     requires { r < 5 }
-    ensures left { result.left ≡ left_line.constant r }
-    ensures right { result.right ≡ (right_line 5).constant r }
+    ensures left { result.left ⊞ 1 ≡ left_line.constant r }
+    ensures right { result.right ⊞ 1 ≡ (right_line 5).constant r }
 {
-    Pair::of(left_constant(r), right_constant_of_five_rounds(r))
+    Pair::of(
+        left_constant(r).wrapping_sub(1),
+        right_constant_of_five_rounds(r).wrapping_sub(1),
+    )
 }
 
 // A step of both lines in round `r`, from the registers A B C D E, with the message words `x`, the
@@ -63,13 +67,13 @@ fn step(r: usize, x: Pair, k: Pair, left: u32, right: u32, registers: [Pair; 5])
 
 // Step `i` of round `r`.
 #[inline(always)]
-fn step_at(r: usize, i: usize, words: &[DoubledWord; 16], registers: [Pair; 5]) -> [Pair; 5]
+fn step_at(r: usize, i: usize, words: &[u32; 16], registers: [Pair; 5]) -> [Pair; 5]
     requires round { r < 5 }
     requires step { i < 16 }
-    ensures left { (block start : List ℕ) → words.now ≡ message_words block
+    ensures left { (block start : List ℕ) → words.now ≡ raised_words block
         → five_lefts registers ≡ registers_after left_line block r i start
         → five_lefts result ≡ registers_after left_line block r (i + 1) start }
-    ensures right { (block start : List ℕ) → words.now ≡ message_words block
+    ensures right { (block start : List ℕ) → words.now ≡ raised_words block
         → five_rights registers ≡ registers_after (right_line 5) block r i start
         → five_rights result ≡ registers_after (right_line 5) block r (i + 1) start }
 {
@@ -84,13 +88,13 @@ fn step_at(r: usize, i: usize, words: &[DoubledWord; 16], registers: [Pair; 5]) 
 
 // Four steps of round `r`, from step `from` on.
 #[inline(always)]
-fn four_steps(r: usize, from: usize, words: &[DoubledWord; 16], start: [Pair; 5]) -> [Pair; 5]
+fn four_steps(r: usize, from: usize, words: &[u32; 16], start: [Pair; 5]) -> [Pair; 5]
     requires round { r < 5 }
     requires steps { from + 4 ≤ 16 }
-    ensures left { (block first : List ℕ) → words.now ≡ message_words block
+    ensures left { (block first : List ℕ) → words.now ≡ raised_words block
         → five_lefts start ≡ registers_after left_line block r from first
         → five_lefts result ≡ registers_after left_line block r (from + 4) first }
-    ensures right { (block first : List ℕ) → words.now ≡ message_words block
+    ensures right { (block first : List ℕ) → words.now ≡ raised_words block
         → five_rights start ≡ registers_after (right_line 5) block r from first
         → five_rights result ≡ registers_after (right_line 5) block r (from + 4) first }
 {
@@ -104,11 +108,11 @@ fn four_steps(r: usize, from: usize, words: &[DoubledWord; 16], start: [Pair; 5]
 
 /// Round `r` of both lines: sixteen steps. Fours of them are what the compiler unrolls.
 #[inline(always)]
-pub(crate) fn round(r: usize, words: &[DoubledWord; 16], registers: [Pair; 5]) -> [Pair; 5]
+pub(crate) fn round(r: usize, words: &[u32; 16], registers: [Pair; 5]) -> [Pair; 5]
     requires { r < 5 }
-    ensures left { (block : List ℕ) → words.now ≡ message_words block
+    ensures left { (block : List ℕ) → words.now ≡ raised_words block
         → five_lefts result ≡ round left_line block r (five_lefts registers) }
-    ensures right { (block : List ℕ) → words.now ≡ message_words block
+    ensures right { (block : List ℕ) → words.now ≡ raised_words block
         → five_rights result ≡ round (right_line 5) block r (five_rights registers) }
 {
     let registers = four_steps(r, 0, words, registers);

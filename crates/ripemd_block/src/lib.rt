@@ -13,7 +13,7 @@ mod c320;
 pub mod facts;
 mod five_registers;
 mod four_registers;
-mod message;
+pub mod message;
 pub mod padding;
 mod pair;
 pub mod textbook;

@@ -1,7 +1,7 @@
 -- The registers of both lines side by side, and the message words that their steps take.
 use Rattle.std.specs.Prelude.{ℕ, List, [], ◌∷◌, map, slice_index_or}
 use Rattle.std.specs.List.{range_with_len}
-use Rattle.ripemd_block.specs.Standard.Words.{message_word}
+use Rattle.ripemd_block.specs.Standard.Words.{◌⊞◌, message_word}
 use Rattle.ripemd_block.specs.Standard.Compression.{Lines}
 use Rattle.ripemd_block.specs.Code.Pairs.{WordPair}
 
@@ -35,6 +35,6 @@ five_rights v =
 abbrev pub lines_of_five_registers : List WordPair → Lines
 lines_of_five_registers v = record { left = five_lefts v; right = five_rights v }
 
--- the sixteen message words of a block
-unfoldable pub message_words : List ℕ → List ℕ
-message_words block = map (message_word block) (range_with_len 0 16)
+-- the sixteen message words of a block, each with 1 added
+unfoldable pub raised_words : List ℕ → List ℕ
+raised_words block = map (λ j. message_word block j ⊞ 1) (range_with_len 0 16)

@@ -1,4 +1,4 @@
--- What a pair of words and a doubled word stand for.
+-- What a pair of words stands for.
 use Rattle.std.specs.Prelude.{ℕ, ◌+◌, ◌*◌, ◌^◌, ◌<◌, ◌≡◌, List, [], ◌∷◌, slice_index}
 
 -- a word of the left line and one of the right

@@ -5,7 +5,7 @@ use Rattle.ripemd_block.proofs.c128.compress.Goals as goal
 
 pub returns-clause-state : goal.returns-clause-state
 returns-clause-state c =
-    let words = c.message_words-words.ensures in
+    let words = c.raised_words-words.ensures in
     c.joint_state.ensures ∙ compress_from (next_round (next_round (next_round (next_round
     (no_rounds ripemd128 c.args.state.now c.args.block.now c.lines_from-lines.ensures)
     c.round-lines.ensures.left c.round-lines.ensures.right refl words)

@@ -1,11 +1,11 @@
 use Rattle.std.proofs.Common.{◌*◌, ◌∙◌, refl, arith, w8}
 use Rattle.std.specs.Simd.Lanes.{chunk}
 use Rattle.std.proofs.lemmas.Simd.{chunk-fits, below_from_Fits, get_or_wider}
-use Rattle.ripemd_batch.proofs.Reading.{word_in_chunk}
-use Rattle.ripemd_batch.proofs.four_words.FourWords.of_block.Goals as goal
+use Rattle.ripemd_block.proofs.Reading.{word_in_chunk}
+use Rattle.ripemd_block.proofs.message.four_words.Goals as goal
 
-pub returns : goal.returns
-returns c k small =
+pub returns-clause-words : goal.returns-clause-words
+returns-clause-words c k small =
     let block = c.args.block.now in
     let at = 16 * c.args.i in
     let fit = chunk-fits w8 at 16 block c.type_inv.block in
