@@ -14,28 +14,21 @@ use crate::textbook::{
 };
 
 // The Boolean functions of round `r`: number `r` of the left words, and number `3 - r` of the right
-// ones, all in the form `(x & m) ^ n`, so that little waits for `x`, the newest of them.
+// ones, all in the form `(x & m) ^ n`, so that little waits for `x`, the newest of them. Masks tell
+// the lines apart: a processor has more places for `and` and `or` than for `select`.
 #[inline(always)]
 fn functions(r: usize, x: Pair, y: Pair, z: Pair) -> Pair
     requires { r < 4 }
     ensures left { result.left ≡ boolean_function r x.left y.left z.left }
     ensures right { result.right ≡ boolean_function (3 - r) x.right y.right z.right }
 {
-    let none = Pair::of(0, 0);
-    let ones = Pair::of(0xffff_ffff, 0xffff_ffff);
+    let lefts = Pair::of(0xffff_ffff, 0);
+    let rights = Pair::of(0, 0xffff_ffff);
     match r {
-        0 => x
-            .and(Pair::select(ones, z))
-            .xor(Pair::select(y.xor(z), y.and(z.not()))),
-        1 => x
-            .and(Pair::select(y.xor(z), y))
-            .xor(z.xor(Pair::select(none, y.not()))),
-        2 => x
-            .and(Pair::select(y, y.xor(z)))
-            .xor(z.xor(Pair::select(y.not(), none))),
-        _ => x
-            .and(Pair::select(z, ones))
-            .xor(Pair::select(y.and(z.not()), y.xor(z))),
+        0 => x.and(z.or(lefts)).xor(y.xor(z.and(y.or(lefts)))),
+        1 => x.and(y.xor(z.and(lefts))).xor(z.xor(y.not().and(rights))),
+        2 => x.and(y.xor(z.and(rights))).xor(z.xor(y.not().and(lefts))),
+        _ => x.and(z.or(rights)).xor(y.xor(z.and(y.or(rights)))),
     }
 }
 
