@@ -7,7 +7,8 @@
 #   make bench         the program's speed on 256 MiB in memory, beside the library's and that of other
 #                      programs, as a table; then, with a C compiler, the speed of the functions that C
 #                      calls beside those of other libraries; that of lists of messages, at once
-#                      and one by one; and the time of verifying right and wrong tags
+#                      and one by one; and the time of verifying right and wrong tags. It leaves
+#                      a picture, crates/ripemd_bench/out/speed.svg
 #   make library       builds the library for C, proved: libnattizhu.a and, with a C compiler, the
 #                      shared object libnattizhu.so, in crates/ripemd_c/out
 #   make install       builds all of it and copies to PREFIX (/usr/local; DESTDIR goes in front) the
@@ -23,6 +24,7 @@ PREFIX = /usr/local
 CPU =
 
 PROGRAM = crates/ripemd_sum/out/ripemd_sum
+SPEED = crates/ripemd_bench/out/speed
 
 BUILT = crates/ripemd_c/out
 AT = $(DESTDIR)$(PREFIX)
@@ -53,7 +55,8 @@ quick:
 bench: all
 	@cd crates/ripemd_bench && rt run $(if $(CPU),--cpu $(CPU)) </dev/null >/dev/null
 	@tests/bench
-	@tests/linked
+	@tests/linked | tee $(SPEED).txt
+	@! grep -q '^One message' $(SPEED).txt || tests/picture $(SPEED).txt >$(SPEED).svg
 	@echo && crates/ripemd_bench/out/ripemd_bench lists
 	@echo && crates/ripemd_bench/out/ripemd_bench tags
 

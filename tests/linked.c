@@ -408,8 +408,8 @@ static void print_table(int t) {
 
 // The same of pieces.
 static void print_pieces(void) {
-  printf("\nOne piece of a message, RIPEMD-160:\n\n"
-         "| | 1 byte, ns | 64 bytes, ns | 4,096 bytes, ns | 1 MiB, MB/s |\n|---|---|---|---|---|\n");
+  printf("\nOne piece of a message, RIPEMD-160:\n\n| | 1 byte, ns | 64 bytes, ns | 4,096 bytes, ns "
+         "| 1 MiB, MB/s |\n|---|---|---|---|---|\n");
   for (int l = 0; l < count; l++) {
     if (!libraries[l].update)
       continue;
