@@ -149,16 +149,16 @@ pub trait Digest: OutputSizeUser + HashMeaning + Drop {
 
     /// The digest of a message that is there as a whole.
     #[tactic(auto, using(crate::specs::Laws::finish_fed))]
-    final fn digest(message: &[u8]) -> Self::Output
+    fn digest(message: &[u8]) -> Self::Output
     where
         Self: Sized,
         ensures digest { Self.bytes_of result
             ≡ hash Self.start Self.step Self.output message.now }
         ensures size { length (Self.bytes_of result) ≡ Self.OUTPUT_SIZE }
     {
-        let mut hasher = Self::new();
-        hasher.update(message);
-        hasher.finalize()
+        let mut fresh = Self::new();
+        fresh.update(message);
+        fresh.finalize_reset()
     }
 
     // No bytes change nothing.

@@ -9,7 +9,7 @@ use crate::digest::{
 };
 use ripemd_block::block_api::{
     BlockCore, ByteArray, HashFunction, Ripemd128Function, Ripemd160Function, Ripemd256Function,
-    Ripemd320Function,
+    Ripemd320Function, digest_message,
 };
 use ripemd_block::buffer::Buffer;
 use std::alloc::AllocError;
@@ -172,6 +172,10 @@ impl<F: HashFunction> Digest for BlockHasher<F> {
 
     fn output_bytes(out: &F::Digest) -> &[u8] {
         out.as_bytes()
+    }
+
+    fn digest(message: &[u8]) -> F::Digest {
+        digest_message::<F>(message)
     }
 
     ghost use Rattle.ripemd.specs.Laws.{fed_nothing};

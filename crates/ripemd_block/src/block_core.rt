@@ -1,12 +1,14 @@
 //! The block core: a state of a block function, and the count of the blocks that it took in.
 
-ghost use Rattle.std.specs.Prelude.{◌≡◌, List, [], ⊤};
-ghost use Rattle.ripemd_block.specs.Standard.Hashing.{walk};
+ghost use Rattle.std.specs.Prelude.{◌≡◌, List, [], ◌∷◌, length, ⊤};
+ghost use Rattle.std.specs.Option.{option_to_list};
+ghost use Rattle.ripemd_block.specs.Standard.Hashing.{walk, hash};
 ghost use Rattle.ripemd_block.specs.States.{Meaning, IsWithoutTail, output_and_count};
 ghost use Rattle.ripemd_block.specs.States.{initial_state, after_blocks, with_tail, finish};
 
 use crate::arrays::{ByteArray, read_count};
 use crate::buffer::Buffer;
+use crate::padding::{Padded, last_blocks, whole_blocks};
 use crate::traits::{
     AlgorithmName, BlockFunction, BlockSizeUser, BufferKindUser, DeserializeStateError, Eager,
     FixedOutputCore, HashFunction, HashMarker, HashMeaning, OutputSizeUser, Reset,
@@ -152,11 +154,7 @@ impl<F: HashFunction> FixedOutputCore for BlockCore<F> {
             .wrapping_mul(512)
             .wrapping_add(8 * tail_len);
         let padded = buffer.len64_padding_le(bit_len);
-        let first = padded.first;
-        let mut state = walk::<F>(self.state, &[first]);
-        if let Some(second) = padded.second {
-            state = walk::<F>(state, &[second]);
-        }
+        let state = walk_last::<F>(self.state, &padded);
         *out = F::output(state);
         // It has the size of a digest.
         out.as_bytes();
@@ -176,6 +174,37 @@ pub fn walk<F: HashFunction>(state: F::State, blocks: &[[u8; 64]]) -> F::State
         state = F::step(state, block);
     }
     state
+}
+
+// The state after the last blocks of a message.
+fn walk_last<F: HashFunction>(state: F::State, last: &Padded) -> F::State
+    requires { F.is_state state }
+    ensures value { result
+        ≡ walk F.step_of state (last.now.first ∷ option_to_list last.now.second) }
+    ensures valid { F.is_state result }
+{
+    let first = last.first;
+    let state = walk::<F>(state, &[first]);
+    match last.second {
+        Some(second) => walk::<F>(state, &[second]),
+        None => state,
+    }
+}
+
+/// The digest of a message that is there as a whole.
+pub fn digest_message<F: HashFunction>(message: &[u8]) -> F::Digest
+    ensures digest { F.Digest.bytes result
+        ≡ hash (F.list F.start_of) F.step F.output message.now }
+    ensures size { length (F.Digest.bytes result) ≡ F.Digest.LEN }
+{
+    let (whole, tail) = whole_blocks(message);
+    let bit_len = (message.len() as u64).wrapping_mul(8);
+    let state = walk::<F>(F::start(), whole);
+    let last = last_blocks(tail, bit_len);
+    let digest = F::output(walk_last::<F>(state, &last));
+    // It has the size of a digest.
+    digest.as_bytes();
+    digest
 }
 
 impl<F: ResumableFunction> SerializableState for BlockCore<F> {

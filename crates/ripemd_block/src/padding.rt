@@ -64,16 +64,19 @@ pub(crate) fn last_blocks(tail: &[u8], bit_len: u64) -> Padded
     ensures second { IsSome result.second ↔ (length_place ≤ length tail.now) }
     ensures valid { IsTail tail.now }
 {
-    let marked = marked_block(tail);
+    let mut first = marked_block(tail);
     if tail.len() < 56 {
+        write_length(&mut first, bit_len);
         Padded {
-            first: with_length(&marked, bit_len),
+            first,
             second: None,
         }
     } else {
+        let mut second = [0; 64];
+        write_length(&mut second, bit_len);
         Padded {
-            first: marked,
-            second: Some(with_length(&[0; 64], bit_len)),
+            first,
+            second: Some(second),
         }
     }
 }
@@ -91,11 +94,9 @@ fn marked_block(tail: &[u8]) -> [u8; 64]
     block
 }
 
-// The block with the length of a message in place of its last 8 bytes.
-fn with_length(block: &[u8; 64], bit_len: u64) -> [u8; 64]
-    ensures { result ≡ take length_place block.now ++ eight_bytes bit_len }
+// Writes the length of a message in place of the last 8 bytes of a block.
+fn write_length(block: &mut [u8; 64], bit_len: u64)
+    ensures { block.new ≡ take length_place block.old ++ eight_bytes bit_len }
 {
-    let mut ended = *block;
-    ended[56..].copy_from_slice(&bit_len.to_le_bytes());
-    ended
+    block[56..].copy_from_slice(&bit_len.to_le_bytes());
 }

@@ -1,31 +1,23 @@
-use Rattle.std.proofs.Common.{◌≡◌, ◌∷◌, arith, ap, ◌∙◌, refl}
+use Rattle.std.proofs.Common.{◌≡◌, ◌∷◌, arith, ap, ◌∙◌}
 use Rattle.std.specs.Option.{option_to_list}
 use Rattle.ripemd_block.specs.Standard.Hashing.{walk}
 use Rattle.ripemd_block.specs.States.{Meaning}
 use Rattle.ripemd_block.specs.Listed.{walk_listed}
 use Rattle.ripemd_block.proofs.Finishing.{finish_of_blocks}
 use Rattle.ripemd_block.proofs.block_core.BlockCoreFixedOutputCore.finalize_fixed_core.Goals as goal
-use Rattle.ripemd_block.proofs.block_core.BlockCoreFixedOutputCore.finalize_fixed_core.Goals.{in-Some, in_default}
 
--- the state after the one or two padded blocks is that of the walk through them
 pub returns-clause-digest : goal.returns-clause-digest
 returns-clause-digest g c =
     let f = g.F.HashFunction in
     let lists = g.met.F.HashFunction.over_lists in
     let core = c.args.self.now in
-    let tail = c.args.buffer.now in
     let padded = c.len64_padding_le-padded in
     let last = padded.result.first ∷ option_to_list padded.result.second in
     let start = c.self.inside.state in
-    let ends = c.match-padded.state in
+    let ends = c.walk_last-state.result in
     let own_count : c.self.inside.block_count ≡ core.count = ap (λ (h : Meaning). h.count) c.self.view_is in
-    let state : ends ≡ walk g.F.BlockFunction.step_of start last =
-    elim c.match-padded.branch [
-      | in-Some w ↦ rw (w.state-is, w.walk-state-in-Some.ensures.value, c.walk-state.ensures.value, w.in-Some.is) refl
-      | in_default w ↦ rw (w.state-is, c.walk-state.ensures.value, w.in_default.is) refl
-    ] in
     let words : f.list ends ≡ walk f.step core.words last =
-    ap f.list state ∙ walk_listed lists start last
+    ap f.list c.walk_last-state.ensures.value ∙ walk_listed lists start last
     ∙ ap (λ (h : Meaning). walk f.step h.words last) c.self.view_is in
     ap g.F.Digest.ByteArray.bytes c.output.ensures.value ∙ lists.of_output ends ∙ ap f.output words
-    ∙ finish_of_blocks f.step f.output core tail padded.ensures.value (omega (arith, own_count))
+    ∙ finish_of_blocks f.step f.output core c.args.buffer.now padded.ensures.value (omega (arith, own_count))
