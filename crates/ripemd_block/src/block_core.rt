@@ -132,7 +132,9 @@ impl<F: HashFunction> UpdateCore for BlockCore<F> {
     ghost after = { after_blocks F.step };
 
     fn update_blocks(&mut self, blocks: &[[u8; 64]]) {
-        self.state = walk::<F>(self.state, blocks);
+        if !blocks.is_empty() {
+            walk_on::<F>(&mut self.state, blocks);
+        }
         self.block_count = self.block_count.wrapping_add(blocks.len() as u64);
     }
 
@@ -154,40 +156,54 @@ impl<F: HashFunction> FixedOutputCore for BlockCore<F> {
             .wrapping_mul(512)
             .wrapping_add(8 * tail_len);
         let padded = buffer.len64_padding_le(bit_len);
-        let state = walk_last::<F>(self.state, &padded);
+        let mut state = self.state;
+        walk_last::<F>(&mut state, &padded);
         *out = F::output(state);
         // It has the size of a digest.
         out.as_bytes();
     }
 }
 
-/// The state after blocks in order. Not inlined, so that a hash function's steps stand once in a
-/// program.
-#[inline(never)]
+/// The state after blocks in order.
+#[inline(always)]
 pub fn walk<F: HashFunction>(state: F::State, blocks: &[[u8; 64]]) -> F::State
     requires { F.is_state state }
     ensures value { result ≡ walk F.step_of state blocks.now }
     ensures valid { F.is_state result }
 {
-    let mut state = state;
+    let mut last = state;
+    if !blocks.is_empty() {
+        walk_on::<F>(&mut last, blocks);
+    }
+    last
+}
+
+// Takes blocks into a state in order. Not inlined, so that a hash function's steps stand once in a
+// program.
+#[inline(never)]
+fn walk_on<F: HashFunction>(first: &mut F::State, blocks: &[[u8; 64]])
+    requires { F.is_state first.old }
+    ensures value { first.new ≡ walk F.step_of first.old blocks.now }
+    ensures valid { F.is_state first.new }
+{
+    let mut state = *first;
     for block in blocks {
         state = F::step(state, block);
     }
-    state
+    *first = state;
 }
 
-// The state after the last blocks of a message.
-fn walk_last<F: HashFunction>(state: F::State, last: &Padded) -> F::State
-    requires { F.is_state state }
-    ensures value { result
-        ≡ walk F.step_of state (last.now.first ∷ option_to_list last.now.second) }
-    ensures valid { F.is_state result }
+// Takes the last blocks of a message into a state.
+fn walk_last<F: HashFunction>(state: &mut F::State, last: &Padded)
+    requires { F.is_state state.old }
+    ensures value { state.new
+        ≡ walk F.step_of state.old (last.now.first ∷ option_to_list last.now.second) }
+    ensures valid { F.is_state state.new }
 {
     let first = last.first;
-    let state = walk::<F>(state, &[first]);
-    match last.second {
-        Some(second) => walk::<F>(state, &[second]),
-        None => state,
+    walk_on::<F>(state, &[first]);
+    if let Some(second) = last.second {
+        walk_on::<F>(state, &[second]);
     }
 }
 
@@ -199,9 +215,9 @@ pub fn digest_message<F: HashFunction>(message: &[u8]) -> F::Digest
 {
     let (whole, tail) = whole_blocks(message);
     let bit_len = (message.len() as u64).wrapping_mul(8);
-    let state = walk::<F>(F::start(), whole);
-    let last = last_blocks(tail, bit_len);
-    let digest = F::output(walk_last::<F>(state, &last));
+    let mut state = walk::<F>(F::start(), whole);
+    walk_last::<F>(&mut state, &last_blocks(tail, bit_len));
+    let digest = F::output(state);
     // It has the size of a digest.
     digest.as_bytes();
     digest

@@ -14,10 +14,10 @@ returns-clause-digest g c =
     let padded = c.len64_padding_le-padded in
     let last = padded.result.first ∷ option_to_list padded.result.second in
     let start = c.self.inside.state in
-    let ends = c.walk_last-state.result in
+    let ends = c.walk_last.new.state in
     let own_count : c.self.inside.block_count ≡ core.count = ap (λ (h : Meaning). h.count) c.self.view_is in
     let words : f.list ends ≡ walk f.step core.words last =
-    ap f.list c.walk_last-state.ensures.value ∙ walk_listed lists start last
+    ap f.list c.walk_last.ensures.value ∙ walk_listed lists start last
     ∙ ap (λ (h : Meaning). walk f.step h.words last) c.self.view_is in
     ap g.F.Digest.ByteArray.bytes c.output.ensures.value ∙ lists.of_output ends ∙ ap f.output words
     ∙ finish_of_blocks f.step f.output core c.args.buffer.now padded.ensures.value (omega (arith, own_count))
