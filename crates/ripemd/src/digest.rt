@@ -147,7 +147,7 @@ pub trait Digest: OutputSizeUser + HashMeaning + Drop {
         Self::OUTPUT_SIZE
     }
 
-    /// The digest of a message that is there as a whole.
+    /// The digest of a whole message.
     #[tactic(auto, using(crate::specs::Laws::finish_fed))]
     fn digest(message: &[u8]) -> Self::Output
     where

@@ -207,7 +207,7 @@ fn walk_last<F: HashFunction>(state: &mut F::State, last: &Padded)
     }
 }
 
-/// The digest of a message that is there as a whole.
+/// The digest of a whole message.
 pub fn digest_message<F: HashFunction>(message: &[u8]) -> F::Digest
     ensures digest { F.Digest.bytes result
         ≡ hash (F.list F.start_of) F.step F.output message.now }
