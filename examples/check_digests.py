@@ -3,12 +3,12 @@
 
     check_digests.py LIST
 
-A line of the list has a digest in hexadecimal, two spaces and a file's name,
-as `openssl dgst -r` and the like write them; the digest's length says which
-variant it is of. On a terminal it shows how far it is. When it is stopped
-(Ctrl-C, or SIGTERM), it keeps in LIST.stopped where it was, with the state of
-the digest under way, and goes on from there when it is run again. Whoever can
-write that file can make it say OK.
+A line of the list has a digest in hexadecimal, a space, a space or `*`, and a
+file's name, as `openssl dgst -r` and the like write them. The length says of
+which RIPEMD variant the digest is. On a terminal it shows its progress. When
+it is stopped (Ctrl-C, or SIGTERM), it keeps its place and the hash state in
+LIST.stopped, and goes on from there when it is run again. Whoever can write
+that file can make it say OK.
 
 It ends with 0 if all files are as listed, 1 if one is not, 2 if the list can't
 be used, and 3 if it was stopped.
@@ -32,9 +32,14 @@ def entries_of(text):
         if not line.strip() or line.startswith("#"):
             continue
         digest, _, name = line.partition(" ")
-        if len(digest) not in NAMES or len(name) < 2 or name[0] not in " *":
+        try:
+            listed = bytes.fromhex(digest)
+        except ValueError:
+            listed = b""
+        variant = NAMES.get(2 * len(listed))
+        if variant is None or len(name) < 2 or name[0] not in " *":
             raise ValueError(f"no digest and name: {line}")
-        entries.append((NAMES[len(digest)], bytes.fromhex(digest), name[1:]))
+        entries.append((variant, listed, name[1:]))
     return entries
 
 

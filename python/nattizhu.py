@@ -112,12 +112,12 @@ _CALLS = _all_calls()
 
 
 def _calls(name):
-    """The functions of the variant with this name."""
+    """The functions of the variant with this name, in either case."""
     if not isinstance(name, str):
         raise TypeError("name must be a string")
-    if name not in _CALLS:
+    if name.lower() not in _CALLS:
         raise ValueError(f"unsupported hash type {name}")
-    return _CALLS[name]
+    return _CALLS[name.lower()]
 
 
 class _PyBuffer(ctypes.Structure):
@@ -178,7 +178,7 @@ class _Bytes:
             _release_buffer(self._buffer)
 
 
-class _UnderWay:
+class _Hash:
     """What hashers and HMACs have in common."""
 
     __slots__ = ("_calls", "_lock", "_state")
@@ -200,12 +200,15 @@ class _UnderWay:
         calls = _calls(name)
         with _Bytes(state) as held:
             made = cls._of(calls, cls._state_type(calls)())
-            if held.length == len(made._state):
-                ctypes.memmove(made._state, held.address, held.length)
-                if made._final() is not None:
-                    return made
-        raise ValueError(
-            f"no {cls.__name__} of {name} is saved as these bytes")
+            size = len(made._state)
+            if held.length != size:
+                raise ValueError(f"a state of {calls.name} has {size} bytes "
+                                 f"here, and not {held.length}")
+            ctypes.memmove(made._state, held.address, held.length)
+            if made._final() is None:
+                raise ValueError(
+                    f"no {cls.__name__} of {calls.name} is saved as these bytes")
+        return made
 
     def __reduce__(self):
         return type(self)._from_state, (self._calls.name, self.state())
@@ -226,7 +229,7 @@ class _UnderWay:
         return None
 
     def update(self, data, /):
-        """Takes the bytes of data in, after those so far."""
+        """Appends the bytes of data."""
         with _Bytes(data) as held, self._lock:
             self._call_update(self._state, held.address, held.length)
 
@@ -250,7 +253,7 @@ class _UnderWay:
             return self._state.raw
 
 
-class Hasher(_UnderWay):
+class Hasher(_Hash):
     """A hasher, as hashlib has them. new() makes one."""
 
     __slots__ = ()
@@ -264,7 +267,7 @@ class Hasher(_UnderWay):
         return self._calls.name
 
 
-class Hmac(_UnderWay):
+class Hmac(_Hash):
     """An HMAC. hmac_new() makes one. Its saved bytes, and so its
     pickle, are as secret as the key."""
 
@@ -318,8 +321,8 @@ def ripemd320(data=b"", *, usedforsecurity=True):
 def from_state(name, state):
     """The hasher that is saved as these bytes, as its state() gave them.
 
-    It raises ValueError if no hasher of this variant is. Nothing in the bytes
-    shows who wrote them."""
+    It raises ValueError if no hasher of this variant is. States are not
+    authenticated: only their layout is checked."""
     return Hasher._from_state(name, state)
 
 

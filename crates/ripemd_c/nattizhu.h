@@ -1,6 +1,6 @@
 /* Nattizhu: RIPEMD-128, RIPEMD-160, RIPEMD-256 and RIPEMD-320 (1996) and HMAC over them (RFC 2104).
  *
- * What each call writes and answers is proved, if its caller ensures this, which nothing checks:
+ * What each call writes and returns is proved, if its caller ensures this, which nothing checks:
  *
  * - A pointer leads to as many bytes, digests or tags as the number after it says, or as its size in
  *   brackets. Each of these pieces of memory is smaller than 2^63 bytes.
@@ -46,7 +46,7 @@ extern "C" {
 #endif
 
 /* ---- The functions of the library whose pointers may not be null, not even with the number 0. They
- * are for callers who take them from a shared object; C takes those below without `_nonnull`. */
+ * are for foreign-function interfaces; C takes those below without `_nonnull`. */
 
 void nattizhu_ripemd128_nonnull(const uint8_t *message, size_t length,
                                 uint8_t digest[NATTIZHU_RIPEMD128_SIZE]);
@@ -164,9 +164,9 @@ static inline void nattizhu_ripemd320(const uint8_t *message, size_t length,
 
 /* ---- Digests of many records of one size */
 
-/* Writes the digest of each of `count` records to its place in `digests`, and answers true. The
+/* Writes the digest of each of `count` records to its place in `digests`, and returns true. The
  * records lie one after another in `bytes`, each of `size` bytes. If `length` is not `count * size`,
- * as numbers and without overflow, the call writes nothing and answers false. */
+ * as numbers and without overflow, the call writes nothing and returns false. */
 static inline bool nattizhu_ripemd128_each(const uint8_t *bytes, size_t length, size_t size,
                                            uint8_t (*digests)[NATTIZHU_RIPEMD128_SIZE],
                                            size_t count) {
@@ -200,7 +200,8 @@ static inline bool nattizhu_ripemd320_each(const uint8_t *bytes, size_t length, 
  *
  * A hash state is bytes without pointers, the same on every machine: it may be copied, compared,
  * stored, and loaded by another process. They are the saved bytes of a hasher of the library in Rattle.
- * Nothing in them shows who wrote them: changed bytes are refused only if they are no hash state. */
+ * States are not authenticated: only their layout is checked, and even an array of zeros is a hash
+ * state. So call init first. */
 
 /* Writes the state of the empty message. */
 void nattizhu_ripemd128_init(uint8_t state[NATTIZHU_RIPEMD128_STATE_SIZE]);
@@ -208,8 +209,8 @@ void nattizhu_ripemd160_init(uint8_t state[NATTIZHU_RIPEMD160_STATE_SIZE]);
 void nattizhu_ripemd256_init(uint8_t state[NATTIZHU_RIPEMD256_STATE_SIZE]);
 void nattizhu_ripemd320_init(uint8_t state[NATTIZHU_RIPEMD320_STATE_SIZE]);
 
-/* Appends bytes to the message: writes the state that follows, and answers true.
- * If these bytes are no hash state, it writes nothing and answers false. */
+/* Appends bytes to the message: writes the state that follows, and returns true.
+ * If these bytes are no hash state, it writes nothing and returns false. */
 static inline bool nattizhu_ripemd128_update(uint8_t state[NATTIZHU_RIPEMD128_STATE_SIZE],
                                              const uint8_t *bytes, size_t length) {
   return nattizhu_ripemd128_update_nonnull(state, nattizhu_some(bytes), length);
@@ -227,8 +228,8 @@ static inline bool nattizhu_ripemd320_update(uint8_t state[NATTIZHU_RIPEMD320_ST
   return nattizhu_ripemd320_update_nonnull(state, nattizhu_some(bytes), length);
 }
 
-/* Writes the digest of the message so far, and answers true. The state stays as it is, and the message
- * may go on. If these bytes are no hash state, the call writes nothing and answers false. */
+/* Writes the digest of the message so far, and returns true. The state stays as it is, and the message
+ * may go on. If these bytes are no hash state, the call writes nothing and returns false. */
 bool nattizhu_ripemd128_final(const uint8_t state[NATTIZHU_RIPEMD128_STATE_SIZE],
                               uint8_t digest[NATTIZHU_RIPEMD128_SIZE]);
 bool nattizhu_ripemd160_final(const uint8_t state[NATTIZHU_RIPEMD160_STATE_SIZE],
@@ -270,8 +271,8 @@ static inline void nattizhu_hmac_ripemd320(const uint8_t *key, size_t key_length
                                   nattizhu_some(text), text_length, tag);
 }
 
-/* Answers whether these bytes are the tag of the text under the key, all of them. It compares all bytes
- * of a tag of the right length, whatever they are, and answers false at once to another length. It
+/* Returns whether these bytes are the tag of the text under the key, all of them. It compares all bytes
+ * of a tag of the right length, whatever they are, and returns false at once to another length. It
  * writes nothing. That the time is always the same is not proved. */
 static inline bool nattizhu_hmac_ripemd128_verify_text(const uint8_t *key, size_t key_length,
                                                        const uint8_t *text, size_t text_length,
@@ -302,8 +303,8 @@ static inline bool nattizhu_hmac_ripemd320_verify_text(const uint8_t *key, size_
                                                      nattizhu_some(tag), tag_length);
 }
 
-/* Writes the tag of each of `count` records under one key to its place in `tags`, and answers true. The
- * records lie as those of nattizhu_ripemd160_each, and a wrong `length` is answered as there. */
+/* Writes the tag of each of `count` records under one key to its place in `tags`, and returns true. The
+ * records lie as those of nattizhu_ripemd160_each, and a wrong `length` is treated as there. */
 static inline bool nattizhu_hmac_ripemd128_each(const uint8_t *key, size_t key_length,
                                                 const uint8_t *bytes, size_t length, size_t size,
                                                 uint8_t (*tags)[NATTIZHU_RIPEMD128_SIZE],
@@ -359,8 +360,8 @@ static inline void nattizhu_hmac_ripemd320_init(uint8_t state[NATTIZHU_HMAC_RIPE
   nattizhu_hmac_ripemd320_init_nonnull(state, nattizhu_some(key), length);
 }
 
-/* Appends bytes to the text: writes the state that follows, and answers true. If these bytes are no
- * HMAC state, it writes nothing and answers false. */
+/* Appends bytes to the text: writes the state that follows, and returns true. If these bytes are no
+ * HMAC state, it writes nothing and returns false. */
 static inline bool nattizhu_hmac_ripemd128_update(uint8_t state[NATTIZHU_HMAC_RIPEMD128_STATE_SIZE],
                                                   const uint8_t *bytes, size_t length) {
   return nattizhu_hmac_ripemd128_update_nonnull(state, nattizhu_some(bytes), length);
@@ -378,8 +379,8 @@ static inline bool nattizhu_hmac_ripemd320_update(uint8_t state[NATTIZHU_HMAC_RI
   return nattizhu_hmac_ripemd320_update_nonnull(state, nattizhu_some(bytes), length);
 }
 
-/* Writes the tag of the text so far, and answers true. The state stays as it is. If these bytes are no
- * HMAC state, the call writes nothing and answers false. */
+/* Writes the tag of the text so far, and returns true. The state stays as it is. If these bytes are no
+ * HMAC state, the call writes nothing and returns false. */
 bool nattizhu_hmac_ripemd128_final(const uint8_t state[NATTIZHU_HMAC_RIPEMD128_STATE_SIZE],
                                    uint8_t tag[NATTIZHU_RIPEMD128_SIZE]);
 bool nattizhu_hmac_ripemd160_final(const uint8_t state[NATTIZHU_HMAC_RIPEMD160_STATE_SIZE],
@@ -389,7 +390,7 @@ bool nattizhu_hmac_ripemd256_final(const uint8_t state[NATTIZHU_HMAC_RIPEMD256_S
 bool nattizhu_hmac_ripemd320_final(const uint8_t state[NATTIZHU_HMAC_RIPEMD320_STATE_SIZE],
                                    uint8_t tag[NATTIZHU_RIPEMD320_SIZE]);
 
-/* Answers whether these `length` bytes are the tag of the text so far, all of them, as
+/* Returns whether these `length` bytes are the tag of the text so far, all of them, as
  * nattizhu_hmac_ripemd160_verify_text does of a whole text; false too if the state is no HMAC state. */
 static inline bool nattizhu_hmac_ripemd128_verify(
     const uint8_t state[NATTIZHU_HMAC_RIPEMD128_STATE_SIZE], const uint8_t *tag, size_t length) {
