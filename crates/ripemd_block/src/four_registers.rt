@@ -15,7 +15,7 @@ use crate::textbook::{
 
 // The Boolean functions of round `r`: number `r` of the left words, and number `3 - r` of the right
 // ones, all in the form `(x & m) ^ n`, so that little waits for `x`, the newest of them. Masks tell
-// the lines apart: a processor has more places for `and` and `or` than for `select`.
+// the lines apart, since a processor runs more `and` and `or` at once than `select`.
 #[inline(always)]
 fn functions(r: usize, x: Pair, y: Pair, z: Pair) -> Pair
     requires { r < 4 }
