@@ -5,8 +5,8 @@ use Rattle.std.proofs.Common.{Result, Ok, Err, IsOk, OnOk, IfErr, MatchResult}
 use Rattle.std.specs.List.{All}
 use Rattle.std.proofs.lemmas.List.{map-append, map-set, length-map, get_or-map}
 use Rattle.std.proofs.lemmas.List.Elements.{All-append, All-get_or}
-use Rattle.ripemd_block.specs.States.{Meaning, initial_state, fed}
-use Rattle.ripemd_block.specs.Laws.UnderWay.{fed_nothing, fed_twice}
+use Rattle.ripemd_block.specs.States.{HashState, initial_state, fed}
+use Rattle.ripemd_block.specs.Laws.Pieces.{fed_nothing, fed_twice}
 use Rattle.ripemd.specs.declared.replay.Command.{Command}
 use Rattle.ripemd.specs.declared.replay.ReplayError.{ReplayError}
 use Rattle.ripemd.specs.declared.replay.ReplayError.TheVariants.{OutOfMemory}
@@ -49,8 +49,8 @@ is_ok_unless (Err e) err never = absurd (never err)
 
 -- ---- the vectors
 
-module _ {D S O : Type 0} {step : List ℕ → List ℕ → List ℕ} {is_valid : Meaning → Type 0}
-    {state_bytes : Meaning → List ℕ} {meaning : D → Meaning} {saved_bytes : S → List ℕ} {bytes_of : O → List ℕ}
+module _ {D S O : Type 0} {step : List ℕ → List ℕ → List ℕ} {is_valid : HashState → Type 0}
+    {state_bytes : HashState → List ℕ} {meaning : D → HashState} {saved_bytes : S → List ℕ} {bytes_of : O → List ℕ}
     {hashers : List D} {arrays : List S} {digests : List O} {m : Machine}
     (held : Holds step is_valid state_bytes meaning saved_bytes bytes_of hashers arrays digests m) where
   pub hasher_count : length hashers ≡ length m.hashers
@@ -131,7 +131,7 @@ module _ {D S O : Type 0} {step : List ℕ → List ℕ → List ℕ} {is_valid 
 -- ---- the run
 
 module _ (start : List ℕ) (step : List ℕ → List ℕ → List ℕ) (output : List ℕ → List ℕ)
-    (is_valid : Meaning → Type 0) (state_bytes : Meaning → List ℕ) where
+    (is_valid : HashState → Type 0) (state_bytes : HashState → List ℕ) where
   -- a run goes on by one command
   pub runs_more : (cs : List Command) (c : Command) (m n k : Machine)
       → Runs start step output is_valid state_bytes cs m n → Does start step output is_valid state_bytes c n k
@@ -141,7 +141,7 @@ module _ (start : List ℕ) (step : List ℕ → List ℕ → List ℕ) (output 
   runs_more (b ∷ cs) c m n k (i, first, others) does = (i, first, runs_more cs c i n k others does)
 
   -- a good command that adds something does so, or the error is the one of memory
-  pub grown : {D S O T F : Type 0} {meaning : D → Meaning} {saved_bytes : S → List ℕ} {bytes_of : O → List ℕ}
+  pub grown : {D S O T F : Type 0} {meaning : D → HashState} {saved_bytes : S → List ℕ} {bytes_of : O → List ℕ}
       {hashers : List D} {arrays : List S} {digests : List O} (c : Command) (m n : Machine) (place : ℕ)
       (r : Result T ReplayError) → Grows c → Does start step output is_valid state_bytes c m n → OnOk r F
       → IfErr r (λ e. e ≡ OutOfMemory)

@@ -4,7 +4,7 @@ use Rattle.std.proofs.Common.{List, [], ◌∷◌, ◌++◌, length, take, drop,
 use Rattle.std.proofs.lemmas.List.{length-replicate, length-drop}
 use Rattle.std.proofs.lemmas.List.{length-take-le, take-append-drop}
 use Rattle.std.proofs.Math.Seq.{take-append_seam, drop-append_seam}
-use Rattle.ripemd_block.specs.States.{Meaning, IsTail, IsUnderWay, IsWithoutTail, with_tail}
+use Rattle.ripemd_block.specs.States.{HashState, IsTail, IsHashState, IsWithoutTail, with_tail}
 use Rattle.ripemd_block.specs.States.{output_and_count, core_and_tail}
 use Rattle.ripemd_block.specs.Listed.{TellsWords}
 use Rattle.ripemd_block.specs.Laws.Saving.{tail_bytes, length-output_and_count, core_and_tail-split}
@@ -31,7 +31,7 @@ rest_of_tail saved rest tail same back =
 -- ---- the saved bytes of a hasher, taken apart into those of a core and of a tail, where the core's end
 
 module _ {are_words : List ℕ → Type 0} {output : List ℕ → List ℕ} {size : ℕ} (told : TellsWords are_words output size)
-    (h : Meaning) (valid : IsUnderWay are_words h) (n : ℕ) (core_size : n ≡ size + 8)
+    (h : HashState) (valid : IsHashState are_words h) (n : ℕ) (core_size : n ≡ size + 8)
     (bytes : List ℕ) (same : core_and_tail output h ≡ bytes) where
   split : bytes ≡ output_and_count output h ++ tail_bytes h.tail
   split = sym same ∙ core_and_tail-split output h
@@ -55,7 +55,7 @@ module _ {are_words : List ℕ → Type 0} {output : List ℕ → List ℕ} {siz
       sym (back ∙ rw (split, place) (drop-append_seam (output_and_count output h) (tail_bytes h.tail)))
 
 -- bytes that are those of a core and of a tail are what a hasher of both is saved as
-pub both_saved : (output : List ℕ → List ℕ) (h : Meaning) (n : ℕ) (bytes core tail : List ℕ) → core ≡ take n bytes
+pub both_saved : (output : List ℕ → List ℕ) (h : HashState) (n : ℕ) (bytes core tail : List ℕ) → core ≡ take n bytes
     → tail ≡ drop n bytes → output_and_count output h ≡ core → tail_bytes h.tail ≡ tail → core_and_tail output h ≡ bytes
 both_saved output h n bytes core tail front back of_core of_tail =
     core_and_tail-split output h ∙ rw (of_core, of_tail, front, back) (take-append-drop n bytes)

@@ -2,17 +2,17 @@
 use Rattle.std.proofs.Common.{◌≡◌, ℕ, ◌^◌, ◌<◌, List, [], ◌++◌, length, sym, ◌∙◌, arith}
 use Rattle.ripemd_block.specs.Standard.Words.{block_size}
 use Rattle.ripemd_block.specs.Standard.Hashing.{hash}
-use Rattle.ripemd_block.specs.States.{Meaning, initial_state, fed, finish}
-use Rattle.ripemd_block.specs.Laws.UnderWay as laws
+use Rattle.ripemd_block.specs.States.{HashState, initial_state, fed, finish}
+use Rattle.ripemd_block.specs.Laws.Pieces as laws
 use Rattle.ripemd.specs.Messages.{IsHashing}
 
 -- no bytes change nothing
-pub fed_nothing : (step : List ℕ → List ℕ → List ℕ) (h : Meaning)
+pub fed_nothing : (step : List ℕ → List ℕ → List ℕ) (h : HashState)
     → h.count < 2 ^ 64 → length h.tail < block_size → fed step h [] ≡ h
 fed_nothing = laws.fed_nothing
 
 -- some bytes and then others are both, joined
-pub fed_twice : (step : List ℕ → List ℕ → List ℕ) (h : Meaning) (x y : List ℕ)
+pub fed_twice : (step : List ℕ → List ℕ → List ℕ) (h : HashState) (x y : List ℕ)
     → fed step (fed step h x) y ≡ fed step h (x ++ y)
 fed_twice = laws.fed_twice
 
@@ -25,18 +25,18 @@ finish_fed = laws.finish_fed
 
 module _ {start : List ℕ} {step : List ℕ → List ℕ → List ℕ} where
   -- a new hasher is one of the empty message
-  pub hashing_nothing : {h : Meaning} → h ≡ initial_state start → IsHashing start step [] h
+  pub hashing_nothing : {h : HashState} → h ≡ initial_state start → IsHashing start step [] h
   hashing_nothing new = record { is = new ∙ sym (laws.fed_nothing step (initial_state start) (omega arith) (omega arith)) }
 
   -- one of a message, fed more bytes, is one of the message with them
-  pub hashing_more : {h next : Meaning} {message : List ℕ} (bytes : List ℕ) → next ≡ fed step h bytes
+  pub hashing_more : {h next : HashState} {message : List ℕ} (bytes : List ℕ) → next ≡ fed step h bytes
       → IsHashing start step message h → IsHashing start step (message ++ bytes) next
   hashing_more {message = message} bytes update before = record {
     is = update ∙ rw before.is (laws.fed_twice step (initial_state start) message bytes);
   }
 
   -- and its digest is the hash of the message
-  pub hashing_done : {D : Type 0} (output : List ℕ → D) {h : Meaning} {message : List ℕ} {digest : D}
+  pub hashing_done : {D : Type 0} (output : List ℕ → D) {h : HashState} {message : List ℕ} {digest : D}
       → digest ≡ finish step output h → IsHashing start step message h → digest ≡ hash start step output message
   hashing_done output {message = message} done before =
       done ∙ rw before.is (laws.finish_fed start step output message)

@@ -6,30 +6,30 @@ use Rattle.std.specs.Io.KnownBytes.{Consumes}
 use Rattle.std.proofs.KnownBytes.{Consumes-nil, Consumes-trans}
 use Rattle.std.proofs.lemmas.List.{append-nil, length-take-le}
 use Rattle.ripemd_block.specs.Standard.Hashing.{hash}
-use Rattle.ripemd_block.specs.States.{Meaning, initial_state, fed, finish}
-use Rattle.ripemd_block.specs.Laws.UnderWay as laws
+use Rattle.ripemd_block.specs.States.{HashState, initial_state, fed, finish}
+use Rattle.ripemd_block.specs.Laws.Pieces as laws
 
 -- between two of its states a reader gave these bytes, and the hasher is what they make of a new one
-pub record HasTaken (start : List ℕ) (step : List ℕ → List ℕ → List ℕ) (old now : Option (List ℕ)) (h : Meaning)
+pub record HasTaken (start : List ℕ) (step : List ℕ → List ℕ → List ℕ) (old now : Option (List ℕ)) (h : HashState)
     (bytes : List ℕ) : Type 0 where
   pub given : Consumes old now bytes
   pub state : h ≡ fed step (initial_state start) bytes
 
 module _ {start : List ℕ} {step : List ℕ → List ℕ → List ℕ} where
   -- before the first read, with a new hasher
-  pub taken_nothing : (now : Option (List ℕ)) {h : Meaning} → h ≡ initial_state start → HasTaken start step now now h []
+  pub taken_nothing : (now : Option (List ℕ)) {h : HashState} → h ≡ initial_state start → HasTaken start step now now h []
   taken_nothing now begun = record {
     given = Consumes-nil now;
     state = begun ∙ sym (laws.fed_nothing step (initial_state start) (omega arith) (omega arith));
   }
 
   -- what the reader gave with one more read
-  pub given_more : {old now : Option (List ℕ)} (next : Option (List ℕ)) {h : Meaning} {bytes : List ℕ} (more : List ℕ)
+  pub given_more : {old now : Option (List ℕ)} (next : Option (List ℕ)) {h : HashState} {bytes : List ℕ} (more : List ℕ)
       → HasTaken start step old now h bytes → Consumes now next more → Consumes old next (bytes ++ more)
   given_more next {bytes = bytes} more before read = Consumes-trans _ _ next bytes more before.given read
 
   -- after one more read, whose bytes the hasher took in
-  pub taken_more : {old now next : Option (List ℕ)} {h h' : Meaning} {bytes : List ℕ} (more : List ℕ)
+  pub taken_more : {old now next : Option (List ℕ)} {h h' : HashState} {bytes : List ℕ} (more : List ℕ)
       → HasTaken start step old now h bytes → Consumes now next more → h' ≡ fed step h more
       → HasTaken start step old next h' (bytes ++ more)
   taken_more {bytes = bytes} more before read update = record {
@@ -38,7 +38,7 @@ module _ {start : List ℕ} {step : List ℕ → List ℕ → List ℕ} where
   }
 
   -- after a read that gave nothing
-  pub taken_no_more : {old now next : Option (List ℕ)} {h : Meaning} {bytes : List ℕ}
+  pub taken_no_more : {old now next : Option (List ℕ)} {h : HashState} {bytes : List ℕ}
       → HasTaken start step old now h bytes → Consumes now next [] → HasTaken start step old next h bytes
   taken_no_more {bytes = bytes} before read = record {
     given = rw append-nil at (given_more _ [] before read);
@@ -46,7 +46,7 @@ module _ {start : List ℕ} {step : List ℕ → List ℕ → List ℕ} where
   }
 
   -- the digest of the hasher is the hash of the bytes
-  pub taken_digest : {D : Type 0} (output : List ℕ → D) {old now : Option (List ℕ)} {h : Meaning} {bytes : List ℕ}
+  pub taken_digest : {D : Type 0} (output : List ℕ → D) {old now : Option (List ℕ)} {h : HashState} {bytes : List ℕ}
       → HasTaken start step old now h bytes → finish step output h ≡ hash start step output bytes
   taken_digest output {bytes = bytes} taken = rw taken.state (laws.finish_fed start step output bytes)
 

@@ -2,7 +2,7 @@
 -- plain history, the digests so far, and what each command does to these.
 use Rattle.std.specs.Prelude.{◌≡◌, ◌≢◌, ℕ, ◌<◌, ◌≤◌, List, [], ◌∷◌, ◌++◌, length, take, Option, Some, None, ⊤}
 use Rattle.std.specs.List.{slice_get, slice_index_or, slice_set}
-use Rattle.ripemd_block.specs.States.{Meaning, initial_state, fed, finish}
+use Rattle.ripemd_block.specs.States.{HashState, initial_state, fed, finish}
 use Rattle.ripemd.specs.declared.replay.Command.{Command}
 use Rattle.ripemd.specs.declared.replay.Command.TheVariants.{New, Update, Reset, Finish, Fork, Save, Load, Import}
 use Rattle.ripemd.specs.declared.replay.ReplayError.{ReplayError}
@@ -12,11 +12,11 @@ use Rattle.ripemd.specs.declared.replay.ReplayError.TheVariants.{NoHasher, NoSav
 
 -- a hasher or saved state: the state that it began from, and the bytes that it was fed since
 pub record History : Type 0 where
-  pub origin : Meaning
+  pub origin : HashState
   pub bytes : List ℕ
 
 -- a history with no bytes fed yet
-abbrev pub from_state : Meaning → History
+abbrev pub from_state : HashState → History
 from_state origin = record { origin = origin; bytes = [] }
 
 -- a history with more bytes fed
@@ -24,7 +24,7 @@ abbrev pub feed : History → List ℕ → History
 feed h bytes = record h { bytes = h.bytes ++ bytes }
 
 -- the state that a history leads to, by the step of the hash
-abbrev pub state : (List ℕ → List ℕ → List ℕ) → History → Meaning
+abbrev pub state : (List ℕ → List ℕ → List ℕ) → History → HashState
 state step h = fed step h.origin h.bytes
 
 -- its digest
@@ -89,7 +89,7 @@ Grows _ = ⊤
 -- for a hash that starts from some words, walks by a step and ends in an output. The states that it can be in are the
 -- valid ones, and `state_bytes` are the bytes that a state is saved as
 module _ (start : List ℕ) (step : List ℕ → List ℕ → List ℕ) (output : List ℕ → List ℕ)
-    (is_valid : Meaning → Type 0) (state_bytes : Meaning → List ℕ) where
+    (is_valid : HashState → Type 0) (state_bytes : HashState → List ℕ) where
   -- a hash that is new
   abbrev pub new_history : History
   new_history = from_state (initial_state start)
@@ -111,7 +111,7 @@ module _ (start : List ℕ) (step : List ℕ → List ℕ → List ℕ) (output 
   Does (Save hasher) m n = (hasher < length m.hashers) × (n ≡ add_saved m (history m.hashers hasher))
   Does (Load saved) m n = (saved < length m.saved) × (n ≡ add_hasher m (history m.saved saved))
   Does (Import bytes) m n =
-      (h : Meaning) × is_valid h × (state_bytes h ≡ bytes.now) × (n ≡ add_hasher m (from_state h))
+      (h : HashState) × is_valid h × (state_bytes h ≡ bytes.now) × (n ≡ add_hasher m (from_state h))
 
   -- some commands do so one after the other
   abbrev pub Runs : List Command → Machine → Machine → Type 0
@@ -129,7 +129,7 @@ module _ (start : List ℕ) (step : List ℕ → List ℕ → List ℕ) (output 
   Explains m place c (NoSaved at saved) = (at ≡ place) × (saved_of c ≡ Some saved) × (length m.saved ≤ saved)
   Explains m place c (BadState at) =
       (at ≡ place)
-      × ((bytes : List ℕ) × (imported c ≡ Some bytes) × ((h : Meaning) → is_valid h → state_bytes h ≢ bytes))
+      × ((bytes : List ℕ) × (imported c ≡ Some bytes) × ((h : HashState) → is_valid h → state_bytes h ≢ bytes))
   Explains m place c OutOfMemory = Grows c × ((n : Machine) × Does c m n)
 
   -- the commands before some place run, and the error says why the one there does not

@@ -10,8 +10,8 @@ use Rattle.std.specs.List.{slice_get}
 use Rattle.ripemd_block.specs.Standard.Words.{word_bytes}
 use Rattle.ripemd_block.specs.Standard.Compression.{Parameters, compress}
 use Rattle.ripemd_block.specs.Standard.Hashing.{hash, ripemd}
-use Rattle.ripemd_block.specs.States.{Meaning, initial_state, new_state}
-use Rattle.ripemd_block.specs.Laws.UnderWay.{finish_fed}
+use Rattle.ripemd_block.specs.States.{HashState, initial_state, new_state}
+use Rattle.ripemd_block.specs.Laws.Pieces.{finish_fed}
 use Rattle.ripemd.specs.declared.replay.Command.{Command}
 use Rattle.ripemd.specs.declared.replay.Command.TheVariants.{New, Update, Reset, Finish, Fork, Save, Load, Import}
 use Rattle.ripemd.specs.declared.replay.ReplayError.{ReplayError}
@@ -34,7 +34,7 @@ abbrev pub size : Machine → ℕ
 size m = length m.hashers + length m.saved + length m.digests
 
 module _ (start : List ℕ) (step : List ℕ → List ℕ → List ℕ) (output : List ℕ → List ℕ)
-    (is_valid : Meaning → Type 0) (state_bytes : Meaning → List ℕ) where
+    (is_valid : HashState → Type 0) (state_bytes : HashState → List ℕ) where
   -- ---- lists that run out of memory
 
   -- a command that needs room adds one thing
@@ -59,7 +59,7 @@ module _ (start : List ℕ) (step : List ℕ → List ℕ → List ℕ) (output 
   -- the commands that are good at the start
   abbrev pub IsGoodFirst : Command → Type 0
   IsGoodFirst New = ⊤
-  IsGoodFirst (Import bytes) = (h : Meaning) × is_valid h × (state_bytes h ≡ bytes.now)
+  IsGoodFirst (Import bytes) = (h : HashState) × is_valid h × (state_bytes h ≡ bytes.now)
   IsGoodFirst _ = ⊥
 
   good_first : (c : Command) (n : Machine) → Does start step output is_valid state_bytes c empty_machine n
@@ -109,7 +109,7 @@ module _ (start : List ℕ) (step : List ℕ → List ℕ → List ℕ) (output 
   saved_there _ i m n does named = absurd (cc)
 
   state_there : (c : Command) (x : List ℕ) (m n : Machine) → Does start step output is_valid state_bytes c m n
-      → imported c ≡ Some x → (h : Meaning) × is_valid h × (state_bytes h ≡ x)
+      → imported c ≡ Some x → (h : HashState) × is_valid h × (state_bytes h ≡ x)
   state_there (Import y) x m n (h, valid, same, is) named = (h, valid, cc)
   state_there _ x m n does named = absurd (cc)
 
@@ -170,7 +170,7 @@ module _ (start : List ℕ) (step : List ℕ → List ℕ → List ℕ) (output 
 
   -- ---- one answer, where bytes are saved of one state
 
-  module _ (one_state : (g h : Meaning) → is_valid g → is_valid h → state_bytes g ≡ state_bytes h → g ≡ h) where
+  module _ (one_state : (g h : HashState) → is_valid g → is_valid h → state_bytes g ≡ state_bytes h → g ≡ h) where
     -- a command leads to one machine
     pub does_once : (c : Command) (m n k : Machine) → Does start step output is_valid state_bytes c m n
         → Does start step output is_valid state_bytes c m k → n ≡ k
@@ -183,7 +183,7 @@ module _ (start : List ℕ) (step : List ℕ → List ℕ → List ℕ) (output 
     does_once (Load i) m n k a b = a.1 ∙ sym b.1
     does_once (Import x) m n k (g, valid_g, same_g, a) (h, valid_h, same_h, b) =
         let same = one_state g h valid_g valid_h (same_g ∙ sym same_h) in
-        a ∙ ap (λ (s : Meaning). add_hasher m (from_state s)) same ∙ sym b
+        a ∙ ap (λ (s : HashState). add_hasher m (from_state s)) same ∙ sym b
 
     -- and so do some
     pub runs_once : (cs : List Command) (m n k : Machine) → Runs start step output is_valid state_bytes cs m n

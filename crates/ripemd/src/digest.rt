@@ -2,7 +2,7 @@
 
 ghost use Rattle.std.specs.Prelude.{◌≡◌, ℕ, ◌≤◌, List, [], ◌++◌, length};
 ghost use Rattle.ripemd_block.specs.Standard.Hashing.{hash};
-ghost use Rattle.ripemd_block.specs.States.{Meaning, initial_state, fed, finish};
+ghost use Rattle.ripemd_block.specs.States.{HashState, initial_state, fed, finish};
 ghost use Rattle.ripemd.specs.Messages.{IsHashing};
 
 pub use ripemd_block::block_api::{
@@ -162,7 +162,7 @@ pub trait Digest: OutputSizeUser + HashMeaning + Drop {
     }
 
     // No bytes change nothing.
-    ghost fed_nothing: { (h : Meaning) → Self.is_valid h → fed step h [] ≡ h };
+    ghost fed_nothing: { (h : HashState) → Self.is_valid h → fed step h [] ≡ h };
 }
 
 /// A hash function whose digest is the output of a walk of its block function.

@@ -1,7 +1,7 @@
 //! The hasher of a block function, and those of the four variants.
 
 ghost use Rattle.std.specs.Prelude.{◌≡◌, ⊤};
-ghost use Rattle.ripemd_block.specs.States.{Meaning, IsUnderWay, initial_state, with_tail};
+ghost use Rattle.ripemd_block.specs.States.{HashState, IsHashState, initial_state, with_tail};
 
 use crate::digest::{
     AlgorithmName, BlockDigest, BlockSizeUser, Digest, FixedOutputCore, HashMarker, HashMeaning,
@@ -52,11 +52,11 @@ impl Ripemd256 {
 }
 
 impl<F: HashFunction> Model for BlockHasher<F> {
-    ghost Value = { Meaning };
+    ghost Value = { HashState };
 
     ghost view = { λ h. with_tail h.core h.buffer };
 
-    ghost invariant = { λ h. IsUnderWay F.are_words (with_tail h.core h.buffer) };
+    ghost invariant = { λ h. IsHashState F.are_words (with_tail h.core h.buffer) };
 }
 
 impl<F: HashFunction> Default for BlockHasher<F> {
@@ -103,7 +103,7 @@ impl<F: HashFunction> HashMarker for BlockHasher<F> {}
 impl<F: HashFunction> HashMeaning for BlockHasher<F> {
     ghost meaning = { λ h. h };
 
-    ghost is_valid = { IsUnderWay F.are_words };
+    ghost is_valid = { IsHashState F.are_words };
 }
 
 impl<F: HashFunction> Reset for BlockHasher<F> {

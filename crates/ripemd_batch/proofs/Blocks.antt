@@ -1,7 +1,7 @@
 -- The whole blocks of a message and the blocks of its tail with the padding are all its blocks.
 use Rattle.std.proofs.Common.{◌≡◌, ℕ, ◌+◌, ◌<◌, ◌*◌, ◌%◌, ◌^◌, List, ◌++◌, length, sym}
 use Rattle.ripemd_block.specs.Standard.Hashing.{with_padding, blocks, partial_block}
-use Rattle.ripemd_block.specs.Laws.UnderWay.{with_padding_rest}
+use Rattle.ripemd_block.specs.Laws.Pieces.{with_padding_rest}
 use Rattle.ripemd_batch.specs.Lanes.{padded_after, of_message}
 
 pub joined_blocks : (before : ℕ) (m tail : List ℕ) (n : ℕ) (whole last : List (List ℕ))

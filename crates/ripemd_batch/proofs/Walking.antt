@@ -6,7 +6,7 @@ use Rattle.std.proofs.lemmas.List.{take_all}
 use Rattle.std.proofs.lemmas.List.Sums.{fold_more}
 use Rattle.ripemd_block.specs.Standard.Hashing.{with_padding, blocks, walk, hash}
 use Rattle.ripemd_block.specs.Laws.Blocks.{blocks_joined, blocks_of_one, left_over_joined}
-use Rattle.ripemd_block.specs.Laws.UnderWay.{with_padding_rest}
+use Rattle.ripemd_block.specs.Laws.Pieces.{with_padding_rest}
 use Rattle.ripemd_batch.specs.Lanes.{padded_after, hash_after}
 
 pub walk_on : (step : List ℕ → List ℕ → List ℕ) (start : List ℕ) (bs : List (List ℕ)) (i : ℕ) (before after : List ℕ)

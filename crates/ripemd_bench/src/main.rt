@@ -13,7 +13,7 @@ mod variants;
 use lists::What;
 use std::process::ExitCode;
 use std::{env, io};
-use variants::{Task, of_variant};
+use variants::{Task, Variant, of_variant};
 
 // What the arguments ask for; the status is 2 if they are unknown.
 fn perform(rt: &HostRuntime) -> io::Result<ExitCode> {
@@ -26,13 +26,13 @@ fn perform(rt: &HostRuntime) -> io::Result<ExitCode> {
     let much = Task::Hash { mebibytes: 256 };
     match name {
         "" => {
-            of_variant(rt, 160, &Task::Hash { mebibytes: 1 })?;
+            of_variant(rt, Variant::R160, &Task::Hash { mebibytes: 1 })?;
             lists::print_agreement(rt)?;
         }
-        "128" => drop(of_variant(rt, 128, &much)?),
-        "160" => drop(of_variant(rt, 160, &much)?),
-        "256" => drop(of_variant(rt, 256, &much)?),
-        "320" => drop(of_variant(rt, 320, &much)?),
+        "128" => drop(of_variant(rt, Variant::R128, &much)?),
+        "160" => drop(of_variant(rt, Variant::R160, &much)?),
+        "256" => drop(of_variant(rt, Variant::R256, &much)?),
+        "320" => drop(of_variant(rt, Variant::R320, &much)?),
         "lists" => {
             lists::print_table(rt, What::Digests)?;
             println!(rt; "")?;
@@ -40,7 +40,7 @@ fn perform(rt: &HostRuntime) -> io::Result<ExitCode> {
             println!(rt; "")?;
             lists::print_times(rt)?;
         }
-        "tags" => drop(of_variant(rt, 160, &Task::Verify)?),
+        "tags" => drop(of_variant(rt, Variant::R160, &Task::Verify)?),
         _ => return Ok(ExitCode::from(2)),
     }
     Ok(ExitCode::SUCCESS)

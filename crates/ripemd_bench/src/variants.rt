@@ -7,8 +7,20 @@ use ripemd::{Ripemd128, Ripemd160, Ripemd256, Ripemd320};
 use ripemd_batch::BatchDigest;
 use std::io;
 
-// The variants, by the bits of their digests.
-pub(super) const VARIANTS: [usize; 4] = [128, 160, 256, 320];
+#[derive(Clone, Copy)]
+pub(super) enum Variant {
+    R128,
+    R160,
+    R256,
+    R320,
+}
+
+pub(super) const VARIANTS: [Variant; 4] = [
+    Variant::R128,
+    Variant::R160,
+    Variant::R256,
+    Variant::R320,
+];
 
 // What to do by a hash function, and what the number says that comes of it.
 #[derive(Drop)]
@@ -74,11 +86,11 @@ fn work<D: BatchDigest>(
 }
 
 // Does a task by the hash function of a variant.
-pub(super) fn of_variant(rt: &HostRuntime, variant: usize, task: &Task) -> io::Result<u64> {
+pub(super) fn of_variant(rt: &HostRuntime, variant: Variant, task: &Task) -> io::Result<u64> {
     match variant {
-        128 => work::<Ripemd128>(rt, task, &mut [[0; 16]; TEXTS], &mut [[0; 16]; TEXTS]),
-        160 => work::<Ripemd160>(rt, task, &mut [[0; 20]; TEXTS], &mut [[0; 20]; TEXTS]),
-        256 => work::<Ripemd256>(rt, task, &mut [[0; 32]; TEXTS], &mut [[0; 32]; TEXTS]),
-        _ => work::<Ripemd320>(rt, task, &mut [[0; 40]; TEXTS], &mut [[0; 40]; TEXTS]),
+        Variant::R128 => work::<Ripemd128>(rt, task, &mut [[0; 16]; TEXTS], &mut [[0; 16]; TEXTS]),
+        Variant::R160 => work::<Ripemd160>(rt, task, &mut [[0; 20]; TEXTS], &mut [[0; 20]; TEXTS]),
+        Variant::R256 => work::<Ripemd256>(rt, task, &mut [[0; 32]; TEXTS], &mut [[0; 32]; TEXTS]),
+        Variant::R320 => work::<Ripemd320>(rt, task, &mut [[0; 40]; TEXTS], &mut [[0; 40]; TEXTS]),
     }
 }

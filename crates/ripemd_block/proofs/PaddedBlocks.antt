@@ -12,7 +12,7 @@ use Rattle.std.proofs.lemmas.Option.{slice_get-get_or, slice_get_past}
 use Rattle.ripemd_block.specs.Standard.Words.{eight_bytes}
 use Rattle.ripemd_block.specs.Standard.Hashing.{zero_count, with_padding, padded_message, blocks, partial_block}
 use Rattle.ripemd_block.specs.Laws.Blocks.{length-blocks}
-use Rattle.ripemd_block.specs.Laws.UnderWay.{with_padding_rest}
+use Rattle.ripemd_block.specs.Laws.Pieces.{with_padding_rest}
 
 -- how many bytes a message has with its padding
 pub length-padded_message : (m : List ℕ) → length (padded_message m) ≡ length m + 9 + zero_count (length m)

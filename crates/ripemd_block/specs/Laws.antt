@@ -6,4 +6,4 @@ pub mod Starting
 pub mod Saving
 pub mod Walking
 pub mod Blocks
-pub mod UnderWay
+pub mod Pieces

@@ -9,7 +9,7 @@ use Rattle.ripemd_block.specs.Standard.Schedule.{prime, square_root_constant, cu
 use Rattle.ripemd_block.specs.Standard.Words.{word_bytes}
 use Rattle.ripemd_block.specs.Standard.Compression.{ripemd128, ripemd160, ripemd256, ripemd320, compress}
 use Rattle.ripemd_block.specs.Standard.Hashing.{ripemd}
-use Rattle.ripemd_block.specs.States.{Meaning, IsState, IsCoreState, new_state, with_tail, fed, finish}
+use Rattle.ripemd_block.specs.States.{HashState, IsState, IsCoreState, new_state, with_tail, fed, finish}
 use Rattle.ripemd_block.specs.States.{core_bytes, hasher_bytes}
 
 -- ---- digests
@@ -133,7 +133,7 @@ SavedBlockAndTail =
 -- ---- the end of long messages
 
 -- a RIPEMD-160 hasher after 2 ^ 64 - 1 blocks, whose words are the start words again
-abbrev pub after_most_blocks : Meaning
+abbrev pub after_most_blocks : HashState
 after_most_blocks = record (new_state ripemd160) { count = 2 ^ 64 - 1 }
 
 -- the digests that it gives after three bytes more, and after 67, with which the count wraps. OpenSSL

@@ -10,38 +10,38 @@ use Rattle.ripemd_block.specs.Standard.Hashing.{with_padding, blocks, partial_bl
 
 -- a hash state: the words (chaining value) after the whole blocks so far, how many those were modulo 2 ^ 64, and
 -- the tail of bytes after them
-pub record Meaning : Type 0 where
+pub record HashState : Type 0 where
   pub words : List ℕ
   pub count : ℕ
   pub tail : List ℕ
 
 -- the state before the first byte, for a walk from some start words
-abbrev pub initial_state : List ℕ → Meaning
+abbrev pub initial_state : List ℕ → HashState
 initial_state start = record { words = start; count = 0; tail = [] }
 
 -- the same for a variant
-abbrev pub new_state : Parameters → Meaning
+abbrev pub new_state : Parameters → HashState
 new_state v = initial_state v.start
 
 -- a core's state with a tail after its blocks
-abbrev pub with_tail : Meaning → List ℕ → Meaning
+abbrev pub with_tail : HashState → List ℕ → HashState
 with_tail h tail = record h { tail = tail }
 
 -- ---- taking bytes in, and the end
 
 -- the state after some blocks, which leave its tail as it is: the words walk through them, and the
 -- count grows by their number
-abbrev pub after_blocks : (List ℕ → List ℕ → List ℕ) → Meaning → List (List ℕ) → Meaning
+abbrev pub after_blocks : (List ℕ → List ℕ → List ℕ) → HashState → List (List ℕ) → HashState
 after_blocks step h bs = record h { words = walk step h.words bs; count = (h.count + length bs) % 2 ^ 64 }
 
 -- the state after some bytes: a walk through the whole blocks of the tail and the bytes, and what
 -- is left of them is the new tail
-unfoldable pub fed : (List ℕ → List ℕ → List ℕ) → Meaning → List ℕ → Meaning
+unfoldable pub fed : (List ℕ → List ℕ → List ℕ) → HashState → List ℕ → HashState
 fed step h bytes = with_tail (after_blocks step h (blocks (h.tail ++ bytes))) (partial_block (h.tail ++ bytes))
 
 -- the digest of a state: the output of its words after the walk through its tail with the padding.
 -- The message was as long as its blocks and its tail
-unfoldable pub finish : {D : Type 0} → (List ℕ → List ℕ → List ℕ) → (List ℕ → D) → Meaning → D
+unfoldable pub finish : {D : Type 0} → (List ℕ → List ℕ → List ℕ) → (List ℕ → D) → HashState → D
 finish step output h =
     let bit_length = 8 * (length h.tail + block_size * h.count) % 2 ^ 64 in
     output (walk step h.words (blocks (with_padding h.tail bit_length)))
@@ -60,39 +60,39 @@ pub record IsTail (tail : List ℕ) : Type 0 where
 
 -- the states that a core or a hasher can be in: words that its block function can lead to, a count
 -- below 2 ^ 64, and a tail
-pub record IsUnderWay (are_words : List ℕ → Type 0) (h : Meaning) : Type 0 where
+pub record IsHashState (are_words : List ℕ → Type 0) (h : HashState) : Type 0 where
   pub words : are_words h.words
   pub count : h.count < 2 ^ 64
   pub tail : IsTail h.tail
 
 -- those of a variant: it has so many words
-abbrev pub IsState : Parameters → Meaning → Type 0
-IsState v = IsUnderWay (AreWords (length v.start))
+abbrev pub IsState : Parameters → HashState → Type 0
+IsState v = IsHashState (AreWords (length v.start))
 
 -- the states that a core can be in: it has no tail
-pub record IsWithoutTail (are_words : List ℕ → Type 0) (h : Meaning) : Type 0 where
-  pub state : IsUnderWay are_words h
+pub record IsWithoutTail (are_words : List ℕ → Type 0) (h : HashState) : Type 0 where
+  pub state : IsHashState are_words h
   pub no_tail : h.tail ≡ []
 
 -- those of a variant
-abbrev pub IsCoreState : Parameters → Meaning → Type 0
+abbrev pub IsCoreState : Parameters → HashState → Type 0
 IsCoreState v = IsWithoutTail (AreWords (length v.start))
 
 -- ---- saved bytes
 
 -- the saved bytes of a core: the output of its words, which tells them, and its count
-unfoldable pub output_and_count : (List ℕ → List ℕ) → Meaning → List ℕ
+unfoldable pub output_and_count : (List ℕ → List ℕ) → HashState → List ℕ
 output_and_count output h = output h.words ++ eight_bytes h.count
 
 -- the saved bytes of a hasher: those of its core, the length of its tail as one byte, the tail, and
 -- zero bytes until 63 bytes stand after the length
-unfoldable pub core_and_tail : (List ℕ → List ℕ) → Meaning → List ℕ
+unfoldable pub core_and_tail : (List ℕ → List ℕ) → HashState → List ℕ
 core_and_tail output h =
     output_and_count output h ++ length h.tail ∷ h.tail ++ replicate (63 - length h.tail) 0
 
 -- those of the four variants, whose output is the bytes of the words
-abbrev pub core_bytes : Meaning → List ℕ
+abbrev pub core_bytes : HashState → List ℕ
 core_bytes = output_and_count word_bytes
 
-abbrev pub hasher_bytes : Meaning → List ℕ
+abbrev pub hasher_bytes : HashState → List ℕ
 hasher_bytes = core_and_tail word_bytes

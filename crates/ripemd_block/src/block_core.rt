@@ -3,7 +3,7 @@
 ghost use Rattle.std.specs.Prelude.{◌≡◌, List, [], ◌∷◌, length, ⊤};
 ghost use Rattle.std.specs.Option.{option_to_list};
 ghost use Rattle.ripemd_block.specs.Standard.Hashing.{walk, hash};
-ghost use Rattle.ripemd_block.specs.States.{Meaning, IsWithoutTail, output_and_count};
+ghost use Rattle.ripemd_block.specs.States.{HashState, IsWithoutTail, output_and_count};
 ghost use Rattle.ripemd_block.specs.States.{initial_state, after_blocks, with_tail, finish};
 
 use crate::arrays::{ByteArray, read_count};
@@ -28,7 +28,7 @@ pub struct BlockCore<F: HashFunction> {
 }
 
 impl<F: HashFunction> Model for BlockCore<F> {
-    ghost Value = { Meaning };
+    ghost Value = { HashState };
 
     ghost view = { λ c. record { words = F.list c.state; count = c.block_count; tail = [] } };
 

@@ -8,7 +8,7 @@ ghost use Rattle.ripemd_block.specs.Standard.Compression.{Parameters, compress};
 ghost use Rattle.ripemd_block.specs.Standard.Compression.{ripemd128, ripemd160, ripemd256, ripemd320};
 ghost use Rattle.ripemd_block.specs.Standard.Hashing.{length_place, zero_count, padded_message};
 ghost use Rattle.ripemd_block.specs.Standard.Hashing.{blocks, hash, ripemd};
-ghost use Rattle.ripemd_block.specs.States.{Meaning, AreWords};
+ghost use Rattle.ripemd_block.specs.States.{HashState, AreWords};
 ghost use Rattle.ripemd_block.specs.States.{initial_state, new_state, fed, finish};
 ghost use Rattle.ripemd_block.specs.Published.{DigestsOfEmpty, DigestsOfAbc, DigestsOfTwoBlocks, DigestsOfDigits};
 ghost use Rattle.ripemd_block.specs.Published.{OrderOfLeftLine, OrderOfRightLine, ConstantsOfLines, AreWholeRoots};
@@ -85,9 +85,9 @@ pub fn padding_laws()
 /// its hash: for every start, step and output of a block function over lists of numbers, and for
 /// messages of every length. So for each of the four variants it gives the digest.
 pub fn state_laws()
-    ensures nothing { (step : List ℕ → List ℕ → List ℕ) (h : Meaning)
+    ensures nothing { (step : List ℕ → List ℕ → List ℕ) (h : HashState)
         → h.count < 2 ^ 64 → length h.tail < block_size → fed step h [] ≡ h }
-    ensures joined { (step : List ℕ → List ℕ → List ℕ) (h : Meaning) (x y : List ℕ)
+    ensures joined { (step : List ℕ → List ℕ → List ℕ) (h : HashState) (x y : List ℕ)
         → fed step (fed step h x) y ≡ fed step h (x ++ y) }
     ensures finished { (start : List ℕ) (step : List ℕ → List ℕ → List ℕ) (output : List ℕ → List ℕ)
         (message : List ℕ)

@@ -3,7 +3,7 @@
 ghost use Rattle.std.specs.Prelude.{◌≡◌, ◌≢◌, ℕ, ◌+◌, ◌≤◌, List, [], ◌++◌, length, IfOk, IfErr, IfSome, IfNone, true};
 ghost use Rattle.std.specs.Fmt.{WritesOnOk, WritesStyledOnOk};
 ghost use Rattle.ripemd_block.specs.Standard.Words.{block_size};
-ghost use Rattle.ripemd_block.specs.States.{Meaning, IsTail};
+ghost use Rattle.ripemd_block.specs.States.{HashState, IsTail};
 ghost use Rattle.ripemd_block.specs.Listed.{IsOverLists, TellsWords};
 
 use crate::arrays::ByteArray;
@@ -66,10 +66,10 @@ pub trait AlgorithmName {
 /// A core or a hasher that contracts see as a hash state: chaining value, count of blocks, tail.
 pub trait HashMeaning {
     // What it stands for.
-    ghost meaning: { Self → Meaning };
+    ghost meaning: { Self → HashState };
 
     // What can occur of that.
-    ghost is_valid: { Meaning → Type 0 };
+    ghost is_valid: { HashState → Type 0 };
 }
 
 /// The error of bytes that no state is saved as.
@@ -86,7 +86,7 @@ pub trait SerializableState: HashMeaning {
     ghost saved_bytes: { Self.Saved → List ℕ };
 
     // The bytes that a state is saved as.
-    ghost state_bytes: { Meaning → List ℕ };
+    ghost state_bytes: { HashState → List ℕ };
 
     /// Saves the state.
     fn serialize(&self) -> Self::Saved
@@ -103,7 +103,7 @@ pub trait SerializableState: HashMeaning {
             (λ value. state_bytes (Self.meaning value) ≡ saved_bytes saved.now) }
         ensures valid { IfOk result (λ value. Self.is_valid (Self.meaning value)) }
         ensures err { IfErr result
-            (λ _. (h : Meaning) → Self.is_valid h → state_bytes h ≢ saved_bytes saved.now) };
+            (λ _. (h : HashState) → Self.is_valid h → state_bytes h ≢ saved_bytes saved.now) };
 
     /// Makes the state that was saved as these bytes, which are all the bytes of the array.
     ///
@@ -115,11 +115,11 @@ pub trait SerializableState: HashMeaning {
         ensures ok { IfOk result (λ value. state_bytes (Self.meaning value) ≡ bytes.now) }
         ensures valid { IfOk result (λ value. Self.is_valid (Self.meaning value)) }
         ensures err { IfErr result
-            (λ _. (h : Meaning) → Self.is_valid h → state_bytes h ≢ bytes.now) };
+            (λ _. (h : HashState) → Self.is_valid h → state_bytes h ≢ bytes.now) };
 
     // States that are saved as the same bytes are the same: what was saved loads to the state that
     // it was.
-    ghost one_state: { (g h : Meaning) → Self.is_valid g → Self.is_valid h
+    ghost one_state: { (g h : HashState) → Self.is_valid g → Self.is_valid h
         → state_bytes g ≡ state_bytes h → g ≡ h };
 
     // Equal bytes are equal arrays: what was loaded saves to the array that it was.

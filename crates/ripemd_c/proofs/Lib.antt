@@ -2,5 +2,5 @@
 mod Placing
 -- Keys that are longer than a block.
 mod Keys
--- What is kept of a hash state tells it; what is kept of a message.
-pub mod Keeping
+-- Saved bytes tell their state.
+pub mod SavedStates

@@ -1,6 +1,8 @@
 -- Records that lie one after another.
 pub mod Records
--- What C keeps of a hash state and of an HMAC state.
-pub mod Kept
+-- The saved bytes of hash states and of HMAC states.
+pub mod SavedStates
 -- A worked example of this.
 pub mod Worked
+-- What is written of each record, for private functions.
+pub mod Outputs

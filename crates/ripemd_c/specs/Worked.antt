@@ -1,8 +1,8 @@
--- A worked example of the bytes that are kept of a hash state, as facts of these definitions.
+-- A worked example of the saved bytes of a hash state, as facts of these definitions.
 use Rattle.std.specs.Prelude.{ℕ, List, [], ◌∷◌, ◌++◌, replicate}
 use Rattle.ripemd.specs.Standard.Compression.{ripemd160, compress}
-use Rattle.ripemd.specs.States.{Meaning, new_state, fed}
-use Rattle.ripemd_c.specs.Kept.{Keeps}
+use Rattle.ripemd.specs.States.{HashState, new_state, fed}
+use Rattle.ripemd_c.specs.SavedStates.{IsSavedStateOf}
 
 -- OpenSSL's words of RIPEMD-160 after 64 times "a", one block, a tail of one byte "b", and a last byte
 abbrev pub bytes_to : ℕ → List ℕ
@@ -11,7 +11,7 @@ bytes_to last =
     ∷ 0x74 ∷ 0x28 ∷ 0xf1 ∷ 0xaa ∷ 0x67 ∷ 0xdf ∷ 0x1c ∷ 0xbe ∷ 0xc1 ∷ 0xc6 ∷ [])
     ++ 1 ∷ replicate 7 0 ++ 1 ∷ 0x62 ∷ replicate 61 0 ++ last ∷ []
 
--- they are kept of that hash, and of none where a byte behind the tail is not zero
-pub record WorkedKept : Type 0 where
-  pub kept : Keeps ripemd160 (fed (compress ripemd160) (new_state ripemd160) (replicate 64 0x61 ++ 0x62 ∷ [])) (bytes_to 0)
-  pub not_zero : (h : Meaning) → ¬ Keeps ripemd160 h (bytes_to 1)
+-- they are saved of that state, and of none where a byte behind the tail is not zero
+pub record WorkedSavedState : Type 0 where
+  pub saved : IsSavedStateOf ripemd160 (fed (compress ripemd160) (new_state ripemd160) (replicate 64 0x61 ++ 0x62 ∷ [])) (bytes_to 0)
+  pub not_zero : (h : HashState) → ¬ IsSavedStateOf ripemd160 h (bytes_to 1)

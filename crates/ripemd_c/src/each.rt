@@ -6,7 +6,8 @@ ghost use Rattle.ripemd.specs.Standard.Compression.{ripemd128, ripemd160, ripemd
 ghost use Rattle.ripemd.specs.Standard.Hashing.{hash, ripemd};
 ghost use Rattle.ripemd_mac.specs.Keyed.{hmac};
 ghost use Rattle.ripemd_batch.specs.Lanes.{of_message, targets};
-ghost use Rattle.ripemd_c.specs.Records.{record_at, records, digest_or_tag};
+ghost use Rattle.ripemd_c.specs.Records.{record_at, records};
+ghost use Rattle.ripemd_c.specs.Outputs.{digest_or_tag};
 
 use ripemd::{Ripemd128, Ripemd160, Ripemd256, Ripemd320};
 use ripemd_batch::{BatchDigest, digest_each, tag_each};

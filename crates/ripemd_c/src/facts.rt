@@ -2,7 +2,7 @@
 
 ghost use Rattle.std.specs.Prelude.{◌≡◌, [], ◌∷◌, ◌++◌, replicate};
 ghost use Rattle.ripemd_c.specs.Records.{records};
-ghost use Rattle.ripemd_c.specs.Worked.{WorkedKept};
+ghost use Rattle.ripemd_c.specs.Worked.{WorkedSavedState};
 
 /// Three records of two bytes, with a byte behind them; two that are longer than a block; and two
 /// empty ones.
@@ -16,5 +16,5 @@ pub fn worked_records()
 
 /// The 92 bytes of a RIPEMD-160 hasher after 65 bytes, with OpenSSL's words, and bytes of no hasher.
 pub fn worked_states()
-    ensures { WorkedKept }
+    ensures { WorkedSavedState }
 {}

@@ -5,10 +5,10 @@ ghost use Rattle.std.specs.Prelude.{◌≡◌, ◌↔◌, ℕ, List, [], ◌++�
 ghost use Rattle.ripemd.specs.Standard.Words.{word_bytes};
 ghost use Rattle.ripemd.specs.Standard.Compression.{compress, ripemd128, ripemd160, ripemd256, ripemd320};
 ghost use Rattle.ripemd.specs.Standard.Hashing.{hash, ripemd};
-ghost use Rattle.ripemd.specs.States.{IsUnderWay, core_and_tail};
+ghost use Rattle.ripemd.specs.States.{IsHashState, core_and_tail};
 ghost use Rattle.ripemd_mac.specs.Keyed.{KeyedState, StandsFor, fed_text, tag_of, hmac};
 ghost use Rattle.ripemd_mac.specs.Saved.{IsSavedFor};
-ghost use Rattle.ripemd_c.specs.Kept.{IsKeptTag, KeepsTag, IsTagAfter};
+ghost use Rattle.ripemd_c.specs.SavedStates.{IsSavedHmac, IsSavedHmacOf, IsSavedHmacAfter};
 
 use ripemd::BlockHasher;
 use ripemd::block_api::{
@@ -77,7 +77,7 @@ pub extern "C" fn nattizhu_hmac_ripemd128_verify_text_nonnull(
 /// Writes the state of a tag by RIPEMD-128, under the key, of the empty text.
 #[unsafe(no_mangle)]
 pub extern "C" fn nattizhu_hmac_ripemd128_init_nonnull(state: &mut TagState128, key: &[u8])
-    ensures { IsTagAfter ripemd128 key.now [] state.new.inner state.new.outer }
+    ensures { IsSavedHmacAfter ripemd128 key.now [] state.new.inner state.new.outer }
 {
     init_tag::<Ripemd128Function>(&mut state.inner, &mut state.outer, key);
 }
@@ -89,14 +89,14 @@ pub extern "C" fn nattizhu_hmac_ripemd128_update_nonnull(
     state: &mut TagState128,
     bytes: &[u8],
 ) -> bool
-    ensures state { (tag : KeyedState) → KeepsTag ripemd128 state.old.inner state.old.outer tag
-        → IsTrue result × KeepsTag ripemd128 state.new.inner state.new.outer
+    ensures state { (tag : KeyedState) → IsSavedHmacOf ripemd128 state.old.inner state.old.outer tag
+        → IsTrue result × IsSavedHmacOf ripemd128 state.new.inner state.new.outer
         (fed_text (compress ripemd128) tag bytes.now) }
     ensures text { (key text : List ℕ)
-        → IsTagAfter ripemd128 key text state.old.inner state.old.outer → IsTrue result
-        × IsTagAfter ripemd128 key (text ++ bytes.now) state.new.inner state.new.outer }
+        → IsSavedHmacAfter ripemd128 key text state.old.inner state.old.outer → IsTrue result
+        × IsSavedHmacAfter ripemd128 key (text ++ bytes.now) state.new.inner state.new.outer }
     ensures refused { IsFalse result
-        ↔ ((tag : KeyedState) → ¬ KeepsTag ripemd128 state.old.inner state.old.outer tag) }
+        ↔ ((tag : KeyedState) → ¬ IsSavedHmacOf ripemd128 state.old.inner state.old.outer tag) }
     ensures unchanged { IsFalse result → state.new ≡ state.old }
 {
     update_tag::<Ripemd128Function>(&mut state.inner, &mut state.outer, bytes)
@@ -106,13 +106,13 @@ pub extern "C" fn nattizhu_hmac_ripemd128_update_nonnull(
 /// nothing is written.
 #[unsafe(no_mangle)]
 pub extern "C" fn nattizhu_hmac_ripemd128_final(state: &TagState128, tag: &mut [u8; 16]) -> bool
-    ensures state { (keyed : KeyedState) → KeepsTag ripemd128 state.now.inner state.now.outer keyed
+    ensures state { (keyed : KeyedState) → IsSavedHmacOf ripemd128 state.now.inner state.now.outer keyed
         → IsTrue result × (tag.new ≡ tag_of (compress ripemd128) word_bytes keyed) }
     ensures text { (key text : List ℕ)
-        → IsTagAfter ripemd128 key text state.now.inner state.now.outer
+        → IsSavedHmacAfter ripemd128 key text state.now.inner state.now.outer
         → IsTrue result × (tag.new ≡ hmac (ripemd ripemd128) key text) }
     ensures refused { IsFalse result
-        ↔ ((tag : KeyedState) → ¬ KeepsTag ripemd128 state.now.inner state.now.outer tag) }
+        ↔ ((tag : KeyedState) → ¬ IsSavedHmacOf ripemd128 state.now.inner state.now.outer tag) }
     ensures unchanged { IsFalse result → tag.new ≡ tag.old }
 {
     final_tag::<Ripemd128Function>(&state.inner, &state.outer, tag)
@@ -122,13 +122,13 @@ pub extern "C" fn nattizhu_hmac_ripemd128_final(state: &TagState128, tag: &mut [
 /// state is that of no tag.
 #[unsafe(no_mangle)]
 pub extern "C" fn nattizhu_hmac_ripemd128_verify_nonnull(state: &TagState128, tag: &[u8]) -> bool
-    ensures state { (keyed : KeyedState) → KeepsTag ripemd128 state.now.inner state.now.outer keyed
+    ensures state { (keyed : KeyedState) → IsSavedHmacOf ripemd128 state.now.inner state.now.outer keyed
         → IsTrue result ↔ (tag.now ≡ tag_of (compress ripemd128) word_bytes keyed) }
     ensures text { (key text : List ℕ)
-        → IsTagAfter ripemd128 key text state.now.inner state.now.outer
+        → IsSavedHmacAfter ripemd128 key text state.now.inner state.now.outer
         → IsTrue result ↔ (tag.now ≡ hmac (ripemd ripemd128) key text) }
     ensures refused { ((tag : KeyedState)
-        → ¬ KeepsTag ripemd128 state.now.inner state.now.outer tag) → IsFalse result }
+        → ¬ IsSavedHmacOf ripemd128 state.now.inner state.now.outer tag) → IsFalse result }
 {
     verify_tag::<Ripemd128Function>(&state.inner, &state.outer, tag)
 }
@@ -157,7 +157,7 @@ pub extern "C" fn nattizhu_hmac_ripemd160_verify_text_nonnull(
 /// Writes the state of a tag by RIPEMD-160, under the key, of the empty text.
 #[unsafe(no_mangle)]
 pub extern "C" fn nattizhu_hmac_ripemd160_init_nonnull(state: &mut TagState160, key: &[u8])
-    ensures { IsTagAfter ripemd160 key.now [] state.new.inner state.new.outer }
+    ensures { IsSavedHmacAfter ripemd160 key.now [] state.new.inner state.new.outer }
 {
     init_tag::<Ripemd160Function>(&mut state.inner, &mut state.outer, key);
 }
@@ -169,14 +169,14 @@ pub extern "C" fn nattizhu_hmac_ripemd160_update_nonnull(
     state: &mut TagState160,
     bytes: &[u8],
 ) -> bool
-    ensures state { (tag : KeyedState) → KeepsTag ripemd160 state.old.inner state.old.outer tag
-        → IsTrue result × KeepsTag ripemd160 state.new.inner state.new.outer
+    ensures state { (tag : KeyedState) → IsSavedHmacOf ripemd160 state.old.inner state.old.outer tag
+        → IsTrue result × IsSavedHmacOf ripemd160 state.new.inner state.new.outer
         (fed_text (compress ripemd160) tag bytes.now) }
     ensures text { (key text : List ℕ)
-        → IsTagAfter ripemd160 key text state.old.inner state.old.outer → IsTrue result
-        × IsTagAfter ripemd160 key (text ++ bytes.now) state.new.inner state.new.outer }
+        → IsSavedHmacAfter ripemd160 key text state.old.inner state.old.outer → IsTrue result
+        × IsSavedHmacAfter ripemd160 key (text ++ bytes.now) state.new.inner state.new.outer }
     ensures refused { IsFalse result
-        ↔ ((tag : KeyedState) → ¬ KeepsTag ripemd160 state.old.inner state.old.outer tag) }
+        ↔ ((tag : KeyedState) → ¬ IsSavedHmacOf ripemd160 state.old.inner state.old.outer tag) }
     ensures unchanged { IsFalse result → state.new ≡ state.old }
 {
     update_tag::<Ripemd160Function>(&mut state.inner, &mut state.outer, bytes)
@@ -186,13 +186,13 @@ pub extern "C" fn nattizhu_hmac_ripemd160_update_nonnull(
 /// nothing is written.
 #[unsafe(no_mangle)]
 pub extern "C" fn nattizhu_hmac_ripemd160_final(state: &TagState160, tag: &mut [u8; 20]) -> bool
-    ensures state { (keyed : KeyedState) → KeepsTag ripemd160 state.now.inner state.now.outer keyed
+    ensures state { (keyed : KeyedState) → IsSavedHmacOf ripemd160 state.now.inner state.now.outer keyed
         → IsTrue result × (tag.new ≡ tag_of (compress ripemd160) word_bytes keyed) }
     ensures text { (key text : List ℕ)
-        → IsTagAfter ripemd160 key text state.now.inner state.now.outer
+        → IsSavedHmacAfter ripemd160 key text state.now.inner state.now.outer
         → IsTrue result × (tag.new ≡ hmac (ripemd ripemd160) key text) }
     ensures refused { IsFalse result
-        ↔ ((tag : KeyedState) → ¬ KeepsTag ripemd160 state.now.inner state.now.outer tag) }
+        ↔ ((tag : KeyedState) → ¬ IsSavedHmacOf ripemd160 state.now.inner state.now.outer tag) }
     ensures unchanged { IsFalse result → tag.new ≡ tag.old }
 {
     final_tag::<Ripemd160Function>(&state.inner, &state.outer, tag)
@@ -202,13 +202,13 @@ pub extern "C" fn nattizhu_hmac_ripemd160_final(state: &TagState160, tag: &mut [
 /// state is that of no tag.
 #[unsafe(no_mangle)]
 pub extern "C" fn nattizhu_hmac_ripemd160_verify_nonnull(state: &TagState160, tag: &[u8]) -> bool
-    ensures state { (keyed : KeyedState) → KeepsTag ripemd160 state.now.inner state.now.outer keyed
+    ensures state { (keyed : KeyedState) → IsSavedHmacOf ripemd160 state.now.inner state.now.outer keyed
         → IsTrue result ↔ (tag.now ≡ tag_of (compress ripemd160) word_bytes keyed) }
     ensures text { (key text : List ℕ)
-        → IsTagAfter ripemd160 key text state.now.inner state.now.outer
+        → IsSavedHmacAfter ripemd160 key text state.now.inner state.now.outer
         → IsTrue result ↔ (tag.now ≡ hmac (ripemd ripemd160) key text) }
     ensures refused { ((tag : KeyedState)
-        → ¬ KeepsTag ripemd160 state.now.inner state.now.outer tag) → IsFalse result }
+        → ¬ IsSavedHmacOf ripemd160 state.now.inner state.now.outer tag) → IsFalse result }
 {
     verify_tag::<Ripemd160Function>(&state.inner, &state.outer, tag)
 }
@@ -237,7 +237,7 @@ pub extern "C" fn nattizhu_hmac_ripemd256_verify_text_nonnull(
 /// Writes the state of a tag by RIPEMD-256, under the key, of the empty text.
 #[unsafe(no_mangle)]
 pub extern "C" fn nattizhu_hmac_ripemd256_init_nonnull(state: &mut TagState256, key: &[u8])
-    ensures { IsTagAfter ripemd256 key.now [] state.new.inner state.new.outer }
+    ensures { IsSavedHmacAfter ripemd256 key.now [] state.new.inner state.new.outer }
 {
     init_tag::<Ripemd256Function>(&mut state.inner, &mut state.outer, key);
 }
@@ -249,14 +249,14 @@ pub extern "C" fn nattizhu_hmac_ripemd256_update_nonnull(
     state: &mut TagState256,
     bytes: &[u8],
 ) -> bool
-    ensures state { (tag : KeyedState) → KeepsTag ripemd256 state.old.inner state.old.outer tag
-        → IsTrue result × KeepsTag ripemd256 state.new.inner state.new.outer
+    ensures state { (tag : KeyedState) → IsSavedHmacOf ripemd256 state.old.inner state.old.outer tag
+        → IsTrue result × IsSavedHmacOf ripemd256 state.new.inner state.new.outer
         (fed_text (compress ripemd256) tag bytes.now) }
     ensures text { (key text : List ℕ)
-        → IsTagAfter ripemd256 key text state.old.inner state.old.outer → IsTrue result
-        × IsTagAfter ripemd256 key (text ++ bytes.now) state.new.inner state.new.outer }
+        → IsSavedHmacAfter ripemd256 key text state.old.inner state.old.outer → IsTrue result
+        × IsSavedHmacAfter ripemd256 key (text ++ bytes.now) state.new.inner state.new.outer }
     ensures refused { IsFalse result
-        ↔ ((tag : KeyedState) → ¬ KeepsTag ripemd256 state.old.inner state.old.outer tag) }
+        ↔ ((tag : KeyedState) → ¬ IsSavedHmacOf ripemd256 state.old.inner state.old.outer tag) }
     ensures unchanged { IsFalse result → state.new ≡ state.old }
 {
     update_tag::<Ripemd256Function>(&mut state.inner, &mut state.outer, bytes)
@@ -266,13 +266,13 @@ pub extern "C" fn nattizhu_hmac_ripemd256_update_nonnull(
 /// nothing is written.
 #[unsafe(no_mangle)]
 pub extern "C" fn nattizhu_hmac_ripemd256_final(state: &TagState256, tag: &mut [u8; 32]) -> bool
-    ensures state { (keyed : KeyedState) → KeepsTag ripemd256 state.now.inner state.now.outer keyed
+    ensures state { (keyed : KeyedState) → IsSavedHmacOf ripemd256 state.now.inner state.now.outer keyed
         → IsTrue result × (tag.new ≡ tag_of (compress ripemd256) word_bytes keyed) }
     ensures text { (key text : List ℕ)
-        → IsTagAfter ripemd256 key text state.now.inner state.now.outer
+        → IsSavedHmacAfter ripemd256 key text state.now.inner state.now.outer
         → IsTrue result × (tag.new ≡ hmac (ripemd ripemd256) key text) }
     ensures refused { IsFalse result
-        ↔ ((tag : KeyedState) → ¬ KeepsTag ripemd256 state.now.inner state.now.outer tag) }
+        ↔ ((tag : KeyedState) → ¬ IsSavedHmacOf ripemd256 state.now.inner state.now.outer tag) }
     ensures unchanged { IsFalse result → tag.new ≡ tag.old }
 {
     final_tag::<Ripemd256Function>(&state.inner, &state.outer, tag)
@@ -282,13 +282,13 @@ pub extern "C" fn nattizhu_hmac_ripemd256_final(state: &TagState256, tag: &mut [
 /// state is that of no tag.
 #[unsafe(no_mangle)]
 pub extern "C" fn nattizhu_hmac_ripemd256_verify_nonnull(state: &TagState256, tag: &[u8]) -> bool
-    ensures state { (keyed : KeyedState) → KeepsTag ripemd256 state.now.inner state.now.outer keyed
+    ensures state { (keyed : KeyedState) → IsSavedHmacOf ripemd256 state.now.inner state.now.outer keyed
         → IsTrue result ↔ (tag.now ≡ tag_of (compress ripemd256) word_bytes keyed) }
     ensures text { (key text : List ℕ)
-        → IsTagAfter ripemd256 key text state.now.inner state.now.outer
+        → IsSavedHmacAfter ripemd256 key text state.now.inner state.now.outer
         → IsTrue result ↔ (tag.now ≡ hmac (ripemd ripemd256) key text) }
     ensures refused { ((tag : KeyedState)
-        → ¬ KeepsTag ripemd256 state.now.inner state.now.outer tag) → IsFalse result }
+        → ¬ IsSavedHmacOf ripemd256 state.now.inner state.now.outer tag) → IsFalse result }
 {
     verify_tag::<Ripemd256Function>(&state.inner, &state.outer, tag)
 }
@@ -317,7 +317,7 @@ pub extern "C" fn nattizhu_hmac_ripemd320_verify_text_nonnull(
 /// Writes the state of a tag by RIPEMD-320, under the key, of the empty text.
 #[unsafe(no_mangle)]
 pub extern "C" fn nattizhu_hmac_ripemd320_init_nonnull(state: &mut TagState320, key: &[u8])
-    ensures { IsTagAfter ripemd320 key.now [] state.new.inner state.new.outer }
+    ensures { IsSavedHmacAfter ripemd320 key.now [] state.new.inner state.new.outer }
 {
     init_tag::<Ripemd320Function>(&mut state.inner, &mut state.outer, key);
 }
@@ -329,14 +329,14 @@ pub extern "C" fn nattizhu_hmac_ripemd320_update_nonnull(
     state: &mut TagState320,
     bytes: &[u8],
 ) -> bool
-    ensures state { (tag : KeyedState) → KeepsTag ripemd320 state.old.inner state.old.outer tag
-        → IsTrue result × KeepsTag ripemd320 state.new.inner state.new.outer
+    ensures state { (tag : KeyedState) → IsSavedHmacOf ripemd320 state.old.inner state.old.outer tag
+        → IsTrue result × IsSavedHmacOf ripemd320 state.new.inner state.new.outer
         (fed_text (compress ripemd320) tag bytes.now) }
     ensures text { (key text : List ℕ)
-        → IsTagAfter ripemd320 key text state.old.inner state.old.outer → IsTrue result
-        × IsTagAfter ripemd320 key (text ++ bytes.now) state.new.inner state.new.outer }
+        → IsSavedHmacAfter ripemd320 key text state.old.inner state.old.outer → IsTrue result
+        × IsSavedHmacAfter ripemd320 key (text ++ bytes.now) state.new.inner state.new.outer }
     ensures refused { IsFalse result
-        ↔ ((tag : KeyedState) → ¬ KeepsTag ripemd320 state.old.inner state.old.outer tag) }
+        ↔ ((tag : KeyedState) → ¬ IsSavedHmacOf ripemd320 state.old.inner state.old.outer tag) }
     ensures unchanged { IsFalse result → state.new ≡ state.old }
 {
     update_tag::<Ripemd320Function>(&mut state.inner, &mut state.outer, bytes)
@@ -346,13 +346,13 @@ pub extern "C" fn nattizhu_hmac_ripemd320_update_nonnull(
 /// nothing is written.
 #[unsafe(no_mangle)]
 pub extern "C" fn nattizhu_hmac_ripemd320_final(state: &TagState320, tag: &mut [u8; 40]) -> bool
-    ensures state { (keyed : KeyedState) → KeepsTag ripemd320 state.now.inner state.now.outer keyed
+    ensures state { (keyed : KeyedState) → IsSavedHmacOf ripemd320 state.now.inner state.now.outer keyed
         → IsTrue result × (tag.new ≡ tag_of (compress ripemd320) word_bytes keyed) }
     ensures text { (key text : List ℕ)
-        → IsTagAfter ripemd320 key text state.now.inner state.now.outer
+        → IsSavedHmacAfter ripemd320 key text state.now.inner state.now.outer
         → IsTrue result × (tag.new ≡ hmac (ripemd ripemd320) key text) }
     ensures refused { IsFalse result
-        ↔ ((tag : KeyedState) → ¬ KeepsTag ripemd320 state.now.inner state.now.outer tag) }
+        ↔ ((tag : KeyedState) → ¬ IsSavedHmacOf ripemd320 state.now.inner state.now.outer tag) }
     ensures unchanged { IsFalse result → tag.new ≡ tag.old }
 {
     final_tag::<Ripemd320Function>(&state.inner, &state.outer, tag)
@@ -362,13 +362,13 @@ pub extern "C" fn nattizhu_hmac_ripemd320_final(state: &TagState320, tag: &mut [
 /// state is that of no tag.
 #[unsafe(no_mangle)]
 pub extern "C" fn nattizhu_hmac_ripemd320_verify_nonnull(state: &TagState320, tag: &[u8]) -> bool
-    ensures state { (keyed : KeyedState) → KeepsTag ripemd320 state.now.inner state.now.outer keyed
+    ensures state { (keyed : KeyedState) → IsSavedHmacOf ripemd320 state.now.inner state.now.outer keyed
         → IsTrue result ↔ (tag.now ≡ tag_of (compress ripemd320) word_bytes keyed) }
     ensures text { (key text : List ℕ)
-        → IsTagAfter ripemd320 key text state.now.inner state.now.outer
+        → IsSavedHmacAfter ripemd320 key text state.now.inner state.now.outer
         → IsTrue result ↔ (tag.now ≡ hmac (ripemd ripemd320) key text) }
     ensures refused { ((tag : KeyedState)
-        → ¬ KeepsTag ripemd320 state.now.inner state.now.outer tag) → IsFalse result }
+        → ¬ IsSavedHmacOf ripemd320 state.now.inner state.now.outer tag) → IsFalse result }
 {
     verify_tag::<Ripemd320Function>(&state.inner, &state.outer, tag)
 }
@@ -404,7 +404,7 @@ fn init_tag<F: ResumableFunction>(
     outer: &mut F::SavedHasher,
     key: &[u8],
 )
-    ensures { IsSavedFor (F.list F.start_of) F.step F.output (IsUnderWay F.are_words)
+    ensures { IsSavedFor (F.list F.start_of) F.step F.output (IsHashState F.are_words)
         (core_and_tail F.output) key.now []
         (F.SavedHasher.bytes inner.new) (F.SavedHasher.bytes outer.new) }
 {
@@ -420,19 +420,19 @@ fn update_tag<F: ResumableFunction>(
     outer: &mut F::SavedHasher,
     bytes: &[u8],
 ) -> bool
-    ensures state { (tag : KeyedState) → IsKeptTag F.are_words F.output
+    ensures state { (tag : KeyedState) → IsSavedHmac F.are_words F.output
         (F.SavedHasher.bytes inner.old) (F.SavedHasher.bytes outer.old) tag
-        → IsTrue result × IsKeptTag F.are_words F.output
+        → IsTrue result × IsSavedHmac F.are_words F.output
         (F.SavedHasher.bytes inner.new) (F.SavedHasher.bytes outer.new)
         (fed_text F.step tag bytes.now) }
     ensures text { (key text : List ℕ)
-        → IsSavedFor (F.list F.start_of) F.step F.output (IsUnderWay F.are_words)
+        → IsSavedFor (F.list F.start_of) F.step F.output (IsHashState F.are_words)
         (core_and_tail F.output) key text
         (F.SavedHasher.bytes inner.old) (F.SavedHasher.bytes outer.old)
         → IsTrue result × IsSavedFor (F.list F.start_of) F.step F.output
-        (IsUnderWay F.are_words) (core_and_tail F.output) key (text ++ bytes.now)
+        (IsHashState F.are_words) (core_and_tail F.output) key (text ++ bytes.now)
         (F.SavedHasher.bytes inner.new) (F.SavedHasher.bytes outer.new) }
-    ensures refused { IsFalse result ↔ ((tag : KeyedState) → ¬ IsKeptTag F.are_words F.output
+    ensures refused { IsFalse result ↔ ((tag : KeyedState) → ¬ IsSavedHmac F.are_words F.output
         (F.SavedHasher.bytes inner.old) (F.SavedHasher.bytes outer.old) tag) }
     ensures inner { IsFalse result → inner.new ≡ inner.old }
     ensures outer { IsFalse result → outer.new ≡ outer.old }
@@ -457,16 +457,16 @@ fn final_tag<F: ResumableFunction>(
     outer: &F::SavedHasher,
     tag: &mut F::Digest,
 ) -> bool
-    ensures state { (keyed : KeyedState) → IsKeptTag F.are_words F.output
+    ensures state { (keyed : KeyedState) → IsSavedHmac F.are_words F.output
         (F.SavedHasher.bytes inner.now) (F.SavedHasher.bytes outer.now) keyed
         → IsTrue result × (F.Digest.bytes tag.new ≡ tag_of F.step F.output keyed) }
     ensures text { (key text : List ℕ)
-        → IsSavedFor (F.list F.start_of) F.step F.output (IsUnderWay F.are_words)
+        → IsSavedFor (F.list F.start_of) F.step F.output (IsHashState F.are_words)
         (core_and_tail F.output) key text
         (F.SavedHasher.bytes inner.now) (F.SavedHasher.bytes outer.now)
         → IsTrue result × (F.Digest.bytes tag.new
         ≡ hmac (hash (F.list F.start_of) F.step F.output) key text) }
-    ensures refused { IsFalse result ↔ ((tag : KeyedState) → ¬ IsKeptTag F.are_words F.output
+    ensures refused { IsFalse result ↔ ((tag : KeyedState) → ¬ IsSavedHmac F.are_words F.output
         (F.SavedHasher.bytes inner.now) (F.SavedHasher.bytes outer.now) tag) }
     ensures unchanged { IsFalse result → tag.new ≡ tag.old }
 {
@@ -486,16 +486,16 @@ fn verify_tag<F: ResumableFunction>(
     outer: &F::SavedHasher,
     tag: &[u8],
 ) -> bool
-    ensures state { (keyed : KeyedState) → IsKeptTag F.are_words F.output
+    ensures state { (keyed : KeyedState) → IsSavedHmac F.are_words F.output
         (F.SavedHasher.bytes inner.now) (F.SavedHasher.bytes outer.now) keyed
         → IsTrue result ↔ (tag.now ≡ tag_of F.step F.output keyed) }
     ensures text { (key text : List ℕ)
-        → IsSavedFor (F.list F.start_of) F.step F.output (IsUnderWay F.are_words)
+        → IsSavedFor (F.list F.start_of) F.step F.output (IsHashState F.are_words)
         (core_and_tail F.output) key text
         (F.SavedHasher.bytes inner.now) (F.SavedHasher.bytes outer.now)
         → IsTrue result
         ↔ (tag.now ≡ hmac (hash (F.list F.start_of) F.step F.output) key text) }
-    ensures refused { ((tag : KeyedState) → ¬ IsKeptTag F.are_words F.output
+    ensures refused { ((tag : KeyedState) → ¬ IsSavedHmac F.are_words F.output
         (F.SavedHasher.bytes inner.now) (F.SavedHasher.bytes outer.now) tag)
         → IsFalse result }
 {

@@ -2,7 +2,7 @@
 use Rattle.std.proofs.Common.{◌≡◌, ℕ, List, [], ◌++◌, sym, ap, ◌∙◌}
 use Rattle.std.proofs.lemmas.List.{append-nil, append_assoc}
 use Rattle.ripemd.specs.Standard.Hashing.{hash}
-use Rattle.ripemd.specs.States.{Meaning, initial_state, fed, finish}
+use Rattle.ripemd.specs.States.{HashState, initial_state, fed, finish}
 use Rattle.ripemd.specs.Laws.{fed_twice, finish_fed}
 use Rattle.ripemd_mac.specs.Keyed.{key_block, masked, inner_message, outer_message, hmac, KeyedState, fed_text, tag_of, StandsFor}
 
@@ -26,7 +26,7 @@ module _ (start : List ℕ) (step : List ℕ → List ℕ → List ℕ) (output 
       → StandsFor start step output key (text ++ bytes) (fed_text step state bytes)
   unfolding inner_message
   stands_for_more text bytes state stands = record {
-    inner = ap (λ (m : Meaning). fed step m bytes) stands.inner
+    inner = ap (λ (m : HashState). fed step m bytes) stands.inner
         ∙ fed_twice step (initial_state start) (inner_message h key text) bytes
         ∙ ap (fed step (initial_state start)) (append_assoc (masked 0x36 (key_block h key)) text bytes);
     outer = stands.outer;
@@ -42,7 +42,7 @@ module _ (start : List ℕ) (step : List ℕ → List ℕ → List ℕ) (output 
       ap (finish step output) stands.inner ∙ finish_fed start step output (inner_message h key text) in
       let all : fed step state.outer (finish step output state.inner)
       ≡ fed step (initial_state start) (outer_message h key text) =
-      ap (λ (m : Meaning). fed step m (finish step output state.inner)) stands.outer
+      ap (λ (m : HashState). fed step m (finish step output state.inner)) stands.outer
       ∙ fed_twice step (initial_state start) masked_key (finish step output state.inner)
       ∙ ap (λ (bs : List ℕ). fed step (initial_state start) (masked_key ++ bs)) first in
       ap (finish step output) all ∙ finish_fed start step output (outer_message h key text)

@@ -2,7 +2,7 @@
 use Rattle.std.specs.Prelude.{◌≡◌, ℕ, ◌-◌, nat_le, if◌then◌else◌, List, ◌++◌, length, map, replicate}
 use Rattle.std.specs.Int.Bits.{bit_xor}
 use Rattle.ripemd.specs.Standard.Hashing.{hash}
-use Rattle.ripemd.specs.States.{Meaning, initial_state, fed, finish}
+use Rattle.ripemd.specs.States.{HashState, initial_state, fed, finish}
 
 -- ---- the tag
 
@@ -33,8 +33,8 @@ hmac hash key text = hash (outer_message hash key text)
 
 -- two hash states
 pub record KeyedState : Type 0 where
-  pub inner : Meaning
-  pub outer : Meaning
+  pub inner : HashState
+  pub outer : HashState
 
 -- after more bytes of the text: the inner hash has taken them in
 abbrev pub fed_text : (List ℕ → List ℕ → List ℕ) → KeyedState → List ℕ → KeyedState

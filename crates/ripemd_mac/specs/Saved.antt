@@ -1,21 +1,21 @@
 -- The bytes that an HMAC state is saved as (this repository's own).
 use Rattle.std.specs.Prelude.{◌≡◌, ℕ, List}
-use Rattle.ripemd.specs.States.{Meaning}
+use Rattle.ripemd.specs.States.{HashState}
 use Rattle.ripemd_mac.specs.Keyed.{KeyedState, StandsFor}
 
 -- it can occur, if both hash states can
-pub record IsKeyedState (is_valid : Meaning → Type 0) (state : KeyedState) : Type 0 where
+pub record IsKeyedState (is_valid : HashState → Type 0) (state : KeyedState) : Type 0 where
   pub inner : is_valid state.inner
   pub outer : is_valid state.outer
 
 -- these are the bytes of the one hash and of the other
-pub record IsSavedAs (state_bytes : Meaning → List ℕ) (first second : List ℕ) (state : KeyedState) : Type 0 where
+pub record IsSavedAs (state_bytes : HashState → List ℕ) (first second : List ℕ) (state : KeyedState) : Type 0 where
   pub inner : state_bytes state.inner ≡ first
   pub outer : state_bytes state.outer ≡ second
 
 -- these are the bytes of a state that stands for this key and this text
 pub record IsSavedFor (start : List ℕ) (step : List ℕ → List ℕ → List ℕ) (output : List ℕ → List ℕ)
-    (is_valid : Meaning → Type 0) (state_bytes : Meaning → List ℕ) (key text first second : List ℕ) : Type 0 where
+    (is_valid : HashState → Type 0) (state_bytes : HashState → List ℕ) (key text first second : List ℕ) : Type 0 where
   pub state : KeyedState
   pub valid : IsKeyedState is_valid state
   pub bytes : IsSavedAs state_bytes first second state

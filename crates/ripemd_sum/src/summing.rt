@@ -2,7 +2,7 @@
 
 ghost use Rattle.std.specs.Prelude.{◌≡◌, ℕ, List, [], ◌++◌};
 ghost use Rattle.ripemd.specs.Standard.Hashing.{hash};
-ghost use Rattle.ripemd.specs.States.{Meaning};
+ghost use Rattle.ripemd.specs.States.{HashState};
 ghost use Rattle.ripemd.specs.Messages.{IsHashing};
 ghost use Rattle.ripemd_mac.specs.Keyed.{hmac, StandsFor};
 
@@ -40,7 +40,7 @@ pub struct Plain<D: Digest> {
 }
 
 impl<D: Digest> Model for Plain<D> {
-    ghost Value = { Meaning };
+    ghost Value = { HashState };
 
     ghost view = { λ plain. D.meaning plain.hasher };
 }

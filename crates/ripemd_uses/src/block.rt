@@ -9,7 +9,7 @@ use ripemd_block::block_api::{FixedOutputCore, Ripemd160Core};
 use ripemd_block::buffer::Buffer;
 
 /// The RIPEMD-160 digest of a message shorter than a block.
-#[tactic(auto, using(ripemd_block::specs::Laws::UnderWay::finish_short))]
+#[tactic(auto, using(ripemd_block::specs::Laws::Pieces::finish_short))]
 pub fn digest_of_short(message: &[u8]) -> [u8; 20]
     requires { length message.now < block_size }
     ensures { result ≡ ripemd ripemd160 message.now }

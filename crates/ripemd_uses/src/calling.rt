@@ -323,7 +323,7 @@ pub fn toy_put_aside(first: &[u8], second: &[u8]) -> [u8; 1]
     digest_put_aside::<Toy>(first, second)
 }
 
-ghost use Rattle.ripemd.specs.States.{IsUnderWay, core_and_tail};
+ghost use Rattle.ripemd.specs.States.{IsHashState, core_and_tail};
 ghost use Rattle.ripemd.specs.Replay.{Gives};
 
 use ripemd::replay::{Command, ReplayError, replay};
@@ -337,7 +337,7 @@ use std::alloc::Global;
 pub fn toy_replay(alloc: Global, commands: &[Command]) -> Result<Vec<[u8; 1]>, ReplayError>
     ensures { IfOk result (λ digests. Gives (0 ∷ [])
         (λ state block. bit_xor (slice_index state 0) (slice_index block 0) ∷ []) (λ state. state)
-        (IsUnderWay (λ state. length state ≡ 1)) (core_and_tail (λ state. state))
+        (IsHashState (λ state. length state ≡ 1)) (core_and_tail (λ state. state))
         commands.now digests.items) }
 {
     replay::<Toy>(alloc, commands)

@@ -9,7 +9,7 @@ use Rattle.std.proofs.Math.Seq.{take-append_seam, drop-append_seam}
 use Rattle.std.proofs.lemmas.Nat.{le_bytes_8, from_le_bytes-to_le_bytes_8}
 use Rattle.ripemd_block.specs.Standard.Words.{word_bytes, eight_bytes}
 use Rattle.ripemd_block.specs.Standard.Compression.{Parameters}
-use Rattle.ripemd_block.specs.States.{Meaning, AreWords, IsTail, IsUnderWay, IsState, IsWithoutTail, IsCoreState}
+use Rattle.ripemd_block.specs.States.{HashState, AreWords, IsTail, IsHashState, IsState, IsWithoutTail, IsCoreState}
 use Rattle.ripemd_block.specs.States.{output_and_count, core_and_tail, core_bytes, hasher_bytes}
 use Rattle.ripemd_block.specs.Listed.{TellsWords}
 use Rattle.ripemd_block.specs.Laws.WordBytes.{words_of, words_read, words_fit, bytes_of_words, one_list}
@@ -31,14 +31,14 @@ one_tail s t same =
     ∙ rw size (take-append_seam t (replicate (63 - length t) 0))
 
 -- a hasher is saved as its core and its tail
-pub core_and_tail-split : (output : List ℕ → List ℕ) (h : Meaning)
+pub core_and_tail-split : (output : List ℕ → List ℕ) (h : HashState)
     → core_and_tail output h ≡ output_and_count output h ++ tail_bytes h.tail
 unfolding core_and_tail
 core_and_tail-split output h =
     append_assoc (output_and_count output h) (length h.tail ∷ h.tail) (replicate (63 - length h.tail) 0)
 
 -- states of the same words, count and tail are the same
-same_meaning : (g h : Meaning) → g.words ≡ h.words → g.count ≡ h.count → g.tail ≡ h.tail → g ≡ h
+same_meaning : (g h : HashState) → g.words ≡ h.words → g.count ≡ h.count → g.tail ≡ h.tail → g ≡ h
 same_meaning g h words count tail =
     ap (λ (w : List ℕ). record g { words = w }) words
     ∙ ap (λ (n : ℕ). record g { words = h.words; count = n }) count
@@ -47,7 +47,7 @@ same_meaning g h words count tail =
 module _ {are_words : List ℕ → Type 0} {output : List ℕ → List ℕ} {n : ℕ} (tells : TellsWords are_words output n) where
   -- ---- two states whose cores are saved as the beginning of the same bytes
 
-  module _ (g h : Meaning) (a b : List ℕ) (of_g : IsUnderWay are_words g) (of_h : IsUnderWay are_words h)
+  module _ (g h : HashState) (a b : List ℕ) (of_g : IsHashState are_words g) (of_h : IsHashState are_words h)
       (same : output_and_count output g ++ a ≡ output_and_count output h ++ b) where
     parted : output g.words ++ (eight_bytes g.count ++ a) ≡ output h.words ++ (eight_bytes h.count ++ b)
     unfolding output_and_count
@@ -85,14 +85,14 @@ module _ {are_words : List ℕ → Type 0} {output : List ℕ → List ℕ} {n :
   -- ---- cores
 
   -- how many bytes a core is saved as
-  pub length-output_and_count : (h : Meaning) → IsUnderWay are_words h → length (output_and_count output h) ≡ n + 8
+  pub length-output_and_count : (h : HashState) → IsHashState are_words h → length (output_and_count output h) ≡ n + 8
   unfolding output_and_count
   length-output_and_count h valid =
       let both = length-append (output h.words) (eight_bytes h.count) in
       omega (arith, both, tells.size h.words valid.words)
 
   -- the first of them are the output of its words
-  pub output_front : (h : Meaning) (bytes : List ℕ) → IsUnderWay are_words h → output_and_count output h ≡ bytes
+  pub output_front : (h : HashState) (bytes : List ℕ) → IsHashState are_words h → output_and_count output h ≡ bytes
       → output h.words ≡ take n bytes
   unfolding output_and_count
   output_front h bytes valid same =
@@ -100,7 +100,7 @@ module _ {are_words : List ℕ → Type 0} {output : List ℕ → List ℕ} {n :
       sym (take-append_seam (output h.words) (eight_bytes h.count)) ∙ rw (size, same) refl
 
   -- cores that are saved as the same bytes are the same
-  pub one_saved_core : (g h : Meaning) → IsWithoutTail are_words g → IsWithoutTail are_words h
+  pub one_saved_core : (g h : HashState) → IsWithoutTail are_words g → IsWithoutTail are_words h
       → output_and_count output g ≡ output_and_count output h → g ≡ h
   one_saved_core g h of_g of_h same =
       let behind : output_and_count output g ++ [] ≡ output_and_count output h ++ [] =
@@ -112,7 +112,7 @@ module _ {are_words : List ℕ → Type 0} {output : List ℕ → List ℕ} {n :
   -- ---- hashers
 
   -- how many bytes a hasher is saved as
-  pub length-core_and_tail : (h : Meaning) → IsUnderWay are_words h → length (core_and_tail output h) ≡ n + 8 + 64
+  pub length-core_and_tail : (h : HashState) → IsHashState are_words h → length (core_and_tail output h) ≡ n + 8 + 64
   length-core_and_tail h valid =
       let core : length (output_and_count output h) ≡ n + 8 = length-output_and_count h valid in
       let zeros : length (replicate {A = ℕ} (63 - length h.tail) 0) ≡ 63 - length h.tail =
@@ -128,7 +128,7 @@ module _ {are_words : List ℕ → Type 0} {output : List ℕ → List ℕ} {n :
       )
 
   -- hashers that are saved as the same bytes are the same
-  pub one_saved_hasher : (g h : Meaning) → IsUnderWay are_words g → IsUnderWay are_words h
+  pub one_saved_hasher : (g h : HashState) → IsHashState are_words g → IsHashState are_words h
       → core_and_tail output g ≡ core_and_tail output h → g ≡ h
   one_saved_hasher g h of_g of_h same =
       let both : output_and_count output g ++ tail_bytes g.tail ≡ output_and_count output h ++ tail_bytes h.tail =
@@ -141,7 +141,7 @@ module _ {are_words : List ℕ → Type 0} {output : List ℕ → List ℕ} {n :
 -- ---- the four variants
 
 -- hashers of a variant that are saved as the same bytes are the same
-pub one_hasher : (v : Parameters) (g h : Meaning) → IsState v g → IsState v h → hasher_bytes g ≡ hasher_bytes h → g ≡ h
+pub one_hasher : (v : Parameters) (g h : HashState) → IsState v g → IsState v h → hasher_bytes g ≡ hasher_bytes h → g ≡ h
 one_hasher v = one_saved_hasher (words_told (length v.start))
 
 -- the number of eight bytes is below 2 ^ 64
@@ -160,7 +160,7 @@ count_of_eight (a ∷ b ∷ c ∷ d ∷ e ∷ f ∷ g ∷ h ∷ i ∷ bs) size s
 
 -- so many bytes are not those of no core
 every_core : (v : Parameters) (bytes : List ℕ) → length bytes ≡ 4 * length v.start + 8
-    → ((i : ℕ) → get_or bytes i 0 < 256) → ¬ ((h : Meaning) → IsCoreState v h → core_bytes h ≢ bytes)
+    → ((i : ℕ) → get_or bytes i 0 < 256) → ¬ ((h : HashState) → IsCoreState v h → core_bytes h ≢ bytes)
 unfolding output_and_count
 every_core v bytes size small refused =
     let n : ℕ = length v.start in
@@ -181,7 +181,7 @@ every_core v bytes size small refused =
 
 -- so whoever refuses only what no core is saved as takes any bytes, if there are so many
 pub takes_every_core : {T E : Type 0} (v : Parameters) (bytes : List ℕ) (loaded : Result T E)
-    → IfErr loaded (λ _. (h : Meaning) → IsCoreState v h → core_bytes h ≢ bytes)
+    → IfErr loaded (λ _. (h : HashState) → IsCoreState v h → core_bytes h ≢ bytes)
     → length bytes ≡ 4 * length v.start + 8 → ((i : ℕ) → get_or bytes i 0 < 256) → IsOk loaded
 takes_every_core v bytes (Ok core) refused size small = refl
 takes_every_core v bytes (Err error) refused size small = absurd (every_core v bytes size small refused)

@@ -2,7 +2,7 @@
 
 ghost use Rattle.std.specs.Prelude.{◌+◌, ◌%◌, [], ◌∷◌, slice_index, ⊤};
 ghost use Rattle.std.specs.List.{fold};
-ghost use Rattle.ripemd.specs.States.{Meaning, IsUnderWay};
+ghost use Rattle.ripemd.specs.States.{HashState, IsHashState};
 
 use crate::witness::toys::sum_from;
 use ripemd::digest::{BlockDigest, BlockFunction, Digest, HashMeaning, OutputSizeUser};
@@ -70,7 +70,7 @@ pub(super) struct Sums {
 }
 
 impl Model for Sums {
-    ghost Value = { Meaning };
+    ghost Value = { HashState };
 
     ghost view = { λ sums. sums.hasher };
 }
@@ -78,7 +78,7 @@ impl Model for Sums {
 impl HashMeaning for Sums {
     ghost meaning = { λ h. h };
 
-    ghost is_valid = { IsUnderWay (λ _. ⊤) };
+    ghost is_valid = { IsHashState (λ _. ⊤) };
 }
 
 impl OutputSizeUser for Sums {

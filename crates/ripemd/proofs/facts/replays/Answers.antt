@@ -2,7 +2,7 @@ use Rattle.std.proofs.Common.{◌≡◌, ◌<◌, [], length, codes, refl, sym, 
 use Rattle.std.proofs.lemmas.List.Elements.{All-nil, All-cons}
 use Rattle.ripemd_block.specs.Standard.Compression.{ripemd160, registers_after, lines_after, compress}
 use Rattle.ripemd_block.specs.Standard.Hashing.{with_padding, blocks, partial_block}
-use Rattle.ripemd_block.specs.States.{Meaning, IsState, new_state, with_tail, fed, finish}
+use Rattle.ripemd_block.specs.States.{HashState, IsState, new_state, with_tail, fed, finish}
 use Rattle.ripemd_block.specs.States.{output_and_count, core_and_tail, hasher_bytes}
 use Rattle.ripemd_block.specs.Laws.Starting.{start_words_160}
 use Rattle.ripemd_block.specs.Laws.Saving.{words_told, length-core_and_tail}
@@ -10,7 +10,7 @@ use Rattle.ripemd.specs.Worked.{saved_after_a}
 use Rattle.ripemd.proofs.facts.replays.Goals as goal
 
 -- a hasher that was fed "a"
-abbrev after_a : Meaning
+abbrev after_a : HashState
 after_a = with_tail (new_state ripemd160) (codes "a")
 
 is_state_after_a : IsState ripemd160 after_a

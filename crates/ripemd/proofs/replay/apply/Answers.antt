@@ -1,6 +1,6 @@
 use Rattle.std.proofs.Common.{ℕ, ◌<◌, List, length, get_or, refl, sym, ◌∙◌, ap, subst, arith}
 use Rattle.std.proofs.lemmas.Result.{IfOk-at_ok}
-use Rattle.ripemd_block.specs.States.{Meaning, initial_state, fed, finish}
+use Rattle.ripemd_block.specs.States.{HashState, initial_state, fed, finish}
 use Rattle.ripemd.specs.Replay.{Machine, History, from_state, feed, state, imported}
 use Rattle.ripemd.specs.Replay.{add_hasher, add_saved, add_digest, set_hasher}
 use Rattle.ripemd.specs.declared.replay.Command.TheVariants.{New, Finish, Fork, Save, Load, Import}
@@ -23,7 +23,7 @@ returns-in-Update g c m held =
     let new : History = from_state (initial_state g.D.Digest.start) in
     let h : History = get_or m.hashers i new in
     let was = hasher_at held i c.index_mut.result.now new (omega arith) c.index_mut.ensures.value in
-    let same = c.update.ensures.fed ∙ ap (λ (s : Meaning). fed g.D.Digest.step s x) was
+    let same = c.update.ensures.fed ∙ ap (λ (s : HashState). fed g.D.Digest.step s x) was
     ∙ state_fed g.D.Digest.step h x in
     rw c.in-Update.is (set_hasher m i (feed h x), (omega (arith, hasher_count held), refl), hasher_set held i _ _ same)
 
@@ -98,7 +98,7 @@ returns-in-Load g c m held =
 
 pub returns-in-Ok : goal.returns-in-Ok
 returns-in-Ok g c m held =
-    let s : Meaning = g.D.HashMeaning.meaning c.in-Ok.imported in
+    let s : HashState = g.D.HashMeaning.meaning c.in-Ok.imported in
     let same = sym (g.met.D.Digest.fed_nothing s c.in-Ok.ensures.valid) in
     rw c.in-Import.is (grown g.D.Digest.start g.D.Digest.step g.D.Digest.output g.D.HashMeaning.is_valid
     g.D.SerializableState.state_bytes (Import c.in-Import.bytes) m (add_hasher m (from_state s)) _ _ tt

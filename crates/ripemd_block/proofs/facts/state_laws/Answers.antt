@@ -1,6 +1,6 @@
 use Rattle.ripemd_block.specs.Standard.Words.{word_bytes}
 use Rattle.ripemd_block.specs.Standard.Compression.{compress}
-use Rattle.ripemd_block.specs.Laws.UnderWay.{fed_nothing, fed_twice, finish_fed}
+use Rattle.ripemd_block.specs.Laws.Pieces.{fed_nothing, fed_twice, finish_fed}
 use Rattle.ripemd_block.proofs.facts.state_laws.Goals as goal
 
 pub returns-clause-nothing : goal.returns-clause-nothing

@@ -4,7 +4,8 @@ use Rattle.std.proofs.lemmas.List.FromFn.{fill_by_all}
 use Rattle.std.proofs.lemmas.Simd.{map-map}
 use Rattle.std.specs.List.{range_with_len}
 use Rattle.ripemd.specs.Standard.Hashing.{hash}
-use Rattle.ripemd_c.specs.Records.{record_at, digest_or_tag}
+use Rattle.ripemd_c.specs.Records.{record_at}
+use Rattle.ripemd_c.specs.Outputs.{digest_or_tag}
 use Rattle.ripemd_c.proofs.each.write_all.Goals as goal
 
 pub returns : goal.returns

@@ -1,7 +1,8 @@
 -- The digests of the records so far are written.
 use Rattle.std.proofs.Common.{◌≡◌, ℕ, ◌*◌, ◌<◌, [], length, map, get_or}
 use Rattle.ripemd.specs.Standard.Hashing.{hash}
-use Rattle.ripemd_c.specs.Records.{record_at, digest_or_tag}
+use Rattle.ripemd_c.specs.Records.{record_at}
+use Rattle.ripemd_c.specs.Outputs.{digest_or_tag}
 use Rattle.ripemd_c.proofs.each.write_all.Given as goal
 
 abbrev pub invariant-loop-g : goal.invariant-loop-g

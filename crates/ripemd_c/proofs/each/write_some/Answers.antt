@@ -1,7 +1,7 @@
 use Rattle.std.proofs.Common.{◌≡◌, ℕ, ◌+◌, ◌-◌, ◌<◌, inl, inr, List, [], length, get_or, ap, arith, rules, ◌∙◌}
 use Rattle.std.proofs.lemmas.Bool.{cases_lt}
 use Rattle.ripemd.specs.Standard.Hashing.{hash}
-use Rattle.ripemd_c.specs.Records.{digest_or_tag}
+use Rattle.ripemd_c.specs.Outputs.{digest_or_tag}
 use Rattle.ripemd_c.proofs.Placing.{before_part, in_part, in_first}
 use Rattle.ripemd_c.proofs.each.write_some.Goals as goal
 use Rattle.ripemd_c.proofs.each.write_some.Goals.{then-outputs-at-lt-AT_ONCE, else-outputs-at-lt-AT_ONCE}

@@ -3,12 +3,12 @@ use Rattle.std.proofs.Math.Seq.{drop-append_seam}
 use Rattle.ripemd.specs.Standard.Words.{word_bytes}
 use Rattle.ripemd.specs.Standard.Compression.{ripemd160, registers_after, lines_after, compress}
 use Rattle.ripemd.specs.Standard.Hashing.{blocks, partial_block}
-use Rattle.ripemd.specs.States.{Meaning, IsState, fed, output_and_count, core_and_tail}
+use Rattle.ripemd.specs.States.{HashState, IsState, fed, output_and_count, core_and_tail}
 use Rattle.ripemd_block.specs.Laws.Saving.{words_told, length-output_and_count, core_and_tail-split, tail_bytes}
 use Rattle.ripemd_c.proofs.facts.worked_states.Goals as goal
 
 -- the hash state
-abbrev after : Meaning
+abbrev after : HashState
 after = record {
   words = 0xd42339f0 ∷ 0xce5b9f6f ∷ 0x2874a075 ∷ 0xdf67aaf1 ∷ 0xc6c1be1c ∷ [];
   count = 1;
@@ -33,10 +33,10 @@ zero_behind (x ∷ y ∷ rest) same =
 pub returns : goal.returns
 unfolding registers_after lines_after compress blocks partial_block fed output_and_count core_and_tail
 returns c = record {
-  kept = record { valid = is_state; saved = refl };
-  not_zero = λ h kept.
-      let core : length (output_and_count word_bytes h) ≡ 28 = length-output_and_count (words_told 5) h kept.valid in
-      let both = sym (core_and_tail-split word_bytes h) ∙ kept.saved in
+  saved = record { valid = is_state; saved = refl };
+  not_zero = λ h is_saved.
+      let core : length (output_and_count word_bytes h) ≡ 28 = length-output_and_count (words_told 5) h is_saved.valid in
+      let both = sym (core_and_tail-split word_bytes h) ∙ is_saved.saved in
       zero_behind h.tail
       (sym (drop-append_seam (output_and_count word_bytes h) (tail_bytes h.tail))
       ∙ rw core (ap (drop 28) both));

@@ -1,4 +1,4 @@
-use Rattle.ripemd_c.proofs.Keeping.{message_digest}
+use Rattle.ripemd_c.proofs.SavedStates.{message_digest}
 use Rattle.ripemd_c.proofs.streams.nattizhu_ripemd320_final.Goals as goal
 
 pub returns-clause-message : goal.returns-clause-message

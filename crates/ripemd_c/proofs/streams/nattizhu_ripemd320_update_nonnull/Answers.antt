@@ -1,4 +1,4 @@
-use Rattle.ripemd_c.proofs.Keeping.{message_next}
+use Rattle.ripemd_c.proofs.SavedStates.{message_next}
 use Rattle.ripemd_c.proofs.streams.nattizhu_ripemd320_update_nonnull.Goals as goal
 
 pub returns-clause-message : goal.returns-clause-message

@@ -1,12 +1,12 @@
 use Rattle.std.proofs.Common.{rules}
-use Rattle.ripemd_c.proofs.Keeping.{kept_tag}
+use Rattle.ripemd_c.proofs.SavedStates.{saved_hmac_tag}
 use Rattle.ripemd_c.proofs.tags.final_tag.Goals as goal
 
 pub returns-in-Ok-clause-state : goal.returns-in-Ok-clause-state
-returns-in-Ok-clause-state g c tag kept =
+returns-in-Ok-clause-state g c tag is_saved =
     let tells = g.met.F.ResumableFunction.tells_words in
     let loaded = c.in-Ok.ensures in (
       search rules,
-      kept_tag tells loaded.valid loaded.ok g.F.HashFunction.step c.finalize.ensures.state tag
-          (rw c.as_bytes.ensures.bytes (rw c.as_bytes-2.ensures.bytes kept)),
+      saved_hmac_tag tells loaded.valid loaded.ok g.F.HashFunction.step c.finalize.ensures.state tag
+          (rw c.as_bytes.ensures.bytes (rw c.as_bytes-2.ensures.bytes is_saved)),
     )

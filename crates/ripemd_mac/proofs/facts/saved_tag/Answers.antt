@@ -1,20 +1,20 @@
 use Rattle.std.proofs.Common.{◌≡◌, ℕ, List, [], ◌∷◌, codes, get_or, refl, sym, ◌∙◌, ap, arith, rules}
 use Rattle.ripemd.specs.Standard.Compression.{ripemd160, registers_after, lines_after, compress}
 use Rattle.ripemd.specs.Standard.Hashing.{with_padding, blocks, partial_block}
-use Rattle.ripemd.specs.States.{Meaning, IsState, fed, output_and_count, core_and_tail, hasher_bytes}
+use Rattle.ripemd.specs.States.{HashState, IsState, fed, output_and_count, core_and_tail, hasher_bytes}
 use Rattle.ripemd_mac.specs.Keyed.{key_block, inner_message}
 use Rattle.ripemd_mac.specs.Worked.{saved_outer}
 use Rattle.ripemd_mac.proofs.facts.saved_tag.Goals as goal
 
 -- the two hash states
-abbrev inner : Meaning
+abbrev inner : HashState
 inner = record {
   words = 0xe6081cb3 ∷ 0xf2b8b5ad ∷ 0x705421c4 ∷ 0xb049affd ∷ 0x16f0e84e ∷ [];
   count = 1;
   tail = codes "Hi There";
 }
 
-abbrev outer : Meaning
+abbrev outer : HashState
 outer = record {
   words = 0xb9c7367c ∷ 0xe8e83770 ∷ 0xdd6e5662 ∷ 0xd8df10bc ∷ 0x99f90405 ∷ [];
   count = 1;

@@ -1,5 +1,5 @@
 use Rattle.std.proofs.Common.{ap, ◌∙◌, arith, [], length}
-use Rattle.ripemd_block.specs.States.{Meaning, with_tail, output_and_count}
+use Rattle.ripemd_block.specs.States.{HashState, with_tail, output_and_count}
 use Rattle.ripemd_block.specs.Laws.Saving.{length-core_and_tail}
 use Rattle.ripemd.proofs.Saving.{core_front, tail_back, both_saved, own_core}
 use Rattle.ripemd.proofs.state.BlockHasherSerializableState.load_slice.Goals as goal
@@ -44,7 +44,7 @@ returns-in-None-clause-err g c h valid same =
 pub returns-in-Some-clause-ok : goal.returns-in-Some-clause-ok
 unfolding output_and_count
 returns-in-Some-clause-ok g c =
-    let h : Meaning = with_tail c.in-Ok.core c.in-Some.buffer in
+    let h : HashState = with_tail c.in-Ok.core c.in-Some.buffer in
     let split = c.split_at in
     both_saved g.F.HashFunction.output h c.LEN-2.result c.args.bytes.now split.result.0.now split.result.1.now split.ensures.front
     split.ensures.back c.in-Ok.ensures.ok c.in-Some.ensures.some

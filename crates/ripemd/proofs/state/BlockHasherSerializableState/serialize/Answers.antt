@@ -1,5 +1,5 @@
 use Rattle.std.proofs.Common.{◌≡◌, sym, ap, ◌∙◌}
-use Rattle.ripemd_block.specs.States.{Meaning, with_tail, output_and_count, core_and_tail}
+use Rattle.ripemd_block.specs.States.{HashState, with_tail, output_and_count, core_and_tail}
 use Rattle.ripemd_block.specs.Laws.Saving.{tail_bytes, core_and_tail-split}
 use Rattle.ripemd.proofs.state.BlockHasherSerializableState.serialize.Goals as goal
 
@@ -7,7 +7,7 @@ pub returns-clause-bytes : goal.returns-clause-bytes
 unfolding output_and_count
 returns-clause-bytes g c =
     let output = g.F.HashFunction.output in
-    let h : Meaning = with_tail c.self.inside.core c.self.inside.buffer in
+    let h : HashState = with_tail c.self.inside.core c.self.inside.buffer in
     let of_core : c.as_bytes.result.now ≡ output_and_count output h =
     rw c.serialize-core.ensures.bytes at c.as_bytes.ensures.bytes in
     let of_tail : c.save_tail-tail.result ≡ tail_bytes h.tail =

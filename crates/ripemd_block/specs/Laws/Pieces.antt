@@ -9,12 +9,12 @@ use Rattle.ripemd_block.specs.Standard.Compression.{Parameters, compress}
 use Rattle.ripemd_block.specs.Standard.Hashing.{zero_count, with_padding, blocks, partial_block, hash, ripemd}
 use Rattle.ripemd_block.specs.Laws.Blocks.{blocks_of_short, left_over_of_short, blocks_of_one, left_over_of_one}
 use Rattle.ripemd_block.specs.Laws.Blocks.{length-blocks, length-partial_block, blocks-append, partial_block-append}
-use Rattle.ripemd_block.specs.States.{Meaning, initial_state, new_state, after_blocks, with_tail, fed, finish}
+use Rattle.ripemd_block.specs.States.{HashState, initial_state, new_state, after_blocks, with_tail, fed, finish}
 use Rattle.ripemd_block.specs.Laws.Walking.{after_joined_blocks}
 
 -- ---- bytes
 
-module _ (step : List ℕ → List ℕ → List ℕ) (h : Meaning) where
+module _ (step : List ℕ → List ℕ → List ℕ) (h : HashState) where
   -- no bytes change nothing
   pub fed_nothing : h.count < 2 ^ 64 → length h.tail < 64 → fed step h [] ≡ h
   unfolding fed
@@ -29,7 +29,7 @@ module _ (step : List ℕ → List ℕ → List ℕ) (h : Meaning) where
       let bytes : List ℕ = h.tail ++ x in
       let rest : List ℕ = partial_block bytes ++ y in
       let joined = after_joined_blocks step h (blocks bytes) (blocks rest) in
-      let same = ap (λ (m : Meaning). with_tail m (partial_block rest)) joined in
+      let same = ap (λ (m : HashState). with_tail m (partial_block rest)) joined in
       rw (← append_assoc h.tail x y, blocks-append bytes y, partial_block-append bytes y) same
 
   -- bytes that leave the tail short of a block
