@@ -165,7 +165,7 @@ pub trait Digest: OutputSizeUser + HashMeaning + Drop {
     ghost fed_nothing: { (h : HashState) → Self.is_valid h → fed step h [] ≡ h };
 }
 
-/// A hash function whose digest is the output of a walk of its block function.
+/// A hash function that iterates a block function over the padded message (Merkle–Damgård).
 pub trait BlockDigest: Digest {
     /// The block function.
     type Core: BlockFunction<Digest = Self::Output>;

@@ -1,7 +1,7 @@
 //! From a collision of a hash to a collision of its block function.
 //!
-//! Two messages are walked side by side, the one with more blocks ahead, so that both walks end
-//! together. Where they end in one state, the last place at which they differ, in the state or in
+//! Two messages are hashed side by side, the one with more blocks ahead, so that both end together.
+//! Where they end in one state, the last place at which they differ, in the state or in
 //! the block, is one where the block function takes two different inputs to one state.
 
 ghost use Rattle.std.specs.Prelude.{◌≡◌, ◌≢◌, ◌<◌, ◌≤◌, ◌^◌, ◌↔◌, ◌⊎◌, IsTrue, IsNone, IfSome};
@@ -12,8 +12,8 @@ ghost use Rattle.ripemd.specs.Collisions.{pair_of, state_after, IsCollision, IsO
 pub use ripemd_block::block_api::BlockFunction;
 use ripemd_block::padding::{block_count, pad_block};
 
-/// A place on the walk of a block function through a message with its padding: the state before a
-/// block, and the block.
+/// What a block function meets at a place of a message with its padding: the state before a block,
+/// and the block.
 #[derive(Clone, Copy, PartialEq, Eq, Debug)]
 pub struct Meeting<S> {
     /// Which block of the padded message it is, counted from 0.
@@ -24,19 +24,19 @@ pub struct Meeting<S> {
     pub block: [u8; 64],
 }
 
-/// Two meetings, one on the walk of each of two messages.
+/// Two meetings, one in each of two messages.
 #[derive(Clone, Copy, PartialEq, Eq, Debug)]
 pub struct Collision<S> {
-    /// The one on the walk of the first message.
+    /// The one in the first message.
     pub left: Meeting<S>,
-    /// The one on the walk of the second message.
+    /// The one in the second message.
     pub right: Meeting<S>,
 }
 
-/// Gives, for two different messages with one hash, the collision of the block function to which
-/// their walks lead: a place on each, with as many blocks after the one as after the other, where
-/// the pairs of state and block differ, their steps lead to one state, and all pairs after them
-/// agree. There is exactly one.
+/// Gives, for two different messages with the same hash, the collision of the block function to
+/// which they lead: a place in each, with as many blocks after the one as after the other, where
+/// the pairs of state and block differ, the block function takes both to one state, and all pairs
+/// after them agree. There is exactly one.
 ///
 /// `None` exactly if the messages are equal or their hashes differ. Each message has fewer than
 /// 2^61 bytes, since from there on messages of different lengths can end in the same length in
@@ -52,7 +52,7 @@ pub fn collision_witness<F: BlockFunction>(a: &[u8], b: &[u8]) -> Option<Collisi
 {
     let left_count = block_count(a);
     let right_count = block_count(b);
-    // The walk with more blocks goes on alone until as many follow on it as on the other.
+    // The message with more blocks is hashed ahead, until as many are left of it as of the other.
     let left_ahead = left_count.saturating_sub(right_count);
     let right_ahead = right_count.saturating_sub(left_count);
     let mut left_state = state_at::<F>(a, left_ahead);

@@ -179,9 +179,9 @@ pub trait FixedOutputCore: UpdateCore + BufferKindUser + OutputSizeUser {
 }
 
 /// A block function: a state to start from, a step that takes a state and a block to a state, and
-/// an output of the last state. The hash of a message is the output after a walk through the blocks
-/// of the message with its padding. Its calls are functions of what they are given, and none takes
-/// memory.
+/// an output of the last state. The hash of a message is the output after an iteration over the
+/// blocks of the message with its padding. Its calls are functions of what they are given, and none
+/// allocates.
 pub trait BlockFunction {
     /// A state.
     type State: Copy + Eq;

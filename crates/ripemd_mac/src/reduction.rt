@@ -1,4 +1,4 @@
-//! From two texts with one tag under one key to a collision of the block function.
+//! From two texts with the same tag under one key to a collision of the block function.
 
 ghost use Rattle.std.specs.Prelude.{◌≡◌, ◌≢◌, ◌+◌, ◌-◌, ◌<◌, ◌≤◌, ◌^◌, ◌↔◌, ◌⊎◌};
 ghost use Rattle.std.specs.Prelude.{◌++◌, length, take, drop, IsNone, IfOk, IfSome, OnErr};
@@ -14,8 +14,8 @@ use ripemd::digest::BlockDigest;
 use ripemd::witness::{BlockFunction, Collision, collision_witness};
 use std::alloc::{AllocError, Global};
 
-/// A collision of the block function, on the walks of the messages that the tags of two texts are
-/// made of.
+/// A collision of the block function, met while the messages are hashed that the tags of two texts
+/// are made of.
 #[derive(Clone, Copy, PartialEq, Eq, Debug)]
 pub enum MacCollision<S> {
     /// It is met inside the inner messages: the masked key, and then the text.
@@ -24,7 +24,7 @@ pub enum MacCollision<S> {
     Outer(Collision<S>),
 }
 
-/// Gives, for two different texts with one tag under one key, the collision of the block function
+/// Gives, for two different texts with the same tag under one key, the collision of the block function
 /// to which they lead: that of the inner messages where these have one digest, and else that of the
 /// outer ones, as `collision_witness` gives it.
 ///

@@ -251,7 +251,7 @@ impl BlockFunction for FirstBytes {
     ghost same_state = { λ s t same. (bytes_eq-Decides s t).0 same };
 }
 
-/// Where the walks of two messages through this block function collide.
+/// The places at which two messages collide under this block function.
 pub fn places_of_collision(a: &[u8], b: &[u8]) -> Option<(usize, usize)>
     requires a_short { length a.now < 2 ^ 61 }
     requires b_short { length b.now < 2 ^ 61 }

@@ -49,7 +49,7 @@ fn ends_in(len: usize, place: usize, end: &[u8; 8]) -> bool {
     }
 }
 
-// The last block ends in the length in bits, least byte first.
+// The last block ends in the length in bits, little-endian.
 #[test]
 fn ends_in_the_length(rt: HostRuntime) {
     assert!(rt; ends_in(55, 0, &[0xb8, 0x01, 0, 0, 0, 0, 0, 0]));

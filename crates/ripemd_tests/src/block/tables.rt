@@ -140,7 +140,7 @@ fn lines_after(size: usize, exchanges: &[usize], start: Lines, block: &[u8; 64])
     Lines { left, right }
 }
 
-// Whether the bytes are those of these words, least byte first.
+// Whether the bytes are those of these words, little-endian.
 fn are_words(bytes: &[u8], words: &[u32]) -> bool {
     let (chunks, rest) = bytes.as_chunks::<4>();
     if !rest.is_empty() || chunks.len() != words.len() {
