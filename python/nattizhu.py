@@ -202,8 +202,9 @@ class _Hash:
             made = cls._of(calls, cls._state_type(calls)())
             size = len(made._state)
             if held.length != size:
-                raise ValueError(f"a state of {calls.name} has {size} bytes "
-                                 f"here, and not {held.length}")
+                raise ValueError(
+                    f"the state of a {cls.__name__} of {calls.name} has "
+                    f"{size} bytes, not {held.length}")
             ctypes.memmove(made._state, held.address, held.length)
             if made._final() is None:
                 raise ValueError(
@@ -380,7 +381,7 @@ def file_digest(fileobj, name, /, *, _bufsize=2**18):
                 hasher.update(piece)
 
 
-def hmac_new(key, msg, name):
+def hmac_new(key, msg=None, name=None):
     """The HMAC of msg under the key, which may have any length. msg
     may be None, for nothing yet."""
     calls = _calls(name)

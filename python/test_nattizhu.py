@@ -278,6 +278,8 @@ class Errors(unittest.TestCase):
                              b"", b"", name, b"")):
                 with self.assertRaises(ValueError):
                     call(name)
+        with self.assertRaises(TypeError):
+            nattizhu.hmac_new(b"key", b"text")
         for name in (None, 160, b"ripemd160"):
             with self.assertRaises(TypeError):
                 nattizhu.new(name)
@@ -363,7 +365,7 @@ class Tags(unittest.TestCase):
             for length in (0, 1, 16, 63, 64, 65, 80, 200):
                 key = source.randbytes(length)
                 text = source.randbytes(source.randrange(300))
-                ours = nattizhu.hmac_new(key, None, name)
+                ours = nattizhu.hmac_new(key, name=name)
                 for piece in pieces_of(source, text):
                     ours.update(piece)
                 for constructor in (CONSTRUCTORS[name],

@@ -196,8 +196,8 @@ ghost use Rattle.ripemd.specs.Collisions.{IsCollision};
 use ripemd::block_api::Ripemd160Core;
 use ripemd::witness::{Collision, collision_witness};
 
-/// From two messages with the same RIPEMD-160 digest, the collision of its compression function to which
-/// they lead; `None` exactly if the messages are equal or their digests differ.
+/// From two messages with the same RIPEMD-160 digest, the last collision of its compression function
+/// that they meet; `None` exactly if the messages are equal or their digests differ.
 pub fn collision_of_160(a: &[u8], b: &[u8]) -> Option<Collision<[u32; 5]>>
     requires a_short { length a.now < 2 ^ 61 }
     requires b_short { length b.now < 2 ^ 61 }
