@@ -10,7 +10,7 @@
  *
  * What was in the memory of a digest or a tag, or of a state before its init, makes no difference.
  *
- * No call allocates memory, keeps a pointer, or has data of its own: all calls are reentrant, and may
+ * No call allocates memory, keeps a pointer, or uses global data that changes: all calls may
  * run at once in any number of threads. Nothing is wiped from memory, neither keys nor texts. */
 #ifndef NATTIZHU_H
 #define NATTIZHU_H
