@@ -1,5 +1,5 @@
--- Collisions of a block function (this repository's own): on the walks of two messages, a place each
--- where different states or blocks lead to one state.
+-- Collisions of a block function (this repository's own): one place in each of the walks of two
+-- messages, where different pairs of state and block lead to the same state.
 use Rattle.std.specs.Prelude.{◌≡◌, ◌≢◌, ℕ, ◌+◌, ◌-◌, ◌<◌, List, [], length, take, slice_index_or, Option, Some}
 use Rattle.ripemd_block.specs.Standard.Hashing.{padded_message, blocks, walk}
 use Rattle.ripemd.specs.declared.witness.Meeting.{Meeting}
@@ -17,7 +17,7 @@ state_after step pair = step pair.0 pair.1
 abbrev pub pair_at : {S : Type 0} → S → (S → List ℕ → S) → List (List ℕ) → ℕ → Pair S
 pair_at start step bs place = (walk step start (take place bs), slice_index_or bs place [])
 
--- two walks collide at place j of the one and place k of the other: as many blocks follow there, the
+-- two walks collide at place j of the one and place k of the other: equally many blocks follow both, the
 -- pairs differ, their steps lead to one state, and the pairs at all later places agree
 pub record CollideAt {S : Type 0} (start : S) (step : S → List ℕ → S) (xs ys : List (List ℕ)) (j k : ℕ) : Type 0 where
   pub left_place : j < length xs

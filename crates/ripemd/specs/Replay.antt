@@ -1,5 +1,5 @@
--- The machine that `replay` runs (this repository's own): hashers and saved states, each known by its number and as a
--- plain history, the digests so far, and what each command does to these.
+-- The machine that `replay` runs (this repository's own): hashers and saved states, each with a number and a history,
+-- the digests so far, and what each command does to these.
 use Rattle.std.specs.Prelude.{◌≡◌, ◌≢◌, ℕ, ◌<◌, ◌≤◌, List, [], ◌∷◌, ◌++◌, length, take, Option, Some, None, ⊤}
 use Rattle.std.specs.List.{slice_get, slice_index_or, slice_set}
 use Rattle.ripemd_block.specs.States.{HashState, initial_state, fed, finish}
@@ -78,7 +78,7 @@ abbrev pub imported : Command → Option (List ℕ)
 imported (Import bytes) = Some bytes.now
 imported _ = None
 
--- that it needs room for something more
+-- that it adds a hasher, a saved state or a digest
 abbrev pub Grows : Command → Type 0
 Grows (Update hasher bytes) = ⊥
 Grows (Reset hasher) = ⊥
@@ -113,7 +113,7 @@ module _ (start : List ℕ) (step : List ℕ → List ℕ → List ℕ) (output 
   Does (Import bytes) m n =
       (h : HashState) × is_valid h × (state_bytes h ≡ bytes.now) × (n ≡ add_hasher m (from_state h))
 
-  -- some commands do so one after the other
+  -- the commands, in order, lead from one state of the machine to another
   abbrev pub Runs : List Command → Machine → Machine → Type 0
   Runs [] m n = n ≡ m
   Runs (c ∷ cs) m n = (k : Machine) × Does c m k × Runs cs k n
@@ -122,8 +122,8 @@ module _ (start : List ℕ) (step : List ℕ → List ℕ → List ℕ) (output 
   abbrev pub Gives : List Command → List (List ℕ) → Type 0
   Gives commands digests = (m : Machine) × Runs commands empty_machine m × (m.digests ≡ digests)
 
-  -- what an error says of the command at a place: it names a number that is not there, or hands in bytes that no
-  -- state is saved as, or it is a good one, but there was no room for what it adds
+  -- what an error says of the command at a place: it names a missing number, or imports bytes that no state is saved
+  -- as, or it is good, and there was no room for what it adds
   abbrev pub Explains : Machine → ℕ → Command → ReplayError → Type 0
   Explains m place c (NoHasher at hasher) = (at ≡ place) × (hasher_of c ≡ Some hasher) × (length m.hashers ≤ hasher)
   Explains m place c (NoSaved at saved) = (at ≡ place) × (saved_of c ≡ Some saved) × (length m.saved ≤ saved)
@@ -132,7 +132,7 @@ module _ (start : List ℕ) (step : List ℕ → List ℕ → List ℕ) (output 
       × ((bytes : List ℕ) × (imported c ≡ Some bytes) × ((h : HashState) → is_valid h → state_bytes h ≢ bytes))
   Explains m place c OutOfMemory = Grows c × ((n : Machine) × Does c m n)
 
-  -- the commands before some place run, and the error says why the one there does not
+  -- the commands before some place run, and the error is that of the command there
   pub record Stops (commands : List Command) (error : ReplayError) : Type 0 where
     pub place : ℕ
     pub command : Command

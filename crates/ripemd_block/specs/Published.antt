@@ -94,7 +94,7 @@ pub record ConstantsOfLines : Type 0 where
   pub right_of_four : constants (right_line 4) 4 ≡ 0x50a28be6 ∷ 0x5c4dd124 ∷ 0x6d703ef3 ∷ 0 ∷ []
   pub right_of_five : constants (right_line 5) 5 ≡ 0x50a28be6 ∷ 0x5c4dd124 ∷ 0x6d703ef3 ∷ 0x7a6d76e9 ∷ 0 ∷ []
 
--- k is the greatest whole number whose power e is at most n
+-- k is the greatest whole number whose e-th power is at most n
 pub record IsWholeRoot (e n k : ℕ) : Type 0 where
   pub low : k ^ e ≤ n
   pub high : n < (k + 1) ^ e

@@ -40,7 +40,7 @@ unfoldable pub fed : (List ℕ → List ℕ → List ℕ) → HashState → List
 fed step h bytes = with_tail (after_blocks step h (blocks (h.tail ++ bytes))) (partial_block (h.tail ++ bytes))
 
 -- the digest of a state: the output of its words after the walk through its tail with the padding.
--- The message was as long as its blocks and its tail
+-- The length counts 64 bytes for each block, and those of the tail
 unfoldable pub finish : {D : Type 0} → (List ℕ → List ℕ → List ℕ) → (List ℕ → D) → HashState → D
 finish step output h =
     let bit_length = 8 * (length h.tail + block_size * h.count) % 2 ^ 64 in
@@ -58,8 +58,8 @@ pub record IsTail (tail : List ℕ) : Type 0 where
   pub short : length tail < block_size
   pub bytes : All (λ b. b < 256) tail
 
--- the states that a core or a hasher can be in: words that its block function can lead to, a count
--- below 2 ^ 64, and a tail
+-- the valid states of a core or a hasher: words that are a state of its block function, a count below
+-- 2 ^ 64, and a tail
 pub record IsHashState (are_words : List ℕ → Type 0) (h : HashState) : Type 0 where
   pub words : are_words h.words
   pub count : h.count < 2 ^ 64
@@ -69,7 +69,7 @@ pub record IsHashState (are_words : List ℕ → Type 0) (h : HashState) : Type 
 abbrev pub IsState : Parameters → HashState → Type 0
 IsState v = IsHashState (AreWords (length v.start))
 
--- the states that a core can be in: it has no tail
+-- the valid states of a core: it has no tail
 pub record IsWithoutTail (are_words : List ℕ → Type 0) (h : HashState) : Type 0 where
   pub state : IsHashState are_words h
   pub no_tail : h.tail ≡ []
@@ -80,7 +80,7 @@ IsCoreState v = IsWithoutTail (AreWords (length v.start))
 
 -- ---- saved bytes
 
--- the saved bytes of a core: the output of its words, which tells them, and its count
+-- the saved bytes of a core: the output of its words, from which these can be recovered, and its count
 unfoldable pub output_and_count : (List ℕ → List ℕ) → HashState → List ℕ
 output_and_count output h = output h.words ++ eight_bytes h.count
 

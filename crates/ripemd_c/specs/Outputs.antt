@@ -1,4 +1,4 @@
--- A word for the private functions that write digests and tags of records.
+-- A definition for the private functions that write digests and tags of records.
 use Rattle.std.specs.Prelude.{ℕ, List, Option, Some, None}
 use Rattle.std.specs.Borrow.{Bor}
 use Rattle.ripemd_mac.specs.Keyed.{hmac}

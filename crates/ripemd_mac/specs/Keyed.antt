@@ -6,7 +6,7 @@ use Rattle.ripemd.specs.States.{HashState, initial_state, fed, finish}
 
 -- ---- the tag
 
--- at most 64 bytes, and after them zeros to 64
+-- at most 64 bytes, filled with zeros to 64
 abbrev pub filled : List ℕ → List ℕ
 filled bytes = bytes ++ replicate (64 - length bytes) 0
 
@@ -18,7 +18,7 @@ key_block hash key = filled (if nat_le (length key) 64 then key else hash key)
 abbrev pub masked : ℕ → List ℕ → List ℕ
 masked mask bytes = map (λ b. bit_xor b mask) bytes
 
--- the two messages that are hashed: a masked key block, and then the text or the first hash
+-- the two messages that are hashed: a masked key block, and then the text or the inner hash
 unfoldable pub inner_message : (List ℕ → List ℕ) → List ℕ → List ℕ → List ℕ
 inner_message hash key text = masked 0x36 (key_block hash key) ++ text
 

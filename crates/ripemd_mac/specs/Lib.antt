@@ -2,7 +2,7 @@
 pub mod Keyed
 -- What an HMAC state is saved as.
 pub mod Saved
--- To what collisions two texts with one tag lead.
+-- To what collisions two texts with the same tag lead.
 pub mod MacCollisions
 -- Worked examples of tags and of collisions.
 pub mod Worked

@@ -1,11 +1,11 @@
--- Collisions of a block function to which two texts with one tag under one key lead (this repository's own).
+-- Collisions of a block function to which two texts with the same tag under one key lead (this repository's own).
 use Rattle.std.specs.Prelude.{◌≡◌, ℕ, List}
 use Rattle.ripemd.specs.Collisions.{IsCollision}
 use Rattle.ripemd_mac.specs.declared.reduction.MacCollision.{MacCollision}
 use Rattle.ripemd_mac.specs.declared.reduction.MacCollision.TheVariants.{Inner, Outer}
 use Rattle.ripemd_mac.specs.Keyed.{inner_message, outer_message}
 
--- the first hashes of two texts under a key agree
+-- the inner hashes of two texts under a key agree
 abbrev pub InnerAgree : (List ℕ → List ℕ) → List ℕ → List ℕ → List ℕ → Type 0
 InnerAgree hash key a b = hash (inner_message hash key a) ≡ hash (inner_message hash key b)
 

@@ -3,12 +3,12 @@ use Rattle.std.specs.Prelude.{◌≡◌, ℕ, List}
 use Rattle.ripemd.specs.States.{HashState}
 use Rattle.ripemd_mac.specs.Keyed.{KeyedState, StandsFor}
 
--- it can occur, if both hash states can
+-- an HMAC state whose two hash states are valid
 pub record IsKeyedState (is_valid : HashState → Type 0) (state : KeyedState) : Type 0 where
   pub inner : is_valid state.inner
   pub outer : is_valid state.outer
 
--- these are the bytes of the one hash and of the other
+-- the first bytes are the saved inner state, and the second the saved outer state
 pub record IsSavedAs (state_bytes : HashState → List ℕ) (first second : List ℕ) (state : KeyedState) : Type 0 where
   pub inner : state_bytes state.inner ≡ first
   pub outer : state_bytes state.outer ≡ second

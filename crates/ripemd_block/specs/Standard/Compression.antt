@@ -8,8 +8,8 @@ use Rattle.ripemd_block.specs.Standard.Schedule.{Line, left_line, right_line, ro
 -- ---- the four variants
 
 -- what the four variants differ in: how many registers a line has and how many rounds it runs, the
--- words that a walk starts from, the register that the lines exchange after each round, if they do,
--- and how the state takes in the registers of both lines in the end
+-- start words, the register that the lines exchange after each round, if they do, and how the old
+-- state and the last registers of both lines make the new state
 pub record Parameters : Type 0 where
   pub registers : ℕ
   pub rounds : ℕ
@@ -30,12 +30,12 @@ abbrev pub word_sums : List ℕ → List ℕ → List ℕ
 word_sums (x ∷ xs) (y ∷ ys) = (x ⊞ y) ∷ word_sums xs ys
 word_sums _ _ = []
 
--- the list from place k on, and then its first k elements
+-- the list rotated by k places to the left
 abbrev pub from_place : ℕ → List ℕ → List ℕ
 from_place k xs = drop k xs ++ take k xs
 
--- the new state of RIPEMD-128 and RIPEMD-160, which both lines work on: the state from word 1 on,
--- the left registers from register 2 on and the right ones from register 3 on, added word by word.
+-- the new state of RIPEMD-128 and RIPEMD-160, where both lines start from the whole state: the state,
+-- the left and the right registers, rotated by 1, 2 and 3 places, and added word by word.
 -- Of five words that is h1 + C + D', h2 + D + E', h3 + E + A', h4 + A + B', h0 + B + C'
 abbrev pub joint_state : List ℕ → List ℕ → List ℕ → List ℕ
 joint_state state left right = word_sums (word_sums (from_place 1 state) (from_place 2 left)) (from_place 3 right)
@@ -63,7 +63,7 @@ ripemd160 = record {
   combination = joint_state;
 }
 
--- after the rounds in turn, the lines exchange their registers A, B, C, D
+-- after the rounds 0 to 3 the lines exchange A, B, C and D in turn
 abbrev pub ripemd256 : Parameters
 ripemd256 = record {
   registers = 4;
@@ -73,7 +73,7 @@ ripemd256 = record {
   combination = double_state;
 }
 
--- after the rounds in turn, the lines exchange their registers B, D, A, C, E
+-- after the rounds 0 to 4 the lines exchange B, D, A, C and E in turn
 abbrev pub ripemd320 : Parameters
 ripemd320 = record {
   registers = 5;

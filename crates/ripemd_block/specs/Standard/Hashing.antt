@@ -6,7 +6,7 @@ use Rattle.std.specs.Simd.{first_chunks}
 use Rattle.ripemd_block.specs.Standard.Words.{block_size, word_bytes, eight_bytes}
 use Rattle.ripemd_block.specs.Standard.Compression.{Parameters, compress}
 
--- where the length of a message stands in its last block, which it ends
+-- the place of the length in the last block, whose last 8 bytes it is
 abbrev pub length_place : ℕ
 length_place = 56
 
@@ -15,8 +15,8 @@ length_place = 56
 abbrev pub zero_count : ℕ → ℕ
 zero_count n = (length_place - 1 + block_size - n % block_size) % block_size
 
--- the last bytes of a message with its padding: the byte 0x80, zero bytes, and the length of the
--- whole message in bits
+-- some last bytes of a message and then the padding: the byte 0x80, zero bytes, and the length of
+-- the whole message in bits
 unfoldable pub with_padding : List ℕ → ℕ → List ℕ
 with_padding tail bit_length = tail ++ 0x80 ∷ replicate (zero_count (length tail)) 0 ++ eight_bytes bit_length
 

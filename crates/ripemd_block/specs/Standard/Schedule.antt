@@ -36,12 +36,13 @@ rotation r j = slice_index (slice_index_or rotations r []) j
 
 -- ---- the constants
 
--- k with its lower bits found one by one: each is set where the power e of the sum stays at most n
+-- k with its lower bits found one by one from the highest down: each is set if the e-th power of the
+-- sum is at most n
 abbrev pub root_from : ℕ → ℕ → ℕ → ℕ → ℕ
 root_from e n zero k = k
 root_from e n (suc bits) k = root_from e n bits (if nat_le ((k + 2 ^ bits) ^ e) n then k + 2 ^ bits else k)
 
--- the greatest whole number below 2 ^ 32 whose power e is at most n
+-- the greatest whole number below 2 ^ 32 whose e-th power is at most n
 abbrev pub whole_root : ℕ → ℕ → ℕ
 whole_root e n = root_from e n 32 0
 
