@@ -51,7 +51,7 @@ pub(super) fn print_verification<D: BatchDigest>(rt: &HostRuntime) -> io::Result
             taken[i] = count;
         }
     }
-    println!(rt; "| tag | taken | ns |")?;
+    println!(rt; "| tag | accepted | ns |")?;
     println!(rt; "|---|---|---|")?;
     for i in 0..3 {
         let answer = if taken[i] == CALLS { "yes" } else { "no" };
