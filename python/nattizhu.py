@@ -179,7 +179,12 @@ class _Bytes:
 
 
 class _Hash:
-    """What hashers and HMACs have in common."""
+    """What hashers and HMACs have in common.
+
+    Each call of the library on a state is made under the state's lock, one
+    call at a time. Its own thread may take the lock again: a signal handler
+    or a finalizer can run while it is held, but not within the call, and so
+    finds the state as it was before the call or as it is after it."""
 
     __slots__ = ("_calls", "_lock", "_state")
     block_size = property(lambda self: _BLOCK_SIZE, doc="Bytes of a block.")
@@ -191,7 +196,7 @@ class _Hash:
     def _of(cls, calls, state):
         made = cls.__new__(cls)
         made._calls = calls
-        made._lock = threading.Lock()
+        made._lock = threading.RLock()
         made._state = state
         return made
 

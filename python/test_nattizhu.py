@@ -3,7 +3,9 @@ hashlib and the standard hmac."""
 
 import array
 import copy
+import faulthandler
 import functools
+import gc
 import hashlib
 import hmac
 import io
@@ -11,6 +13,7 @@ import mmap
 import os
 import pickle
 import random
+import signal
 import socket
 import subprocess
 import sys
@@ -187,6 +190,129 @@ class Digests(unittest.TestCase):
         self.assertEqual(found, [right] * 8)
         self.assertEqual(shared.digest(),
                          nattizhu.ripemd160(b"x" * 777 * 1600).digest())
+
+
+class Interruptions(unittest.TestCase):
+    """Signal handlers, finalizers and other threads that call a hasher or
+    an HMAC while it is updated. Where one waits for ever, the process ends
+    after a minute."""
+
+    PIECE = b"x" * 77
+    MAKERS = (nattizhu.ripemd160,
+              functools.partial(nattizhu.hmac_new, b"key", name="ripemd160"))
+
+    def setUp(self):
+        faulthandler.dump_traceback_later(60, exit=True)
+        self.addCleanup(faulthandler.cancel_dump_traceback_later)
+
+    def on_signal(self, call, first=0.001, then=0.001):
+        """Has signals make this call, after so many seconds and then each
+        time that many have passed."""
+        before = signal.signal(signal.SIGALRM, lambda *_: call())
+        self.addCleanup(signal.signal, signal.SIGALRM, before)
+        self.addCleanup(signal.setitimer, signal.ITIMER_REAL, 0)
+        signal.setitimer(signal.ITIMER_REAL, first, then)
+
+    def prefixes(self, make, number):
+        """The digests, or tags, of none up to this number of pieces."""
+        state = make()
+        digests = [state.digest()]
+        for _ in range(number):
+            state.update(self.PIECE)
+            digests.append(state.digest())
+        return digests
+
+    def test_a_long_update(self):
+        for make in self.MAKERS:
+            state, seen = make(), []
+            before = state.hexdigest()
+            self.on_signal(lambda: seen.append(state.hexdigest()), 0.02, 0)
+            state.update(bytes(50_000_000))
+            while not seen:
+                pass
+            self.assertIn(seen[0], (before, state.hexdigest()))
+
+    def test_a_handler_that_reads(self):
+        for make in self.MAKERS:
+            state, seen, updates = make(), [], 0
+            self.on_signal(lambda: seen.append(state.digest()))
+            while len(seen) < 200:
+                state.update(self.PIECE)
+                updates += 1
+            signal.setitimer(signal.ITIMER_REAL, 0)
+            right = self.prefixes(make, updates)
+            self.assertEqual(state.digest(), right[-1])
+            self.assertLessEqual(set(seen), set(right))
+
+    def test_a_handler_that_updates(self):
+        for make in self.MAKERS:
+            state, copies, updates = make(), [], 0
+
+            def handler():
+                state.update(self.PIECE)
+                copies.append(state.copy().digest())
+                copies.append(pickle.loads(pickle.dumps(state)).digest())
+
+            self.on_signal(handler)
+            while len(copies) < 400:
+                state.update(self.PIECE)
+                updates += 1
+            signal.setitimer(signal.ITIMER_REAL, 0)
+            right = self.prefixes(make, updates + len(copies) // 2)
+            self.assertEqual(state.digest(), right[-1])
+            self.assertLessEqual(set(copies), set(right))
+
+    def test_a_finalizer(self):
+        self.addCleanup(sys.setprofile, None)
+        for make in self.MAKERS:
+            state, finalized = make(), []
+
+            class Cycle:
+                def __init__(self):
+                    self.itself = self
+
+                def __del__(_):
+                    state.update(self.PIECE)
+                    finalized.append(state.digest())
+
+            def collect(*_):
+                Cycle()
+                gc.collect(0)
+
+            # The collector runs at each call, those within an update too.
+            sys.setprofile(collect)
+            for _ in range(100):
+                state.update(self.PIECE)
+            sys.setprofile(None)
+            right = self.prefixes(make, 100 + len(finalized))
+            self.assertGreater(len(finalized), 100)
+            self.assertEqual(state.digest(), right[-1])
+            self.assertLessEqual(set(finalized), set(right))
+
+    def test_threads(self):
+        for make in self.MAKERS:
+            state, handled = make(), []
+
+            def work():
+                for _ in range(20_000):
+                    state.update(self.PIECE)
+
+            def handler():
+                state.update(self.PIECE)
+                handled.append(state.digest())
+
+            threads = [threading.Thread(target=work) for _ in range(4)]
+            self.on_signal(handler)
+            for thread in threads:
+                thread.start()
+            work()
+            for thread in threads:
+                thread.join()
+            signal.setitimer(signal.ITIMER_REAL, 0)
+            self.assertTrue(handled)
+            pieces = 5 * 20_000 + len(handled)
+            self.assertEqual(state.digest(),
+                             make(self.PIECE * pieces).digest())
 
 
 class Buffers(unittest.TestCase):
