@@ -11,6 +11,11 @@ pub fed_nothing : (step : List ℕ → List ℕ → List ℕ) (h : HashState)
     → h.count < 2 ^ 64 → length h.tail < block_size → fed step h [] ≡ h
 fed_nothing = laws.fed_nothing
 
+-- so they leave the state before the first byte as it is
+pub fed_nothing_at_first : (step : List ℕ → List ℕ → List ℕ) (start : List ℕ)
+    → fed step (initial_state start) [] ≡ initial_state start
+fed_nothing_at_first step start = laws.fed_nothing step (initial_state start) (omega arith) (omega arith)
+
 -- some bytes and then others are both, joined
 pub fed_twice : (step : List ℕ → List ℕ → List ℕ) (h : HashState) (x y : List ℕ)
     → fed step (fed step h x) y ≡ fed step h (x ++ y)
@@ -26,7 +31,7 @@ finish_fed = laws.finish_fed
 module _ {start : List ℕ} {step : List ℕ → List ℕ → List ℕ} where
   -- a new hasher is one of the empty message
   pub hashing_nothing : {h : HashState} → h ≡ initial_state start → IsHashing start step [] h
-  hashing_nothing new = record { is = new ∙ sym (laws.fed_nothing step (initial_state start) (omega arith) (omega arith)) }
+  hashing_nothing new = record { is = new ∙ sym (fed_nothing_at_first step start) }
 
   -- one of a message, fed more bytes, is one of the message with them
   pub hashing_more : {h next : HashState} {message : List ℕ} (bytes : List ℕ) → next ≡ fed step h bytes

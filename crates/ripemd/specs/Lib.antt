@@ -9,8 +9,9 @@ pub mod Replay
 pub mod Collisions
 -- Worked examples of these.
 pub mod Worked
--- Hashers of messages: words for callers.
+-- Hashers of messages, and states that are saved: words for callers.
 pub mod Messages
+pub mod Saved
 -- Words about the code's own vectors: proved, not to be believed.
 pub mod Held
 -- Laws for callers: proved, not to be believed.

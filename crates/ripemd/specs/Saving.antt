@@ -4,6 +4,7 @@ use Rattle.ripemd_block.specs.Standard.Words.{word_bytes}
 use Rattle.ripemd_block.specs.Standard.Compression.{Parameters, compress}
 use Rattle.ripemd_block.specs.Standard.Hashing.{ripemd}
 use Rattle.ripemd_block.specs.States.{HashState, IsState, new_state, fed, finish, hasher_bytes}
+pub use Rattle.ripemd_block.specs.Laws.Saving.{length-core_and_tail, one_saved_hasher}
 use Rattle.ripemd_block.specs.Laws.Saving.{one_hasher}
 use Rattle.ripemd_block.specs.Laws.Pieces as laws
 use Rattle.ripemd.specs.Laws.{fed_nothing}

@@ -5,6 +5,7 @@
 pub mod digest;
 pub mod facts;
 pub mod hashers;
+pub mod incremental;
 pub mod replay;
 pub mod state;
 pub mod witness;

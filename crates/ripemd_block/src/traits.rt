@@ -258,6 +258,9 @@ pub trait ResumableFunction: HashFunction {
     /// The saved bytes of a hasher: 64 more than those of a core.
     type SavedHasher: ByteArray;
 
+    /// The saved bytes of an HMAC state: twice as many as those of a hasher.
+    type SavedHmac: ByteArray;
+
     /// The state that has this output; `None` exactly if no state has it.
     fn from_output(output: Self::Digest) -> Option<Self::State>
         ensures some { IfSome result (λ state. Self.output_of state ≡ output) }
@@ -273,4 +276,7 @@ pub trait ResumableFunction: HashFunction {
 
     // A hasher is saved in 64 bytes more than a core.
     ghost saved_hasher_size: { Self.SavedHasher.LEN ≡ Self.SavedCore.LEN + 64 };
+
+    // An HMAC state is saved in the bytes of two hashers.
+    ghost saved_hmac_size: { Self.SavedHmac.LEN ≡ Self.SavedHasher.LEN + Self.SavedHasher.LEN };
 }

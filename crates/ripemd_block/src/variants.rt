@@ -97,6 +97,8 @@ impl ResumableFunction for Ripemd128Function {
 
     type SavedHasher = [u8; 88];
 
+    type SavedHmac = [u8; 176];
+
     fn from_output(output: [u8; 16]) -> Option<[u32; 4]> {
         let mut words = [0; 4];
         read_words(&output, &mut words);
@@ -111,6 +113,8 @@ impl ResumableFunction for Ripemd128Function {
     ghost saved_core_size = { refl };
 
     ghost saved_hasher_size = { refl };
+
+    ghost saved_hmac_size = { refl };
 }
 
 impl AlgorithmName for Ripemd128Function {
@@ -190,6 +194,8 @@ impl ResumableFunction for Ripemd160Function {
 
     type SavedHasher = [u8; 92];
 
+    type SavedHmac = [u8; 184];
+
     fn from_output(output: [u8; 20]) -> Option<[u32; 5]> {
         let mut words = [0; 5];
         read_words(&output, &mut words);
@@ -204,6 +210,8 @@ impl ResumableFunction for Ripemd160Function {
     ghost saved_core_size = { refl };
 
     ghost saved_hasher_size = { refl };
+
+    ghost saved_hmac_size = { refl };
 }
 
 impl AlgorithmName for Ripemd160Function {
@@ -286,6 +294,8 @@ impl ResumableFunction for Ripemd256Function {
 
     type SavedHasher = [u8; 104];
 
+    type SavedHmac = [u8; 208];
+
     fn from_output(output: [u8; 32]) -> Option<[u32; 8]> {
         let mut words = [0; 8];
         read_words(&output, &mut words);
@@ -300,6 +310,8 @@ impl ResumableFunction for Ripemd256Function {
     ghost saved_core_size = { refl };
 
     ghost saved_hasher_size = { refl };
+
+    ghost saved_hmac_size = { refl };
 }
 
 impl AlgorithmName for Ripemd256Function {
@@ -384,6 +396,8 @@ impl ResumableFunction for Ripemd320Function {
 
     type SavedHasher = [u8; 112];
 
+    type SavedHmac = [u8; 224];
+
     fn from_output(output: [u8; 40]) -> Option<[u32; 10]> {
         let mut words = [0; 10];
         read_words(&output, &mut words);
@@ -398,6 +412,8 @@ impl ResumableFunction for Ripemd320Function {
     ghost saved_core_size = { refl };
 
     ghost saved_hasher_size = { refl };
+
+    ghost saved_hmac_size = { refl };
 }
 
 impl AlgorithmName for Ripemd320Function {

@@ -1,93 +1,59 @@
 -- Saved bytes tell their state: what is loaded is what was saved, and what follows of it is saved again.
-use Rattle.std.proofs.Common.{◌≡◌, ℕ, List, [], ◌++◌, refl, sym, ap, ◌∙◌}
-use Rattle.ripemd.specs.Standard.Words.{word_bytes}
-use Rattle.ripemd.specs.Standard.Compression.{Parameters, compress}
-use Rattle.ripemd.specs.Standard.Hashing.{ripemd}
-use Rattle.ripemd.specs.States.{HashState, IsHashState, new_state, fed, finish, core_and_tail, hasher_bytes}
-use Rattle.ripemd.specs.Listed.{TellsWords}
-use Rattle.ripemd.specs.Saving.{SavesAs, IsSavedAfter, saved_first}
-use Rattle.ripemd.specs.Laws.{fed_twice, finish_fed}
-use Rattle.ripemd_block.specs.Laws.Saving.{one_saved_hasher}
-use Rattle.ripemd_mac.specs.Keyed.{KeyedState, fed_text, tag_of}
-use Rattle.ripemd_mac.specs.Saved.{IsKeyedState, IsSavedAs}
-use Rattle.ripemd_c.specs.SavedStates.{IsSavedState, IsSavedStateOf, IsSavedHmac}
+use Rattle.std.proofs.Common.{◌≡◌, ◌↔◌, ℕ, List, ◌++◌, IsTrue, IsFalse, Bool, true, rules, sym, ap, subst, ◌∙◌}
+use Rattle.ripemd.specs.Saved.{IsSaved}
+use Rattle.ripemd_c.specs.SavedStates.{Updates, Finalizes, Verifies}
 
-module _ {are_words : List ℕ → Type 0} {output : List ℕ → List ℕ} {n : ℕ} (tells : TellsWords are_words output n)
-    {loaded : HashState} {old : List ℕ} (valid : IsHashState are_words loaded) (same : core_and_tail output loaded ≡ old) where
+module _ {S : Type 0} {is_valid : S → Type 0} {state_bytes : S → List ℕ}
+    (injective : (s t : S) → is_valid s → is_valid t → state_bytes s ≡ state_bytes t → s ≡ t)
+    {loaded : S} {old : List ℕ} (valid : is_valid loaded) (same : state_bytes loaded ≡ old) where
   -- the loaded state is the one that was saved
-  pub one_saved_state : {h : HashState} → IsSavedState are_words output h old → loaded ≡ h
-  one_saved_state {h} is_saved = one_saved_hasher tells loaded h valid is_saved.valid (same ∙ sym is_saved.saved)
+  one_saved : {s : S} → IsSaved is_valid state_bytes s old → loaded ≡ s
+  one_saved {s} saved = injective loaded s valid saved.valid (same ∙ sym saved.saved)
 
-  -- and after a piece it is saved again
-  pub saved_state_next : (step : List ℕ → List ℕ → List ℕ) (piece : List ℕ) {after : HashState} {next : List ℕ}
-      → after ≡ fed step loaded piece → IsHashState are_words after → next ≡ core_and_tail output after
-      → (h : HashState) → IsSavedState are_words output h old → IsSavedState are_words output (fed step h piece) next
-  saved_state_next step piece {after = after} update valid_after saved h is_saved =
-      let after_h : after ≡ fed step h piece = update ∙ ap (λ (k : HashState). fed step k piece) (one_saved_state is_saved) in
-      record { valid = rw (← after_h) valid_after; saved = rw (← after_h) (sym saved) }
+  not_refused : IsFalse true ↔ ((s : S) → ¬ IsSaved is_valid state_bytes s old)
+  not_refused = (λ no. absurd (search (rules, no)), λ none. absurd (none loaded (record { valid = valid; saved = same })))
 
-  -- its digest is that of the saved state
-  pub saved_state_digest : (step : List ℕ → List ℕ → List ℕ) {digest : List ℕ} → digest ≡ finish step output loaded
-      → (h : HashState) → IsSavedState are_words output h old → digest ≡ finish step output h
-  saved_state_digest step done h is_saved = done ∙ ap (finish step output) (one_saved_state is_saved)
+  module _ {fed : S → List ℕ → S} (twice : (s : S) (x y : List ℕ) → fed (fed s x) y ≡ fed s (x ++ y)) where
+    -- the state after a piece, saved
+    pub updates : (piece : List ℕ) {next : S} {new : List ℕ} → next ≡ fed loaded piece → is_valid next
+        → new ≡ state_bytes next → Updates (IsSaved is_valid state_bytes) fed old piece new true
+    updates piece {next} {new} update valid_next saved =
+        let of_state : (s : S) → IsSaved is_valid state_bytes s old → IsSaved is_valid state_bytes (fed s piece) new =
+        λ s is. let after : next ≡ fed s piece = update ∙ ap (λ (t : S). fed t piece) (one_saved is) in
+        subst (λ (t : S). IsSaved is_valid state_bytes t new) after (record { valid = valid_next; saved = sym saved }) in
+        record {
+          state = λ s is. (search rules, of_state s is);
+          message = λ start message is. (
+            search rules,
+            subst (λ (t : S). IsSaved is_valid state_bytes t new) (twice start message piece) (of_state (fed start message) is),
+          );
+          refused = not_refused;
+          unchanged = λ no. absurd (search (rules, no));
+        }
 
--- ---- messages
+  module _ {output : S → List ℕ} where
+    -- its output, written
+    pub finalizes : {before new : List ℕ} → new ≡ output loaded
+        → Finalizes (IsSaved is_valid state_bytes) output old before new true
+    finalizes done = record {
+      state = λ s is. (search rules, done ∙ ap output (one_saved is));
+      refused = not_refused;
+      unchanged = λ no. absurd (search (rules, no));
+    }
 
--- the saved bytes of a message are those of the state that was updated with it
-saved_state_after : {v : Parameters} {message bytes : List ℕ} → IsSavedAfter v message bytes
-    → IsSavedStateOf v (fed (compress v) (new_state v) message) bytes
-unfolding SavesAs
-saved_state_after before = record { valid = before.is.0; saved = before.is.1 }
+    -- and compared
+    pub verifies : {bytes : List ℕ} {answer : Bool} → IsTrue answer ↔ (bytes ≡ output loaded)
+        → Verifies (IsSaved is_valid state_bytes) output old bytes answer
+    verifies {bytes} {answer} answers = record {
+      state = λ s is. subst (λ (t : S). IsTrue answer ↔ (bytes ≡ output t)) (one_saved is) answers;
+      refused = λ none. absurd (none loaded (record { valid = valid; saved = same }));
+    }
 
--- those of a new state are saved after the empty message
-pub after_nothing : {v : Parameters} {bytes : List ℕ} → IsSavedStateOf v (new_state v) bytes → IsSavedAfter v [] bytes
-after_nothing {v} {bytes} is_saved =
-    saved_first {v = v} {h = new_state v} {bytes = bytes} (sym is_saved.saved) refl is_saved.valid
-
--- what updates every state with a piece updates that of every message
-pub message_next : {v : Parameters} (piece : List ℕ) {old next : List ℕ} {Done : Type 0}
-    → ((h : HashState) → IsSavedStateOf v h old → Done × IsSavedStateOf v (fed (compress v) h piece) next)
-    → (message : List ℕ) → IsSavedAfter v message old → Done × IsSavedAfter v (message ++ piece) next
-unfolding SavesAs
-message_next {v} piece {next = next} step message before =
-    let both = step (fed (compress v) (new_state v) message) (saved_state_after before) in
-    let same = fed_twice (compress v) (new_state v) message piece in
-    (both.0, record { is = (rw (← same) both.1.valid, ap hasher_bytes (sym same) ∙ both.1.saved) })
-
--- what gives the digest of every state gives that of every message
-pub message_digest : {v : Parameters} {state digest : List ℕ} {Done : Type 0}
-    → ((h : HashState) → IsSavedStateOf v h state → Done × (digest ≡ finish (compress v) word_bytes h))
-    → (message : List ℕ) → IsSavedAfter v message state → Done × (digest ≡ ripemd v message)
-message_digest {v} finishes message before =
-    let both = finishes (fed (compress v) (new_state v) message) (saved_state_after before) in
-    (both.0, both.1 ∙ finish_fed v.start (compress v) word_bytes message)
-
--- ---- HMAC states
-
-module _ {are_words : List ℕ → Type 0} {output : List ℕ → List ℕ} {n : ℕ} (tells : TellsWords are_words output n)
-    {loaded : KeyedState} {inner outer : List ℕ} (valid : IsKeyedState (IsHashState are_words) loaded)
-    (same : IsSavedAs (core_and_tail output) inner outer loaded) where
-  -- the loaded state is the one that was saved
-  pub one_saved_hmac : {tag : KeyedState} → IsSavedHmac are_words output inner outer tag → loaded ≡ tag
-  one_saved_hmac {tag} is_saved =
-      let first : loaded.inner ≡ tag.inner =
-      one_saved_hasher tells loaded.inner tag.inner valid.inner is_saved.valid.inner (same.inner ∙ sym is_saved.saved.inner) in
-      let second : loaded.outer ≡ tag.outer =
-      one_saved_hasher tells loaded.outer tag.outer valid.outer is_saved.valid.outer (same.outer ∙ sym is_saved.saved.outer) in
-      ap (λ (m : HashState). record loaded { inner = m }) first ∙ ap (λ (m : HashState). record tag { outer = m }) second
-
-  -- and after a piece it is saved again
-  pub saved_hmac_next : (step : List ℕ → List ℕ → List ℕ) (piece : List ℕ) {after : KeyedState} {first second : List ℕ}
-      → after ≡ fed_text step loaded piece → IsKeyedState (IsHashState are_words) after
-      → IsSavedAs (core_and_tail output) first second after
-      → (tag : KeyedState) → IsSavedHmac are_words output inner outer tag
-      → IsSavedHmac are_words output first second (fed_text step tag piece)
-  saved_hmac_next step piece {after = after} update valid_after saved tag is_saved =
-      let after_tag : after ≡ fed_text step tag piece =
-      update ∙ ap (λ (t : KeyedState). fed_text step t piece) (one_saved_hmac is_saved) in
-      record { valid = rw (← after_tag) valid_after; saved = rw (← after_tag) saved }
-
-  -- its tag is that of the saved state
-  pub saved_hmac_tag : (step : List ℕ → List ℕ → List ℕ) {bytes : List ℕ} → bytes ≡ tag_of step output loaded
-      → (tag : KeyedState) → IsSavedHmac are_words output inner outer tag → bytes ≡ tag_of step output tag
-  saved_hmac_tag step done tag is_saved = done ∙ ap (tag_of step output) (one_saved_hmac is_saved)
+  -- that of a message
+  pub finalizes_message : {Origin : Type 0} (new_state : Origin → S) (fed : S → List ℕ → S) (output : S → List ℕ)
+      {whole : Origin → List ℕ → List ℕ}
+      → ((o : Origin) (message : List ℕ) → output (fed (new_state o) message) ≡ whole o message)
+      → {new : List ℕ} → new ≡ output loaded
+      → (o : Origin) (message : List ℕ) → IsSaved is_valid state_bytes (fed (new_state o) message) old
+      → new ≡ whole o message
+  finalizes_message new_state fed output ends done o message is = done ∙ ap output (one_saved is) ∙ ends o message

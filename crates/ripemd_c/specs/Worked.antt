@@ -2,7 +2,7 @@
 use Rattle.std.specs.Prelude.{ℕ, List, [], ◌∷◌, ◌++◌, replicate}
 use Rattle.ripemd.specs.Standard.Compression.{ripemd160, compress}
 use Rattle.ripemd.specs.States.{HashState, new_state, fed}
-use Rattle.ripemd_c.specs.SavedStates.{IsSavedStateOf}
+use Rattle.ripemd_c.specs.SavedStates.{IsSavedState}
 
 -- OpenSSL's words of RIPEMD-160 after 64 times "a", one block, a tail of one byte "b", and a last byte
 abbrev pub bytes_to : ℕ → List ℕ
@@ -13,5 +13,5 @@ bytes_to last =
 
 -- they are saved of that state, and of none where a byte behind the tail is not zero
 pub record WorkedSavedState : Type 0 where
-  pub saved : IsSavedStateOf ripemd160 (fed (compress ripemd160) (new_state ripemd160) (replicate 64 0x61 ++ 0x62 ∷ [])) (bytes_to 0)
-  pub not_zero : (h : HashState) → ¬ IsSavedStateOf ripemd160 h (bytes_to 1)
+  pub saved : IsSavedState ripemd160 (fed (compress ripemd160) (new_state ripemd160) (replicate 64 0x61 ++ 0x62 ∷ [])) (bytes_to 0)
+  pub not_zero : (h : HashState) → ¬ IsSavedState ripemd160 h (bytes_to 1)

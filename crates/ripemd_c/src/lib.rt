@@ -12,6 +12,7 @@ ghost use Rattle.ripemd.specs.Standard.Hashing.{ripemd};
 
 pub mod each;
 pub mod facts;
+mod states;
 pub mod streams;
 pub mod tags;
 

@@ -1,57 +1,20 @@
-//! Tags of texts under keys (RFC 2104). Between the pieces of a text the caller keeps the bytes that
-//! an HMAC state is saved as: those of its inner hasher, and then those of its outer one.
+//! Tags of texts under keys (RFC 2104). Between the pieces of a text the caller keeps the HMAC state
+//! as the bytes that it is saved as: those of its inner hasher, and then those of its outer one.
 
-ghost use Rattle.std.specs.Prelude.{◌≡◌, ◌↔◌, ℕ, List, [], ◌++◌, IsTrue, IsFalse};
-ghost use Rattle.ripemd.specs.Standard.Words.{word_bytes};
-ghost use Rattle.ripemd.specs.Standard.Compression.{compress, ripemd128, ripemd160, ripemd256, ripemd320};
+ghost use Rattle.std.specs.Prelude.{◌≡◌, ◌↔◌, ℕ, List, [], IsTrue};
+ghost use Rattle.ripemd.specs.Standard.Compression.{ripemd128, ripemd160, ripemd256, ripemd320};
 ghost use Rattle.ripemd.specs.Standard.Hashing.{hash, ripemd};
-ghost use Rattle.ripemd.specs.States.{IsHashState, core_and_tail};
-ghost use Rattle.ripemd_mac.specs.Keyed.{KeyedState, StandsFor, fed_text, tag_of, hmac};
-ghost use Rattle.ripemd_mac.specs.Saved.{IsSavedFor};
-ghost use Rattle.ripemd_c.specs.SavedStates.{IsSavedHmac, IsSavedHmacOf, IsSavedHmacAfter};
+ghost use Rattle.ripemd.specs.Saved.{IsSaved};
+ghost use Rattle.ripemd_mac.specs.Keyed.{StandsFor, fed_text, hmac, keyed_state, tag_of};
+ghost use Rattle.ripemd_mac.specs.Saved.{IsKeyedState, hmac_bytes};
+ghost use Rattle.ripemd_c.specs.SavedStates.{IsSavedText, UpdatesHmac, FinalizesHmac, Verifies, VerifiesHmac};
 
-use ripemd::BlockHasher;
+use crate::states::{final_state, update_state};
 use ripemd::block_api::{
-    ByteArray, ResumableFunction, Ripemd128Function, Ripemd160Function, Ripemd256Function,
-    Ripemd320Function,
+    ResumableFunction, Ripemd128Function, Ripemd160Function, Ripemd256Function, Ripemd320Function,
 };
+use ripemd::{BlockHasher, Ripemd128, Ripemd160, Ripemd256, Ripemd320};
 use ripemd_mac::Hmac;
-
-/// The state of a tag by RIPEMD-128: the bytes that its two hashers are saved as.
-#[repr(C)]
-pub struct TagState128 {
-    /// Those of the hasher of the inner message.
-    pub inner: [u8; 88],
-    /// Those of the hasher of the outer message.
-    pub outer: [u8; 88],
-}
-
-/// The state of a tag by RIPEMD-160: the bytes that its two hashers are saved as.
-#[repr(C)]
-pub struct TagState160 {
-    /// Those of the hasher of the inner message.
-    pub inner: [u8; 92],
-    /// Those of the hasher of the outer message.
-    pub outer: [u8; 92],
-}
-
-/// The state of a tag by RIPEMD-256: the bytes that its two hashers are saved as.
-#[repr(C)]
-pub struct TagState256 {
-    /// Those of the hasher of the inner message.
-    pub inner: [u8; 104],
-    /// Those of the hasher of the outer message.
-    pub outer: [u8; 104],
-}
-
-/// The state of a tag by RIPEMD-320: the bytes that its two hashers are saved as.
-#[repr(C)]
-pub struct TagState320 {
-    /// Those of the hasher of the inner message.
-    pub inner: [u8; 112],
-    /// Those of the hasher of the outer message.
-    pub outer: [u8; 112],
-}
 
 /// Writes the tag of the text under the key, by RIPEMD-128.
 #[unsafe(no_mangle)]
@@ -74,63 +37,46 @@ pub extern "C" fn nattizhu_hmac_ripemd128_verify_text_nonnull(
     verify_text::<Ripemd128Function>(key, text, tag)
 }
 
-/// Writes the state of a tag by RIPEMD-128, under the key, of the empty text.
+/// Writes the HMAC state of the key and the empty text, by RIPEMD-128.
 #[unsafe(no_mangle)]
-pub extern "C" fn nattizhu_hmac_ripemd128_init_nonnull(state: &mut TagState128, key: &[u8])
-    ensures { IsSavedHmacAfter ripemd128 key.now [] state.new.inner state.new.outer }
+pub extern "C" fn nattizhu_hmac_ripemd128_init_nonnull(state: &mut [u8; 176], key: &[u8])
+    ensures { IsSavedText ripemd128 key.now [] state.new }
 {
-    init_tag::<Ripemd128Function>(&mut state.inner, &mut state.outer, key);
+    init_hmac::<Ripemd128Function>(state, key);
 }
 
-/// Appends bytes to the text. False exactly if the state is no HMAC state, and then nothing is
-/// written.
-#[unsafe(no_mangle)]
-pub extern "C" fn nattizhu_hmac_ripemd128_update_nonnull(
-    state: &mut TagState128,
-    bytes: &[u8],
-) -> bool
-    ensures state { (tag : KeyedState) → IsSavedHmacOf ripemd128 state.old.inner state.old.outer tag
-        → IsTrue result × IsSavedHmacOf ripemd128 state.new.inner state.new.outer
-        (fed_text (compress ripemd128) tag bytes.now) }
-    ensures text { (key text : List ℕ)
-        → IsSavedHmacAfter ripemd128 key text state.old.inner state.old.outer → IsTrue result
-        × IsSavedHmacAfter ripemd128 key (text ++ bytes.now) state.new.inner state.new.outer }
-    ensures refused { IsFalse result
-        ↔ ((tag : KeyedState) → ¬ IsSavedHmacOf ripemd128 state.old.inner state.old.outer tag) }
-    ensures unchanged { IsFalse result → state.new ≡ state.old }
-{
-    update_tag::<Ripemd128Function>(&mut state.inner, &mut state.outer, bytes)
-}
-
-/// Writes the tag of the text so far to `tag`. False exactly if the state is that of no tag, and then
+/// Appends bytes to the text. False exactly if the state is no HMAC state of RIPEMD-128, and then
 /// nothing is written.
 #[unsafe(no_mangle)]
-pub extern "C" fn nattizhu_hmac_ripemd128_final(state: &TagState128, tag: &mut [u8; 16]) -> bool
-    ensures state { (keyed : KeyedState) → IsSavedHmacOf ripemd128 state.now.inner state.now.outer keyed
-        → IsTrue result × (tag.new ≡ tag_of (compress ripemd128) word_bytes keyed) }
-    ensures text { (key text : List ℕ)
-        → IsSavedHmacAfter ripemd128 key text state.now.inner state.now.outer
-        → IsTrue result × (tag.new ≡ hmac (ripemd ripemd128) key text) }
-    ensures refused { IsFalse result
-        ↔ ((tag : KeyedState) → ¬ IsSavedHmacOf ripemd128 state.now.inner state.now.outer tag) }
-    ensures unchanged { IsFalse result → tag.new ≡ tag.old }
+pub extern "C" fn nattizhu_hmac_ripemd128_update_nonnull(
+    state: &mut [u8; 176],
+    bytes: &[u8],
+) -> bool
+    ensures { UpdatesHmac ripemd128 state.old bytes.now state.new result }
 {
-    final_tag::<Ripemd128Function>(&state.inner, &state.outer, tag)
+    update_state::<Hmac<Ripemd128>>(state, bytes)
+}
+
+/// Writes the tag of the text so far. False exactly if the state is no HMAC state of RIPEMD-128, and
+/// then nothing is written.
+#[unsafe(no_mangle)]
+pub extern "C" fn nattizhu_hmac_ripemd128_final(state: &[u8; 176], tag: &mut [u8; 16]) -> bool
+    ensures state { FinalizesHmac ripemd128 state.now tag.old tag.new result }
+    ensures text { (key text : List ℕ) → IsSavedText ripemd128 key text state.now
+        → IsTrue result × (tag.new ≡ hmac (ripemd ripemd128) key text) }
+{
+    final_state::<Hmac<Ripemd128>>(state, tag)
 }
 
 /// Whether these bytes are the tag of the text so far, all of them, by RIPEMD-128. False too if the
-/// state is that of no tag.
+/// state is no HMAC state of RIPEMD-128.
 #[unsafe(no_mangle)]
-pub extern "C" fn nattizhu_hmac_ripemd128_verify_nonnull(state: &TagState128, tag: &[u8]) -> bool
-    ensures state { (keyed : KeyedState) → IsSavedHmacOf ripemd128 state.now.inner state.now.outer keyed
-        → IsTrue result ↔ (tag.now ≡ tag_of (compress ripemd128) word_bytes keyed) }
-    ensures text { (key text : List ℕ)
-        → IsSavedHmacAfter ripemd128 key text state.now.inner state.now.outer
+pub extern "C" fn nattizhu_hmac_ripemd128_verify_nonnull(state: &[u8; 176], tag: &[u8]) -> bool
+    ensures state { VerifiesHmac ripemd128 state.now tag.now result }
+    ensures text { (key text : List ℕ) → IsSavedText ripemd128 key text state.now
         → IsTrue result ↔ (tag.now ≡ hmac (ripemd ripemd128) key text) }
-    ensures refused { ((tag : KeyedState)
-        → ¬ IsSavedHmacOf ripemd128 state.now.inner state.now.outer tag) → IsFalse result }
 {
-    verify_tag::<Ripemd128Function>(&state.inner, &state.outer, tag)
+    verify_hmac::<Ripemd128Function>(state, tag)
 }
 
 /// Writes the tag of the text under the key, by RIPEMD-160.
@@ -154,63 +100,46 @@ pub extern "C" fn nattizhu_hmac_ripemd160_verify_text_nonnull(
     verify_text::<Ripemd160Function>(key, text, tag)
 }
 
-/// Writes the state of a tag by RIPEMD-160, under the key, of the empty text.
+/// Writes the HMAC state of the key and the empty text, by RIPEMD-160.
 #[unsafe(no_mangle)]
-pub extern "C" fn nattizhu_hmac_ripemd160_init_nonnull(state: &mut TagState160, key: &[u8])
-    ensures { IsSavedHmacAfter ripemd160 key.now [] state.new.inner state.new.outer }
+pub extern "C" fn nattizhu_hmac_ripemd160_init_nonnull(state: &mut [u8; 184], key: &[u8])
+    ensures { IsSavedText ripemd160 key.now [] state.new }
 {
-    init_tag::<Ripemd160Function>(&mut state.inner, &mut state.outer, key);
+    init_hmac::<Ripemd160Function>(state, key);
 }
 
-/// Appends bytes to the text. False exactly if the state is no HMAC state, and then nothing is
-/// written.
-#[unsafe(no_mangle)]
-pub extern "C" fn nattizhu_hmac_ripemd160_update_nonnull(
-    state: &mut TagState160,
-    bytes: &[u8],
-) -> bool
-    ensures state { (tag : KeyedState) → IsSavedHmacOf ripemd160 state.old.inner state.old.outer tag
-        → IsTrue result × IsSavedHmacOf ripemd160 state.new.inner state.new.outer
-        (fed_text (compress ripemd160) tag bytes.now) }
-    ensures text { (key text : List ℕ)
-        → IsSavedHmacAfter ripemd160 key text state.old.inner state.old.outer → IsTrue result
-        × IsSavedHmacAfter ripemd160 key (text ++ bytes.now) state.new.inner state.new.outer }
-    ensures refused { IsFalse result
-        ↔ ((tag : KeyedState) → ¬ IsSavedHmacOf ripemd160 state.old.inner state.old.outer tag) }
-    ensures unchanged { IsFalse result → state.new ≡ state.old }
-{
-    update_tag::<Ripemd160Function>(&mut state.inner, &mut state.outer, bytes)
-}
-
-/// Writes the tag of the text so far to `tag`. False exactly if the state is that of no tag, and then
+/// Appends bytes to the text. False exactly if the state is no HMAC state of RIPEMD-160, and then
 /// nothing is written.
 #[unsafe(no_mangle)]
-pub extern "C" fn nattizhu_hmac_ripemd160_final(state: &TagState160, tag: &mut [u8; 20]) -> bool
-    ensures state { (keyed : KeyedState) → IsSavedHmacOf ripemd160 state.now.inner state.now.outer keyed
-        → IsTrue result × (tag.new ≡ tag_of (compress ripemd160) word_bytes keyed) }
-    ensures text { (key text : List ℕ)
-        → IsSavedHmacAfter ripemd160 key text state.now.inner state.now.outer
-        → IsTrue result × (tag.new ≡ hmac (ripemd ripemd160) key text) }
-    ensures refused { IsFalse result
-        ↔ ((tag : KeyedState) → ¬ IsSavedHmacOf ripemd160 state.now.inner state.now.outer tag) }
-    ensures unchanged { IsFalse result → tag.new ≡ tag.old }
+pub extern "C" fn nattizhu_hmac_ripemd160_update_nonnull(
+    state: &mut [u8; 184],
+    bytes: &[u8],
+) -> bool
+    ensures { UpdatesHmac ripemd160 state.old bytes.now state.new result }
 {
-    final_tag::<Ripemd160Function>(&state.inner, &state.outer, tag)
+    update_state::<Hmac<Ripemd160>>(state, bytes)
+}
+
+/// Writes the tag of the text so far. False exactly if the state is no HMAC state of RIPEMD-160, and
+/// then nothing is written.
+#[unsafe(no_mangle)]
+pub extern "C" fn nattizhu_hmac_ripemd160_final(state: &[u8; 184], tag: &mut [u8; 20]) -> bool
+    ensures state { FinalizesHmac ripemd160 state.now tag.old tag.new result }
+    ensures text { (key text : List ℕ) → IsSavedText ripemd160 key text state.now
+        → IsTrue result × (tag.new ≡ hmac (ripemd ripemd160) key text) }
+{
+    final_state::<Hmac<Ripemd160>>(state, tag)
 }
 
 /// Whether these bytes are the tag of the text so far, all of them, by RIPEMD-160. False too if the
-/// state is that of no tag.
+/// state is no HMAC state of RIPEMD-160.
 #[unsafe(no_mangle)]
-pub extern "C" fn nattizhu_hmac_ripemd160_verify_nonnull(state: &TagState160, tag: &[u8]) -> bool
-    ensures state { (keyed : KeyedState) → IsSavedHmacOf ripemd160 state.now.inner state.now.outer keyed
-        → IsTrue result ↔ (tag.now ≡ tag_of (compress ripemd160) word_bytes keyed) }
-    ensures text { (key text : List ℕ)
-        → IsSavedHmacAfter ripemd160 key text state.now.inner state.now.outer
+pub extern "C" fn nattizhu_hmac_ripemd160_verify_nonnull(state: &[u8; 184], tag: &[u8]) -> bool
+    ensures state { VerifiesHmac ripemd160 state.now tag.now result }
+    ensures text { (key text : List ℕ) → IsSavedText ripemd160 key text state.now
         → IsTrue result ↔ (tag.now ≡ hmac (ripemd ripemd160) key text) }
-    ensures refused { ((tag : KeyedState)
-        → ¬ IsSavedHmacOf ripemd160 state.now.inner state.now.outer tag) → IsFalse result }
 {
-    verify_tag::<Ripemd160Function>(&state.inner, &state.outer, tag)
+    verify_hmac::<Ripemd160Function>(state, tag)
 }
 
 /// Writes the tag of the text under the key, by RIPEMD-256.
@@ -234,63 +163,46 @@ pub extern "C" fn nattizhu_hmac_ripemd256_verify_text_nonnull(
     verify_text::<Ripemd256Function>(key, text, tag)
 }
 
-/// Writes the state of a tag by RIPEMD-256, under the key, of the empty text.
+/// Writes the HMAC state of the key and the empty text, by RIPEMD-256.
 #[unsafe(no_mangle)]
-pub extern "C" fn nattizhu_hmac_ripemd256_init_nonnull(state: &mut TagState256, key: &[u8])
-    ensures { IsSavedHmacAfter ripemd256 key.now [] state.new.inner state.new.outer }
+pub extern "C" fn nattizhu_hmac_ripemd256_init_nonnull(state: &mut [u8; 208], key: &[u8])
+    ensures { IsSavedText ripemd256 key.now [] state.new }
 {
-    init_tag::<Ripemd256Function>(&mut state.inner, &mut state.outer, key);
+    init_hmac::<Ripemd256Function>(state, key);
 }
 
-/// Appends bytes to the text. False exactly if the state is no HMAC state, and then nothing is
-/// written.
-#[unsafe(no_mangle)]
-pub extern "C" fn nattizhu_hmac_ripemd256_update_nonnull(
-    state: &mut TagState256,
-    bytes: &[u8],
-) -> bool
-    ensures state { (tag : KeyedState) → IsSavedHmacOf ripemd256 state.old.inner state.old.outer tag
-        → IsTrue result × IsSavedHmacOf ripemd256 state.new.inner state.new.outer
-        (fed_text (compress ripemd256) tag bytes.now) }
-    ensures text { (key text : List ℕ)
-        → IsSavedHmacAfter ripemd256 key text state.old.inner state.old.outer → IsTrue result
-        × IsSavedHmacAfter ripemd256 key (text ++ bytes.now) state.new.inner state.new.outer }
-    ensures refused { IsFalse result
-        ↔ ((tag : KeyedState) → ¬ IsSavedHmacOf ripemd256 state.old.inner state.old.outer tag) }
-    ensures unchanged { IsFalse result → state.new ≡ state.old }
-{
-    update_tag::<Ripemd256Function>(&mut state.inner, &mut state.outer, bytes)
-}
-
-/// Writes the tag of the text so far to `tag`. False exactly if the state is that of no tag, and then
+/// Appends bytes to the text. False exactly if the state is no HMAC state of RIPEMD-256, and then
 /// nothing is written.
 #[unsafe(no_mangle)]
-pub extern "C" fn nattizhu_hmac_ripemd256_final(state: &TagState256, tag: &mut [u8; 32]) -> bool
-    ensures state { (keyed : KeyedState) → IsSavedHmacOf ripemd256 state.now.inner state.now.outer keyed
-        → IsTrue result × (tag.new ≡ tag_of (compress ripemd256) word_bytes keyed) }
-    ensures text { (key text : List ℕ)
-        → IsSavedHmacAfter ripemd256 key text state.now.inner state.now.outer
-        → IsTrue result × (tag.new ≡ hmac (ripemd ripemd256) key text) }
-    ensures refused { IsFalse result
-        ↔ ((tag : KeyedState) → ¬ IsSavedHmacOf ripemd256 state.now.inner state.now.outer tag) }
-    ensures unchanged { IsFalse result → tag.new ≡ tag.old }
+pub extern "C" fn nattizhu_hmac_ripemd256_update_nonnull(
+    state: &mut [u8; 208],
+    bytes: &[u8],
+) -> bool
+    ensures { UpdatesHmac ripemd256 state.old bytes.now state.new result }
 {
-    final_tag::<Ripemd256Function>(&state.inner, &state.outer, tag)
+    update_state::<Hmac<Ripemd256>>(state, bytes)
+}
+
+/// Writes the tag of the text so far. False exactly if the state is no HMAC state of RIPEMD-256, and
+/// then nothing is written.
+#[unsafe(no_mangle)]
+pub extern "C" fn nattizhu_hmac_ripemd256_final(state: &[u8; 208], tag: &mut [u8; 32]) -> bool
+    ensures state { FinalizesHmac ripemd256 state.now tag.old tag.new result }
+    ensures text { (key text : List ℕ) → IsSavedText ripemd256 key text state.now
+        → IsTrue result × (tag.new ≡ hmac (ripemd ripemd256) key text) }
+{
+    final_state::<Hmac<Ripemd256>>(state, tag)
 }
 
 /// Whether these bytes are the tag of the text so far, all of them, by RIPEMD-256. False too if the
-/// state is that of no tag.
+/// state is no HMAC state of RIPEMD-256.
 #[unsafe(no_mangle)]
-pub extern "C" fn nattizhu_hmac_ripemd256_verify_nonnull(state: &TagState256, tag: &[u8]) -> bool
-    ensures state { (keyed : KeyedState) → IsSavedHmacOf ripemd256 state.now.inner state.now.outer keyed
-        → IsTrue result ↔ (tag.now ≡ tag_of (compress ripemd256) word_bytes keyed) }
-    ensures text { (key text : List ℕ)
-        → IsSavedHmacAfter ripemd256 key text state.now.inner state.now.outer
+pub extern "C" fn nattizhu_hmac_ripemd256_verify_nonnull(state: &[u8; 208], tag: &[u8]) -> bool
+    ensures state { VerifiesHmac ripemd256 state.now tag.now result }
+    ensures text { (key text : List ℕ) → IsSavedText ripemd256 key text state.now
         → IsTrue result ↔ (tag.now ≡ hmac (ripemd ripemd256) key text) }
-    ensures refused { ((tag : KeyedState)
-        → ¬ IsSavedHmacOf ripemd256 state.now.inner state.now.outer tag) → IsFalse result }
 {
-    verify_tag::<Ripemd256Function>(&state.inner, &state.outer, tag)
+    verify_hmac::<Ripemd256Function>(state, tag)
 }
 
 /// Writes the tag of the text under the key, by RIPEMD-320.
@@ -314,63 +226,46 @@ pub extern "C" fn nattizhu_hmac_ripemd320_verify_text_nonnull(
     verify_text::<Ripemd320Function>(key, text, tag)
 }
 
-/// Writes the state of a tag by RIPEMD-320, under the key, of the empty text.
+/// Writes the HMAC state of the key and the empty text, by RIPEMD-320.
 #[unsafe(no_mangle)]
-pub extern "C" fn nattizhu_hmac_ripemd320_init_nonnull(state: &mut TagState320, key: &[u8])
-    ensures { IsSavedHmacAfter ripemd320 key.now [] state.new.inner state.new.outer }
+pub extern "C" fn nattizhu_hmac_ripemd320_init_nonnull(state: &mut [u8; 224], key: &[u8])
+    ensures { IsSavedText ripemd320 key.now [] state.new }
 {
-    init_tag::<Ripemd320Function>(&mut state.inner, &mut state.outer, key);
+    init_hmac::<Ripemd320Function>(state, key);
 }
 
-/// Appends bytes to the text. False exactly if the state is no HMAC state, and then nothing is
-/// written.
-#[unsafe(no_mangle)]
-pub extern "C" fn nattizhu_hmac_ripemd320_update_nonnull(
-    state: &mut TagState320,
-    bytes: &[u8],
-) -> bool
-    ensures state { (tag : KeyedState) → IsSavedHmacOf ripemd320 state.old.inner state.old.outer tag
-        → IsTrue result × IsSavedHmacOf ripemd320 state.new.inner state.new.outer
-        (fed_text (compress ripemd320) tag bytes.now) }
-    ensures text { (key text : List ℕ)
-        → IsSavedHmacAfter ripemd320 key text state.old.inner state.old.outer → IsTrue result
-        × IsSavedHmacAfter ripemd320 key (text ++ bytes.now) state.new.inner state.new.outer }
-    ensures refused { IsFalse result
-        ↔ ((tag : KeyedState) → ¬ IsSavedHmacOf ripemd320 state.old.inner state.old.outer tag) }
-    ensures unchanged { IsFalse result → state.new ≡ state.old }
-{
-    update_tag::<Ripemd320Function>(&mut state.inner, &mut state.outer, bytes)
-}
-
-/// Writes the tag of the text so far to `tag`. False exactly if the state is that of no tag, and then
+/// Appends bytes to the text. False exactly if the state is no HMAC state of RIPEMD-320, and then
 /// nothing is written.
 #[unsafe(no_mangle)]
-pub extern "C" fn nattizhu_hmac_ripemd320_final(state: &TagState320, tag: &mut [u8; 40]) -> bool
-    ensures state { (keyed : KeyedState) → IsSavedHmacOf ripemd320 state.now.inner state.now.outer keyed
-        → IsTrue result × (tag.new ≡ tag_of (compress ripemd320) word_bytes keyed) }
-    ensures text { (key text : List ℕ)
-        → IsSavedHmacAfter ripemd320 key text state.now.inner state.now.outer
-        → IsTrue result × (tag.new ≡ hmac (ripemd ripemd320) key text) }
-    ensures refused { IsFalse result
-        ↔ ((tag : KeyedState) → ¬ IsSavedHmacOf ripemd320 state.now.inner state.now.outer tag) }
-    ensures unchanged { IsFalse result → tag.new ≡ tag.old }
+pub extern "C" fn nattizhu_hmac_ripemd320_update_nonnull(
+    state: &mut [u8; 224],
+    bytes: &[u8],
+) -> bool
+    ensures { UpdatesHmac ripemd320 state.old bytes.now state.new result }
 {
-    final_tag::<Ripemd320Function>(&state.inner, &state.outer, tag)
+    update_state::<Hmac<Ripemd320>>(state, bytes)
+}
+
+/// Writes the tag of the text so far. False exactly if the state is no HMAC state of RIPEMD-320, and
+/// then nothing is written.
+#[unsafe(no_mangle)]
+pub extern "C" fn nattizhu_hmac_ripemd320_final(state: &[u8; 224], tag: &mut [u8; 40]) -> bool
+    ensures state { FinalizesHmac ripemd320 state.now tag.old tag.new result }
+    ensures text { (key text : List ℕ) → IsSavedText ripemd320 key text state.now
+        → IsTrue result × (tag.new ≡ hmac (ripemd ripemd320) key text) }
+{
+    final_state::<Hmac<Ripemd320>>(state, tag)
 }
 
 /// Whether these bytes are the tag of the text so far, all of them, by RIPEMD-320. False too if the
-/// state is that of no tag.
+/// state is no HMAC state of RIPEMD-320.
 #[unsafe(no_mangle)]
-pub extern "C" fn nattizhu_hmac_ripemd320_verify_nonnull(state: &TagState320, tag: &[u8]) -> bool
-    ensures state { (keyed : KeyedState) → IsSavedHmacOf ripemd320 state.now.inner state.now.outer keyed
-        → IsTrue result ↔ (tag.now ≡ tag_of (compress ripemd320) word_bytes keyed) }
-    ensures text { (key text : List ℕ)
-        → IsSavedHmacAfter ripemd320 key text state.now.inner state.now.outer
+pub extern "C" fn nattizhu_hmac_ripemd320_verify_nonnull(state: &[u8; 224], tag: &[u8]) -> bool
+    ensures state { VerifiesHmac ripemd320 state.now tag.now result }
+    ensures text { (key text : List ℕ) → IsSavedText ripemd320 key text state.now
         → IsTrue result ↔ (tag.now ≡ hmac (ripemd ripemd320) key text) }
-    ensures refused { ((tag : KeyedState)
-        → ¬ IsSavedHmacOf ripemd320 state.now.inner state.now.outer tag) → IsFalse result }
 {
-    verify_tag::<Ripemd320Function>(&state.inner, &state.outer, tag)
+    verify_hmac::<Ripemd320Function>(state, tag)
 }
 
 // Writes the tag of a text that is there as a whole.
@@ -398,108 +293,26 @@ fn mac_of<F: ResumableFunction>(key: &[u8], text: &[u8]) -> Hmac<BlockHasher<F>>
     mac
 }
 
-// Writes the saved bytes of the HMAC state of a key and the empty text.
-fn init_tag<F: ResumableFunction>(
-    inner: &mut F::SavedHasher,
-    outer: &mut F::SavedHasher,
-    key: &[u8],
-)
-    ensures { IsSavedFor (F.list F.start_of) F.step F.output (IsHashState F.are_words)
-        (core_and_tail F.output) key.now []
-        (F.SavedHasher.bytes inner.new) (F.SavedHasher.bytes outer.new) }
+// Writes the HMAC state of a key and the empty text.
+fn init_hmac<F: ResumableFunction>(state: &mut F::SavedHmac, key: &[u8])
+    ensures { IsSaved (IsKeyedState F.are_words) (hmac_bytes F.output)
+        (fed_text F.step (keyed_state (F.list F.start_of) F.step F.output key.now) [])
+        (F.SavedHmac.bytes state.new) }
 {
-    let saved = Hmac::<BlockHasher<F>>::new(key).save();
-    *inner = saved.inner;
-    *outer = saved.outer;
+    *state = Hmac::<BlockHasher<F>>::new(key).save();
 }
 
-// Appends bytes to a text. False exactly if no HMAC state is saved as these bytes, and then
-// nothing is written.
-fn update_tag<F: ResumableFunction>(
-    inner: &mut F::SavedHasher,
-    outer: &mut F::SavedHasher,
-    bytes: &[u8],
-) -> bool
-    ensures state { (tag : KeyedState) → IsSavedHmac F.are_words F.output
-        (F.SavedHasher.bytes inner.old) (F.SavedHasher.bytes outer.old) tag
-        → IsTrue result × IsSavedHmac F.are_words F.output
-        (F.SavedHasher.bytes inner.new) (F.SavedHasher.bytes outer.new)
-        (fed_text F.step tag bytes.now) }
+// Whether these bytes are the tag of a saved HMAC state, all of them.
+fn verify_hmac<F: ResumableFunction>(state: &F::SavedHmac, tag: &[u8]) -> bool
+    ensures state { Verifies (IsSaved (IsKeyedState F.are_words) (hmac_bytes F.output))
+        (tag_of F.step F.output) (F.SavedHmac.bytes state.now) tag.now result }
     ensures text { (key text : List ℕ)
-        → IsSavedFor (F.list F.start_of) F.step F.output (IsHashState F.are_words)
-        (core_and_tail F.output) key text
-        (F.SavedHasher.bytes inner.old) (F.SavedHasher.bytes outer.old)
-        → IsTrue result × IsSavedFor (F.list F.start_of) F.step F.output
-        (IsHashState F.are_words) (core_and_tail F.output) key (text ++ bytes.now)
-        (F.SavedHasher.bytes inner.new) (F.SavedHasher.bytes outer.new) }
-    ensures refused { IsFalse result ↔ ((tag : KeyedState) → ¬ IsSavedHmac F.are_words F.output
-        (F.SavedHasher.bytes inner.old) (F.SavedHasher.bytes outer.old) tag) }
-    ensures inner { IsFalse result → inner.new ≡ inner.old }
-    ensures outer { IsFalse result → outer.new ≡ outer.old }
-{
-    match Hmac::<BlockHasher<F>>::load_slices(inner.as_bytes(), outer.as_bytes()) {
-        Ok(mac) => {
-            let mut mac = mac;
-            mac.update(bytes);
-            let saved = mac.save();
-            *inner = saved.inner;
-            *outer = saved.outer;
-            true
-        }
-        Err(_) => false,
-    }
-}
-
-// Writes the tag of the text so far. False exactly if no HMAC state is saved as these bytes, and
-// then nothing is written.
-fn final_tag<F: ResumableFunction>(
-    inner: &F::SavedHasher,
-    outer: &F::SavedHasher,
-    tag: &mut F::Digest,
-) -> bool
-    ensures state { (keyed : KeyedState) → IsSavedHmac F.are_words F.output
-        (F.SavedHasher.bytes inner.now) (F.SavedHasher.bytes outer.now) keyed
-        → IsTrue result × (F.Digest.bytes tag.new ≡ tag_of F.step F.output keyed) }
-    ensures text { (key text : List ℕ)
-        → IsSavedFor (F.list F.start_of) F.step F.output (IsHashState F.are_words)
-        (core_and_tail F.output) key text
-        (F.SavedHasher.bytes inner.now) (F.SavedHasher.bytes outer.now)
-        → IsTrue result × (F.Digest.bytes tag.new
-        ≡ hmac (hash (F.list F.start_of) F.step F.output) key text) }
-    ensures refused { IsFalse result ↔ ((tag : KeyedState) → ¬ IsSavedHmac F.are_words F.output
-        (F.SavedHasher.bytes inner.now) (F.SavedHasher.bytes outer.now) tag) }
-    ensures unchanged { IsFalse result → tag.new ≡ tag.old }
-{
-    match Hmac::<BlockHasher<F>>::load_slices(inner.as_bytes(), outer.as_bytes()) {
-        Ok(mac) => {
-            *tag = mac.finalize();
-            true
-        }
-        Err(_) => false,
-    }
-}
-
-// Whether these bytes are the tag of the text so far, all of them: false too if no HMAC state
-// is saved as the bytes of the state.
-fn verify_tag<F: ResumableFunction>(
-    inner: &F::SavedHasher,
-    outer: &F::SavedHasher,
-    tag: &[u8],
-) -> bool
-    ensures state { (keyed : KeyedState) → IsSavedHmac F.are_words F.output
-        (F.SavedHasher.bytes inner.now) (F.SavedHasher.bytes outer.now) keyed
-        → IsTrue result ↔ (tag.now ≡ tag_of F.step F.output keyed) }
-    ensures text { (key text : List ℕ)
-        → IsSavedFor (F.list F.start_of) F.step F.output (IsHashState F.are_words)
-        (core_and_tail F.output) key text
-        (F.SavedHasher.bytes inner.now) (F.SavedHasher.bytes outer.now)
-        → IsTrue result
+        → IsSaved (IsKeyedState F.are_words) (hmac_bytes F.output)
+        (fed_text F.step (keyed_state (F.list F.start_of) F.step F.output key) text)
+        (F.SavedHmac.bytes state.now) → IsTrue result
         ↔ (tag.now ≡ hmac (hash (F.list F.start_of) F.step F.output) key text) }
-    ensures refused { ((tag : KeyedState) → ¬ IsSavedHmac F.are_words F.output
-        (F.SavedHasher.bytes inner.now) (F.SavedHasher.bytes outer.now) tag)
-        → IsFalse result }
 {
-    match Hmac::<BlockHasher<F>>::load_slices(inner.as_bytes(), outer.as_bytes()) {
+    match Hmac::<BlockHasher<F>>::load(state) {
         Ok(mac) => mac.verify(tag),
         Err(_) => false,
     }

@@ -9,7 +9,7 @@ use crate::streams::{
     nattizhu_ripemd160_final, nattizhu_ripemd160_init, nattizhu_ripemd160_update_nonnull,
 };
 use crate::tags::{
-    TagState160, nattizhu_hmac_ripemd160_final, nattizhu_hmac_ripemd160_init_nonnull,
+    nattizhu_hmac_ripemd160_final, nattizhu_hmac_ripemd160_init_nonnull,
     nattizhu_hmac_ripemd160_nonnull, nattizhu_hmac_ripemd160_update_nonnull,
     nattizhu_hmac_ripemd160_verify_nonnull, nattizhu_hmac_ripemd160_verify_text_nonnull,
 };
@@ -215,10 +215,7 @@ const KEY: [u8; 20] = [0x0b; 20];
 
 #[test]
 fn tag_in_pieces(rt: HostRuntime) {
-    let mut state = TagState160 {
-        inner: [7; 92],
-        outer: [7; 92],
-    };
+    let mut state = [7; 184];
     nattizhu_hmac_ripemd160_init_nonnull(&mut state, &KEY);
     assert!(rt; nattizhu_hmac_ripemd160_update_nonnull(&mut state, b"Hi "));
     assert!(rt; nattizhu_hmac_ripemd160_update_nonnull(&mut state, b"There"));
@@ -227,13 +224,12 @@ fn tag_in_pieces(rt: HostRuntime) {
     assert!(rt; tag == TAG);
     assert!(rt; nattizhu_hmac_ripemd160_verify_nonnull(&state, &TAG));
     assert!(rt; !nattizhu_hmac_ripemd160_verify_nonnull(&state, &TAG[..19]));
-    state.outer[91] = 1;
+    state[183] = 1;
     tag = [7; 20];
     assert!(rt; !nattizhu_hmac_ripemd160_final(&state, &mut tag));
     assert!(rt; tag == [7; 20]);
     assert!(rt; !nattizhu_hmac_ripemd160_update_nonnull(&mut state, b"!"));
     assert!(rt; !nattizhu_hmac_ripemd160_verify_nonnull(&state, &TAG));
-    let TagState160 { inner: _, outer: _ } = state;
 }
 
 #[test]

@@ -1,4 +1,3 @@
 pub mod Differences
 pub mod MacReduction
 pub mod Outer
-pub mod Tags

@@ -44,9 +44,16 @@ fed_text step state bytes = record state { inner = fed step state.inner bytes }
 abbrev pub tag_of : (List ℕ → List ℕ → List ℕ) → (List ℕ → List ℕ) → KeyedState → List ℕ
 tag_of step output state = finish step output (fed step state.outer (finish step output state.inner))
 
--- they stand for a key and a text: the one has taken in the inner message, and the other the masked key
--- of the outer one
+-- those of a key and the empty text: each has taken in a masked key block
+unfoldable pub keyed_state : List ℕ → (List ℕ → List ℕ → List ℕ) → (List ℕ → List ℕ) → List ℕ → KeyedState
+keyed_state start step output key =
+    let block : List ℕ = key_block (hash start step output) key in
+    record {
+      inner = fed step (initial_state start) (masked 0x36 block);
+      outer = fed step (initial_state start) (masked 0x5c block);
+    }
+
+-- they stand for a key and a text: they are those of the key, after the text
 pub record StandsFor (start : List ℕ) (step : List ℕ → List ℕ → List ℕ) (output : List ℕ → List ℕ)
     (key text : List ℕ) (state : KeyedState) : Type 0 where
-  pub inner : state.inner ≡ fed step (initial_state start) (inner_message (hash start step output) key text)
-  pub outer : state.outer ≡ fed step (initial_state start) (masked 0x5c (key_block (hash start step output) key))
+  pub is : state ≡ fed_text step (keyed_state start step output key) text

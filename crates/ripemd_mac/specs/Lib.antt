@@ -6,3 +6,5 @@ pub mod Saved
 pub mod MacCollisions
 -- Worked examples of tags and of collisions.
 pub mod Worked
+-- Laws for callers.
+pub mod Laws

@@ -5,7 +5,7 @@ use Rattle.ripemd.specs.Standard.Words.{word_bytes}
 use Rattle.ripemd.specs.Standard.Compression.{ripemd128, ripemd160, compress}
 use Rattle.ripemd.specs.Published.{hexadecimal}
 use Rattle.ripemd.specs.Standard.Hashing.{padded_message, blocks, hash, ripemd}
-use Rattle.ripemd.specs.States.{IsState, hasher_bytes}
+use Rattle.ripemd.specs.States.{AreWords}
 use Rattle.ripemd.specs.Worked.{block_of}
 use Rattle.ripemd.specs.declared.witness.Collision.{Collision}
 use Rattle.ripemd_mac.specs.declared.reduction.MacCollision.{MacCollision}
@@ -47,15 +47,15 @@ abbrev pub saved_outer : List ℕ
 saved_outer = saved_after_a_block (0x7c ∷ 0x36 ∷ 0xc7 ∷ 0xb9 ∷ 0x70 ∷ 0x37 ∷ 0xe8 ∷ 0xe8 ∷ 0x62 ∷ 0x56
     ∷ 0x6e ∷ 0xdd ∷ 0xbc ∷ 0x10 ∷ 0xdf ∷ 0xd8 ∷ 0x05 ∷ 0x04 ∷ 0xf9 ∷ 0x99 ∷ []) []
 
--- two arrays are saved for this key and this text
-abbrev pub SavedForHiThere : List ℕ → List ℕ → Type 0
-SavedForHiThere first second = IsSavedFor ripemd160.start (compress ripemd160) word_bytes (IsState ripemd160)
-    hasher_bytes (replicate 20 0x0b) (codes "Hi There") first second
+-- these bytes are saved for this key and this text
+abbrev pub SavedForHiThere : List ℕ → Type 0
+SavedForHiThere =
+    IsSavedFor ripemd160.start (compress ripemd160) word_bytes (AreWords 5) (replicate 20 0x0b) (codes "Hi There")
 
 -- these are, and exchanged they are not
 pub record WorkedSaved : Type 0 where
-  pub saved : SavedForHiThere saved_inner saved_outer
-  pub exchanged : ¬ SavedForHiThere saved_outer saved_inner
+  pub saved : SavedForHiThere (saved_inner ++ saved_outer)
+  pub exchanged : ¬ SavedForHiThere (saved_outer ++ saved_inner)
 
 -- ---- collisions
 

@@ -1,6 +1,6 @@
 //! The tag of a text under a key (RFC 2104).
 
-ghost use Rattle.std.specs.Prelude.{◌≡◌, ◌≤◌, ◌↔◌, ℕ, List, [], ◌++◌, length, IsTrue, IfOk, IfErr, ⊤};
+ghost use Rattle.std.specs.Prelude.{◌≡◌, ◌≢◌, ◌≤◌, ◌↔◌, ℕ, List, [], ◌++◌, length, IsTrue, IfOk, IfErr, ⊤};
 ghost use Rattle.ripemd.specs.Standard.Hashing.{hash};
 ghost use Rattle.ripemd_mac.specs.Keyed.{
   KeyedState,
@@ -9,19 +9,23 @@ ghost use Rattle.ripemd_mac.specs.Keyed.{
   filled,
   hmac,
   key_block,
+  keyed_state,
   masked,
   tag_of,
 };
-ghost use Rattle.ripemd_mac.specs.Saved.{IsKeyedState, IsSavedAs, IsSavedFor};
+ghost use Rattle.ripemd_mac.specs.Saved.{IsKeyedState, IsSavedFor, hmac_bytes};
 
+use ripemd::block_api::ByteArray;
 use ripemd::digest::{BlockDigest, Digest, SerializableState};
+use ripemd::incremental::{Incremental, Resumable};
 use ripemd::state::DeserializeStateError;
+use ripemd::{BlockHasher, HashFunction, ResumableFunction};
 use std::alloc::AllocError;
 use std::marker::Model;
 
 /// An HMAC state: the tag of a text under a key, by any hash function (RFC 2104). The text comes in
-/// pieces, and how it is cut makes no difference. No call allocates, and only `load` and
-/// `load_slices` can fail.
+/// pieces, and how it is cut makes no difference. No call allocates, and only `load` and `load_slice`
+/// can fail.
 #[derive(Drop)]
 pub struct Hmac<D: Digest> {
     inner: D,
@@ -34,21 +38,12 @@ impl<D: Digest> Model for Hmac<D> {
     ghost view = { λ h. record { inner = D.meaning h.inner; outer = D.meaning h.outer } };
 }
 
-/// The saved bytes of an HMAC state: those of its two hashers, as `serialize` gives them. They are as
-/// secret as the key: whoever has them can make tags under it.
-#[derive(Clone, Copy)]
-pub struct SavedTag<S> {
-    /// Those of the hasher of the key masked by 0x36 and the text so far.
-    pub inner: S,
-    /// Those of the hasher of the key masked by 0x5c.
-    pub outer: S,
-}
-
 impl<D: BlockDigest> Hmac<D> {
     /// The state of a key and the empty text. The key has any length: a longer one than 64 bytes
     /// counts as its digest, and a shorter one is filled with zeros to 64 bytes.
     pub fn new(key: &[u8]) -> Hmac<D>
-        ensures { StandsFor D.start D.step D.output key.now [] result }
+        ensures state { result ≡ keyed_state D.start D.step D.output key.now }
+        ensures text { StandsFor D.start D.step D.output key.now [] result }
     {
         let keys = masked_keys::<D>(key);
         Hmac {
@@ -111,22 +106,51 @@ impl<D: BlockDigest> Clone for Hmac<D> {
     }
 }
 
-impl<D: BlockDigest + SerializableState> Hmac<D> {
-    /// Saves the state, to be loaded later, here or elsewhere. The saved bytes are as secret as the
-    /// key.
-    pub fn save(&self) -> SavedTag<D::Saved>
-        ensures bytes { IsSavedAs D.state_bytes
-            (D.saved_bytes result.inner) (D.saved_bytes result.outer) self.now }
-        ensures valid { IsKeyedState D.is_valid self.now }
+impl<F: HashFunction> Incremental for Hmac<BlockHasher<F>> {
+    type Hash = BlockHasher<F>;
+
+    ghost Origin = { List ℕ };
+
+    ghost new_state = { keyed_state (F.list F.start_of) F.step F.output };
+
+    ghost fed = { fed_text F.step };
+
+    ghost finish = { tag_of F.step F.output };
+
+    ghost whole = { hmac (hash (F.list F.start_of) F.step F.output) };
+
+    fn update(&mut self, bytes: &[u8]) {
+        Hmac::update(self, bytes);
+    }
+
+    fn finalize(self) -> F::Digest {
+        Hmac::finalize(self)
+    }
+
+    ghost use Rattle.ripemd_mac.specs.Laws as laws;
+
+    ghost fed_nothing = { laws.fed_nothing (F.list F.start_of) F.step F.output };
+
+    ghost fed_twice = { laws.fed_twice F.step };
+
+    ghost finish_fed = { laws.tag_of_text (F.list F.start_of) F.step F.output };
+}
+
+impl<F: ResumableFunction> Hmac<BlockHasher<F>> {
+    /// Saves the state, to be loaded later, here or elsewhere: the bytes that its inner hasher is saved
+    /// as, and then those of its outer one. They are as secret as the key: whoever has them can make
+    /// tags under it.
+    pub fn save(&self) -> F::SavedHmac
+        ensures bytes { F.SavedHmac.bytes result ≡ hmac_bytes F.output self.now }
+        ensures valid { IsKeyedState F.are_words self.now }
         ensures text { (key text : List ℕ)
-            → StandsFor D.start D.step D.output key text self.now
-            → IsSavedFor D.start D.step D.output D.is_valid D.state_bytes key text
-            (D.saved_bytes result.inner) (D.saved_bytes result.outer) }
+            → StandsFor (F.list F.start_of) F.step F.output key text self.now
+            → IsSavedFor (F.list F.start_of) F.step F.output F.are_words key text
+            (F.SavedHmac.bytes result) }
     {
-        SavedTag {
-            inner: self.inner.serialize(),
-            outer: self.outer.serialize(),
-        }
+        let inner = self.inner.serialize();
+        let outer = self.outer.serialize();
+        F::SavedHmac::from_slices(inner.as_bytes(), outer.as_bytes()).unwrap()
     }
 
     /// Makes the state that was saved as these bytes.
@@ -134,45 +158,65 @@ impl<D: BlockDigest + SerializableState> Hmac<D> {
     /// # Errors
     ///
     /// `DeserializeStateError` if no state is saved as these bytes.
-    pub fn load(saved: &SavedTag<D::Saved>) -> Result<Hmac<D>, DeserializeStateError>
-        ensures ok { IfOk result (IsSavedAs D.state_bytes
-            (D.saved_bytes saved.now.inner) (D.saved_bytes saved.now.outer)) }
-        ensures valid { IfOk result (IsKeyedState D.is_valid) }
+    pub fn load(saved: &F::SavedHmac) -> Result<Hmac<BlockHasher<F>>, DeserializeStateError>
+        ensures ok { IfOk result (λ mac. hmac_bytes F.output mac ≡ F.SavedHmac.bytes saved.now) }
+        ensures valid { IfOk result (IsKeyedState F.are_words) }
         ensures text { IfOk result (λ mac. (key text : List ℕ)
-            → IsSavedFor D.start D.step D.output D.is_valid D.state_bytes key text
-            (D.saved_bytes saved.now.inner) (D.saved_bytes saved.now.outer)
-            → StandsFor D.start D.step D.output key text mac) }
-        ensures err { IfErr result (λ _. (state : KeyedState) → IsKeyedState D.is_valid state
-            → ¬ IsSavedAs D.state_bytes
-            (D.saved_bytes saved.now.inner) (D.saved_bytes saved.now.outer) state) }
+            → IsSavedFor (F.list F.start_of) F.step F.output F.are_words key text
+            (F.SavedHmac.bytes saved.now)
+            → StandsFor (F.list F.start_of) F.step F.output key text mac) }
+        ensures err { IfErr result (λ _. (state : KeyedState) → IsKeyedState F.are_words state
+            → hmac_bytes F.output state ≢ F.SavedHmac.bytes saved.now) }
     {
-        Ok(Hmac {
-            inner: D::deserialize(&saved.inner)?,
-            outer: D::deserialize(&saved.outer)?,
-        })
+        Self::load_slice(saved.as_bytes())
     }
 
-    /// Makes the state that was saved as these bytes: all the bytes of the first array of a
-    /// `SavedTag`, and all of the second.
+    /// Makes the state that was saved as these bytes, which are all the bytes of the array.
     ///
     /// # Errors
     ///
     /// `DeserializeStateError` if no state is saved as these bytes, so for any other number of them
-    /// than the arrays have.
-    pub fn load_slices(inner: &[u8], outer: &[u8]) -> Result<Hmac<D>, DeserializeStateError>
-        ensures ok { IfOk result (IsSavedAs D.state_bytes inner.now outer.now) }
-        ensures valid { IfOk result (IsKeyedState D.is_valid) }
+    /// than the array has.
+    pub fn load_slice(bytes: &[u8]) -> Result<Hmac<BlockHasher<F>>, DeserializeStateError>
+        ensures ok { IfOk result (λ mac. hmac_bytes F.output mac ≡ bytes.now) }
+        ensures valid { IfOk result (IsKeyedState F.are_words) }
         ensures text { IfOk result (λ mac. (key text : List ℕ)
-            → IsSavedFor D.start D.step D.output D.is_valid D.state_bytes key text inner.now outer.now
-            → StandsFor D.start D.step D.output key text mac) }
-        ensures err { IfErr result (λ _. (state : KeyedState) → IsKeyedState D.is_valid state
-            → ¬ IsSavedAs D.state_bytes inner.now outer.now state) }
+            → IsSavedFor (F.list F.start_of) F.step F.output F.are_words key text bytes.now
+            → StandsFor (F.list F.start_of) F.step F.output key text mac) }
+        ensures err { IfErr result (λ _. (state : KeyedState) → IsKeyedState F.are_words state
+            → hmac_bytes F.output state ≢ bytes.now) }
     {
+        if bytes.len() != <F::SavedHmac as ByteArray>::LEN {
+            return Err(DeserializeStateError);
+        }
+        let (inner, outer) = bytes.split_at(<F::SavedHasher as ByteArray>::LEN);
         Ok(Hmac {
-            inner: D::load_slice(inner)?,
-            outer: D::load_slice(outer)?,
+            inner: BlockHasher::load_slice(inner)?,
+            outer: BlockHasher::load_slice(outer)?,
         })
     }
+}
+
+impl<F: ResumableFunction> Resumable for Hmac<BlockHasher<F>> {
+    type Saved = F::SavedHmac;
+
+    ghost saved_bytes = { F.SavedHmac.bytes };
+
+    ghost is_valid = { IsKeyedState F.are_words };
+
+    ghost state_bytes = { hmac_bytes F.output };
+
+    fn save(&self) -> F::SavedHmac {
+        Hmac::save(self)
+    }
+
+    fn load(saved: &F::SavedHmac) -> Result<Hmac<BlockHasher<F>>, DeserializeStateError> {
+        Hmac::load(saved)
+    }
+
+    ghost use Rattle.ripemd_mac.specs.Laws.{one_saved_hmac};
+
+    ghost injective = { one_saved_hmac F.tells_words };
 }
 
 // Whether bytes are equal. Where both are as many, it compares all of them, whatever they are.

@@ -6,5 +6,5 @@ pub mod facts;
 pub mod keyed;
 pub mod reduction;
 
-pub use keyed::{Hmac, MaskedKeys, SavedTag, masked_keys};
+pub use keyed::{Hmac, MaskedKeys, masked_keys};
 pub use reduction::{MacCollision, mac_collision};

@@ -1,3 +1,3 @@
 pub mod Choosing
 pub mod Reading
-pub mod Unkeyed
+pub mod Hashers

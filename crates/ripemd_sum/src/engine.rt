@@ -1,6 +1,6 @@
 //! The run of the program, over any reader and any writer.
 
-ghost use Rattle.std.specs.Prelude.{◌≡◌, ◌+◌, ◌*◌, ◌≤◌, ◌++◌, ℕ, List, [], false, length, codes};
+ghost use Rattle.std.specs.Prelude.{◌≡◌, ◌+◌, ◌*◌, ◌≤◌, ◌++◌, ℕ, List, false, length, codes};
 ghost use Rattle.std.specs.Prelude.{IfOk, OnOk, IfErr};
 ghost use Rattle.hex.specs.Hex.{encode_lower};
 ghost use Rattle.ripemd.specs.Standard.Hashing.{hash};
@@ -9,14 +9,15 @@ ghost use Rattle.ripemd_sum.specs.Track.{has_failed, taken_of};
 ghost use Rattle.ripemd_sum.specs.Runs.{digest_line, tag_line, GivesAll, Gets};
 ghost use Rattle.ripemd_sum.specs.Faults.{ExplainsReading, ExplainsRun};
 
+use crate::any_hasher::AnyHasher;
 use crate::fault::{ReadFault, RunFault};
-use crate::summing::{Plain, Summing};
 use crate::tracked::Tracked;
 use crate::variant::Variant;
 use ripemd::block_api::{
     Ripemd128Function, Ripemd160Function, Ripemd256Function, Ripemd320Function,
 };
 use ripemd::digest::OutputSizeUser;
+use ripemd::incremental::Incremental;
 use ripemd::{BlockHasher, Digest, HashFunction};
 use ripemd_mac::Hmac;
 use std::io::{Read, Write};
@@ -56,10 +57,10 @@ pub fn run<R: Read, W: Write>(
         (ExplainsRun R.remaining reader.old reader.new writer.old writer.new limit) }
 {
     match variant {
-        Variant::R128 => write_digest::<Ripemd128Function, R, W>(reader, writer, limit),
-        Variant::R160 => write_digest::<Ripemd160Function, R, W>(reader, writer, limit),
-        Variant::R256 => write_digest::<Ripemd256Function, R, W>(reader, writer, limit),
-        Variant::R320 => write_digest::<Ripemd320Function, R, W>(reader, writer, limit),
+        Variant::R128 => run_digest::<Ripemd128Function, R, W>(reader, writer, limit),
+        Variant::R160 => run_digest::<Ripemd160Function, R, W>(reader, writer, limit),
+        Variant::R256 => run_digest::<Ripemd256Function, R, W>(reader, writer, limit),
+        Variant::R320 => run_digest::<Ripemd320Function, R, W>(reader, writer, limit),
     }
 }
 
@@ -85,15 +86,15 @@ pub fn run_mac<R: Read, W: Write>(
         (ExplainsRun R.remaining reader.old reader.new writer.old writer.new limit) }
 {
     match variant {
-        Variant::R128 => write_tag::<Ripemd128Function, R, W>(key, reader, writer, limit),
-        Variant::R160 => write_tag::<Ripemd160Function, R, W>(key, reader, writer, limit),
-        Variant::R256 => write_tag::<Ripemd256Function, R, W>(key, reader, writer, limit),
-        Variant::R320 => write_tag::<Ripemd320Function, R, W>(key, reader, writer, limit),
+        Variant::R128 => run_tag::<Ripemd128Function, R, W>(key, reader, writer, limit),
+        Variant::R160 => run_tag::<Ripemd160Function, R, W>(key, reader, writer, limit),
+        Variant::R256 => run_tag::<Ripemd256Function, R, W>(key, reader, writer, limit),
+        Variant::R320 => run_tag::<Ripemd320Function, R, W>(key, reader, writer, limit),
     }
 }
 
 // The run for the digest by a block function.
-fn write_digest<F: HashFunction, R: Read, W: Write>(
+fn run_digest<F: HashFunction, R: Read, W: Write>(
     reader: &mut Tracked<R>,
     writer: &mut Tracked<W>,
     limit: u64,
@@ -109,11 +110,11 @@ fn write_digest<F: HashFunction, R: Read, W: Write>(
     ensures fault { IfErr result
         (ExplainsRun R.remaining reader.old reader.new writer.old writer.new limit) }
 {
-    write_sum::<Plain<BlockHasher<F>>, R, W>(Plain::new(), reader, writer, limit)
+    run_state::<BlockHasher<F>, R, W>(BlockHasher::new(), reader, writer, limit)
 }
 
 // The run for the tag under a key by a block function.
-fn write_tag<F: HashFunction, R: Read, W: Write>(
+fn run_tag<F: HashFunction, R: Read, W: Write>(
     key: &[u8],
     reader: &mut Tracked<R>,
     writer: &mut Tracked<W>,
@@ -131,12 +132,12 @@ fn write_tag<F: HashFunction, R: Read, W: Write>(
     ensures fault { IfErr result
         (ExplainsRun R.remaining reader.old reader.new writer.old writer.new limit) }
 {
-    write_sum::<Hmac<BlockHasher<F>>, R, W>(Hmac::new(key), reader, writer, limit)
+    run_state::<Hmac<BlockHasher<F>>, R, W>(Hmac::new(key), reader, writer, limit)
 }
 
-// The run for one hasher or `Hmac`, whose line is not too long.
-fn write_sum<S: Summing, R: Read, W: Write>(
-    summing: S,
+// The run for a new hasher or `Hmac`, whose line is not too long.
+fn run_state<S: Incremental, R: Read, W: Write>(
+    state: S,
     reader: &mut Tracked<R>,
     writer: &mut Tracked<W>,
     limit: u64,
@@ -147,15 +148,15 @@ fn write_sum<S: Summing, R: Read, W: Write>(
     requires writer_works { has_failed writer.old ≡ false }
     ensures ok { OnOk result ((message : List ℕ)
         × GivesAll R.remaining reader.old reader.new limit message
-        × ((key : List ℕ) → S.stands_for summing key [] → Gets W.contents writer.old writer.new
-        (encode_lower (S.sum_of key message) ++ codes "\n"))) }
+        × ((o : S.Origin) → state ≡ S.new_state o → Gets W.contents writer.old writer.new
+        (encode_lower (S.whole o message) ++ codes "\n"))) }
     ensures fault { IfErr result
         (ExplainsRun R.remaining reader.old reader.new writer.old writer.new limit) }
 {
-    let digest = read_sum::<S, R>(summing, reader, limit)?;
-    let bytes = S::Hash::output_bytes(&digest);
-    let mut page = [0; LONGEST_LINE];
-    let line = &mut page[..2 * bytes.len() + 1];
+    let output = read_to_end::<S, R>(state, reader, limit)?;
+    let bytes = S::Hash::output_bytes(&output);
+    let mut buffer = [0; LONGEST_LINE];
+    let line = &mut buffer[..2 * bytes.len() + 1];
     fill_line(bytes, line);
     writer.write_all(line).map_err(RunFault::Write)
 }
@@ -182,30 +183,29 @@ pub fn hash_reader<D: Digest, R: Read>(
         × (D.bytes_of digest ≡ hash D.start D.step D.output message)) }
     ensures fault { IfErr result (ExplainsReading R.remaining reader.old reader.new limit) }
 {
-    read_sum::<Plain<D>, R>(Plain::new(), reader, limit)
+    read_to_end::<AnyHasher<D>, R>(AnyHasher::new(), reader, limit)
 }
 
-// The sum of all that the reader gives, to its end.
-fn read_sum<S: Summing, R: Read>(
-    summing: S,
+// The digest or the tag of all that the reader gives, to its end, by a new hasher or `Hmac`.
+fn read_to_end<S: Incremental, R: Read>(
+    state: S,
     reader: &mut Tracked<R>,
     limit: u64,
 ) -> Result<<S::Hash as OutputSizeUser>::Output, ReadFault>
     requires works { has_failed reader.old ≡ false }
     requires fresh { taken_of reader.old ≡ 0 }
-    ensures ok { IfOk result (λ sum. (message : List ℕ)
+    ensures ok { IfOk result (λ output. (message : List ℕ)
         × GivesAll R.remaining reader.old reader.new limit message
-        × ((key : List ℕ) → S.stands_for summing key []
-        → S.Hash.bytes_of sum ≡ S.sum_of key message)) }
+        × ((o : S.Origin) → state ≡ S.new_state o → S.Hash.bytes_of output ≡ S.whole o message)) }
     ensures fault { IfErr result (ExplainsReading R.remaining reader.old reader.new limit) }
 {
-    let mut summing = summing;
+    let mut state = state;
     let mut chunk = [0; CHUNK_SIZE];
     'reads: loop {
         match reader.read(&mut chunk) {
             Err(error) => return Err(ReadFault::Read(error)),
-            Ok(0) => return Ok(summing.finalize()),
-            Ok(count) => summing.update(&chunk[..count]),
+            Ok(0) => return Ok(state.finalize()),
+            Ok(count) => state.update(&chunk[..count]),
         }
         if reader.taken() > limit as u128 {
             return Err(ReadFault::TooLong);

@@ -2,11 +2,11 @@
 //! under a key, as one line.
 #![tactic(auto)]
 
+mod any_hasher;
 mod engine;
 mod facts;
 mod fault;
 mod key;
-mod summing;
 #[cfg(test)]
 mod tests;
 mod tracked;

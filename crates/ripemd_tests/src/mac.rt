@@ -8,7 +8,7 @@ mod toys;
 mod verified;
 
 use ripemd::block_api::ByteArray;
-use ripemd::digest::{BlockDigest, SerializableState};
+use ripemd::digest::BlockDigest;
 use ripemd::{BlockHasher, ResumableFunction};
 use ripemd_mac::Hmac;
 
@@ -33,20 +33,20 @@ fn tag_by_copies<D: BlockDigest>(key: &[u8], first: &[u8], second: &[u8]) -> D::
 }
 
 // The same, saved and loaded between the pieces.
-fn tag_put_aside<D: BlockDigest + SerializableState>(
+fn tag_put_aside<F: ResumableFunction>(
     key: &[u8],
     first: &[u8],
     second: &[u8],
-) -> Option<D::Output> {
-    let mut mac = Hmac::<D>::new(key);
+) -> Option<F::Digest> {
+    let mut mac = Hmac::<BlockHasher<F>>::new(key);
     mac.update(first);
-    let mut loaded = Hmac::<D>::load(&mac.save()).ok()?;
+    let mut loaded = Hmac::<BlockHasher<F>>::load(&mac.save()).ok()?;
     loaded.update(second);
     Some(loaded.finalize())
 }
 
-// The same, loaded from slices.
-fn tag_by_slices<F: ResumableFunction>(
+// The same, loaded from a slice.
+fn tag_by_slice<F: ResumableFunction>(
     key: &[u8],
     first: &[u8],
     second: &[u8],
@@ -54,8 +54,7 @@ fn tag_by_slices<F: ResumableFunction>(
     let mut mac = Hmac::<BlockHasher<F>>::new(key);
     mac.update(first);
     let saved = mac.save();
-    let (inner, outer) = (saved.inner.as_bytes(), saved.outer.as_bytes());
-    let mut loaded = Hmac::<BlockHasher<F>>::load_slices(inner, outer).ok()?;
+    let mut loaded = Hmac::<BlockHasher<F>>::load_slice(saved.as_bytes()).ok()?;
     loaded.update(second);
     Some(loaded.finalize())
 }

@@ -301,6 +301,8 @@ impl ResumableFunction for FirstBytes {
 
     type SavedHasher = [u8; 73];
 
+    type SavedHmac = [u8; 146];
+
     fn from_output(output: [u8; 1]) -> Option<[u8; 1]> {
         Some(output)
     }
@@ -312,6 +314,8 @@ impl ResumableFunction for FirstBytes {
     ghost saved_core_size = { refl };
 
     ghost saved_hasher_size = { refl };
+
+    ghost saved_hmac_size = { refl };
 }
 
 /// The same, by the toy.

@@ -68,19 +68,15 @@ pub fn tags_of_two(key: &[u8], first: &[u8], second: &[u8]) -> ([u8; 20], [u8; 2
 ghost use Rattle.std.specs.Prelude.{IfOk, IfErr};
 ghost use Rattle.ripemd_mac.specs.Saved.{IsSavedFor};
 
-use ripemd::digest::SerializableState;
 use ripemd::state::DeserializeStateError;
-use ripemd_mac::SavedTag;
+use ripemd::{BlockHasher, ResumableFunction};
 
 /// What to save of the tag of a text after its first piece.
-pub fn saved_after<D: BlockDigest + SerializableState>(
-    key: &[u8],
-    first: &[u8],
-) -> SavedTag<D::Saved>
-    ensures { IsSavedFor D.start D.step D.output D.is_valid D.state_bytes key.now first.now
-        (D.saved_bytes result.inner) (D.saved_bytes result.outer) }
+pub fn saved_after<F: ResumableFunction>(key: &[u8], first: &[u8]) -> F::SavedHmac
+    ensures { IsSavedFor (F.list F.start_of) F.step F.output F.are_words key.now first.now
+        (F.SavedHmac.bytes result) }
 {
-    let mut mac = Hmac::<D>::new(key);
+    let mut mac = Hmac::<BlockHasher<F>>::new(key);
     mac.update(first);
     mac.save()
 }
@@ -90,19 +86,20 @@ pub fn saved_after<D: BlockDigest + SerializableState>(
 /// # Errors
 ///
 /// `DeserializeStateError` if no state is saved as these bytes.
-pub fn tag_of_saved<D: BlockDigest + SerializableState>(
-    saved: &SavedTag<D::Saved>,
+pub fn tag_of_saved<F: ResumableFunction>(
+    saved: &F::SavedHmac,
     last: &[u8],
-) -> Result<D::Output, DeserializeStateError>
+) -> Result<F::Digest, DeserializeStateError>
     ensures ok { IfOk result (λ tag. (key text : List ℕ)
-        → IsSavedFor D.start D.step D.output D.is_valid D.state_bytes key text
-        (D.saved_bytes saved.now.inner) (D.saved_bytes saved.now.outer)
-        → D.bytes_of tag ≡ hmac (hash D.start D.step D.output) key (text ++ last.now)) }
+        → IsSavedFor (F.list F.start_of) F.step F.output F.are_words key text
+        (F.SavedHmac.bytes saved.now)
+        → F.Digest.bytes tag
+        ≡ hmac (hash (F.list F.start_of) F.step F.output) key (text ++ last.now)) }
     ensures err { IfErr result (λ _. (key text : List ℕ)
-        → ¬ IsSavedFor D.start D.step D.output D.is_valid D.state_bytes key text
-        (D.saved_bytes saved.now.inner) (D.saved_bytes saved.now.outer)) }
+        → ¬ IsSavedFor (F.list F.start_of) F.step F.output F.are_words key text
+        (F.SavedHmac.bytes saved.now)) }
 {
-    let mut mac = Hmac::<D>::load(saved)?;
+    let mut mac = Hmac::<BlockHasher<F>>::load(saved)?;
     mac.update(last);
     Ok(mac.finalize())
 }

@@ -1,27 +1,28 @@
 //! Which bytes are taken as a saved tag, and which are refused.
 
-use ripemd::digest::{BlockDigest, SerializableState};
-use ripemd::{Ripemd128, Ripemd160, Ripemd256, Ripemd320};
-use ripemd_mac::{Hmac, SavedTag};
+use ripemd::block_api::{
+    Ripemd128Function, Ripemd160Function, Ripemd256Function, Ripemd320Function,
+};
+use ripemd::{BlockHasher, ResumableFunction, Ripemd160};
+use ripemd_mac::Hmac;
 
 // What a tag of RIPEMD-160 is saved as after "Hi There".
-fn saved_160() -> SavedTag<[u8; 92]> {
+fn saved_160() -> [u8; 184] {
     let mut mac = Hmac::<Ripemd160>::new(&[0x0b; 20]);
     mac.update(b"Hi There");
     mac.save()
 }
 
-// Whether these bytes are taken or not, as is wanted, both as arrays and as slices.
-fn is_taken_if(wanted: bool, inner: [u8; 92], outer: [u8; 92]) -> bool {
-    let saved = SavedTag { inner, outer };
+// Whether these bytes are taken or not, as is wanted, both as an array and as a slice.
+fn is_taken_if(wanted: bool, saved: [u8; 184]) -> bool {
     Hmac::<Ripemd160>::load(&saved).is_ok() == wanted
-        && Hmac::<Ripemd160>::load_slices(&inner, &outer).is_ok() == wanted
+        && Hmac::<Ripemd160>::load_slice(&saved).is_ok() == wanted
 }
 
 // Bytes of which one is another.
-fn with_byte(bytes: &[u8; 92], place: usize, value: u8) -> [u8; 92] {
+fn with_byte(bytes: &[u8; 184], place: usize, value: u8) -> [u8; 184] {
     let mut changed = *bytes;
-    if place < 92 {
+    if place < 184 {
         changed[place] = value;
     }
     changed
@@ -47,24 +48,18 @@ const CHANGES: [(usize, u8, bool, bool); 10] = [
 #[test]
 fn changed_bytes(rt: HostRuntime) {
     let saved = saved_160();
-    assert!(rt; is_taken_if(true, saved.inner, saved.outer));
+    assert!(rt; is_taken_if(true, saved));
     for (place, value, of_inner, of_outer) in CHANGES {
-        let inner = with_byte(&saved.inner, place, value);
-        let outer = with_byte(&saved.outer, place, value);
-        assert!(rt; is_taken_if(of_inner, inner, saved.outer));
-        assert!(rt; is_taken_if(of_outer, saved.inner, outer));
+        assert!(rt; is_taken_if(of_inner, with_byte(&saved, place, value)));
+        assert!(rt; is_taken_if(of_outer, with_byte(&saved, 92 + place, value)));
     }
 }
 
-// Whether, of 0 to 113 zero bytes for the one hasher and the other, so many alone are taken.
-fn takes_size<D: BlockDigest + SerializableState>(wanted: usize) -> bool {
-    let zeros = [0; 113];
-    let right = &zeros[..wanted.min(113)];
-    for size in 0..=113 {
-        let bytes = &zeros[..size];
-        if Hmac::<D>::load_slices(bytes, right).is_ok() != (size == wanted)
-            || Hmac::<D>::load_slices(right, bytes).is_ok() != (size == wanted)
-        {
+// Whether, of 0 to 225 zero bytes, so many alone are taken.
+fn takes_size<F: ResumableFunction>(wanted: usize) -> bool {
+    let zeros = [0; 225];
+    for size in 0..=225 {
+        if Hmac::<BlockHasher<F>>::load_slice(&zeros[..size]).is_ok() != (size == wanted) {
             return false;
         }
     }
@@ -73,8 +68,8 @@ fn takes_size<D: BlockDigest + SerializableState>(wanted: usize) -> bool {
 
 #[test]
 fn sizes(rt: HostRuntime) {
-    assert!(rt; takes_size::<Ripemd128>(88));
-    assert!(rt; takes_size::<Ripemd160>(92));
-    assert!(rt; takes_size::<Ripemd256>(104));
-    assert!(rt; takes_size::<Ripemd320>(112));
+    assert!(rt; takes_size::<Ripemd128Function>(176));
+    assert!(rt; takes_size::<Ripemd160Function>(184));
+    assert!(rt; takes_size::<Ripemd256Function>(208));
+    assert!(rt; takes_size::<Ripemd320Function>(224));
 }

@@ -1,6 +1,6 @@
 //! The tags that others give.
 
-use super::{count_up, tag_by_copies, tag_by_slices, tag_of, tag_put_aside};
+use super::{count_up, tag_by_copies, tag_by_slice, tag_of, tag_put_aside};
 use crate::digits::is_written;
 use ripemd::block_api::{
     ByteArray, Ripemd128Function, Ripemd160Function, Ripemd256Function, Ripemd320Function,
@@ -24,8 +24,8 @@ fn is_made<F: ResumableFunction>(key: &[u8], first: &[u8], second: &[u8], digits
     let by_copies = tag_by_copies::<BlockHasher<F>>(key, first, second);
     is_written(at_once.as_bytes(), digits)
         && is_written(by_copies.as_bytes(), digits)
-        && is_there::<F>(tag_put_aside::<BlockHasher<F>>(key, first, second), digits)
-        && is_there::<F>(tag_by_slices::<F>(key, first, second), digits)
+        && is_there::<F>(tag_put_aside::<F>(key, first, second), digits)
+        && is_there::<F>(tag_by_slice::<F>(key, first, second), digits)
 }
 
 // Whether there is a tag, and it is this one.

@@ -1,5 +1,4 @@
-use Rattle.ripemd_c.proofs.SavedStates.{message_digest}
 use Rattle.ripemd_c.proofs.streams.nattizhu_ripemd320_final.Goals as goal
 
 pub returns-clause-message : goal.returns-clause-message
-returns-clause-message c = message_digest c.final_digest.ensures.digest
+returns-clause-message c = c.final_state.ensures.message tt

@@ -1,9 +1,10 @@
 use Rattle.std.proofs.Common.{◌≡◌, ℕ, List, [], ◌∷◌, codes, get_or, refl, sym, ◌∙◌, ap, arith, rules}
+use Rattle.ripemd.specs.Standard.Words.{word_bytes}
 use Rattle.ripemd.specs.Standard.Compression.{ripemd160, registers_after, lines_after, compress}
 use Rattle.ripemd.specs.Standard.Hashing.{with_padding, blocks, partial_block}
-use Rattle.ripemd.specs.States.{HashState, IsState, fed, output_and_count, core_and_tail, hasher_bytes}
-use Rattle.ripemd_mac.specs.Keyed.{key_block, inner_message}
-use Rattle.ripemd_mac.specs.Worked.{saved_outer}
+use Rattle.ripemd.specs.States.{HashState, IsState, fed, output_and_count, core_and_tail}
+use Rattle.ripemd_mac.specs.Keyed.{key_block, keyed_state}
+use Rattle.ripemd_mac.specs.Saved.{hmac_bytes}
 use Rattle.ripemd_mac.proofs.facts.saved_tag.Goals as goal
 
 -- the two hash states
@@ -36,16 +37,16 @@ is_outer_state = record {
 }
 
 pub returns : goal.returns
-unfolding registers_after lines_after compress with_padding blocks partial_block fed output_and_count core_and_tail key_block inner_message
+unfolding registers_after lines_after compress with_padding blocks partial_block fed output_and_count core_and_tail key_block keyed_state
 returns c = record {
   saved = record {
     state = record { inner = inner; outer = outer };
     valid = record { inner = is_inner_state; outer = is_outer_state };
-    bytes = record { inner = refl; outer = refl };
-    stands = record { inner = refl; outer = refl };
+    saved = refl;
+    stands = record { is = refl };
   };
   exchanged = λ other.
-      let bytes : hasher_bytes inner ≡ saved_outer = ap hasher_bytes (sym other.stands.inner) ∙ other.bytes.inner in
+      let bytes = ap (hmac_bytes word_bytes) (sym other.stands.is) ∙ other.saved in
       let first : 0xb3 ≡ 0x7c = ap (λ (bs : List ℕ). get_or bs 0 0) bytes in
       omega (arith, first);
 }

@@ -1,6 +1,6 @@
 use Rattle.std.proofs.Common.{rules, sym, subst}
 use Rattle.ripemd_mac.specs.Keyed.{StandsFor}
-use Rattle.ripemd_mac.proofs.Tags.{stands_for_more}
+use Rattle.ripemd_mac.specs.Laws.{stands_for_more}
 use Rattle.ripemd_mac.proofs.keyed.Hmac.update.Goals as goal
 
 pub returns-clause-text : goal.returns-clause-text

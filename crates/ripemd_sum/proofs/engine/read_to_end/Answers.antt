@@ -1,6 +1,6 @@
-use Rattle.std.proofs.Common.{◌≡◌, ◌++◌, take, refl, arith}
+use Rattle.std.proofs.Common.{◌≡◌, ◌++◌, take, refl, ap, ◌∙◌, arith}
 use Rattle.ripemd_sum.proofs.Reading.{ReadsInto, GivesWithin_more, GivesTooMuch_more, GivesAll_end}
-use Rattle.ripemd_sum.proofs.engine.read_sum.Goals as goal
+use Rattle.ripemd_sum.proofs.engine.read_to_end.Goals as goal
 
 pub reads-preserved : goal.reads-preserved
 reads-preserved g c =
@@ -16,7 +16,9 @@ reads-preserved g c =
     record {
       message = before.message ++ piece;
       gives = GivesWithin_more before.gives read (omega (arith, c.taken.ensures));
-      held = λ key start. c.update.ensures key before.message (before.held key start);
+      held = λ o start.
+          c.update.ensures ∙ ap (λ (s : _). g.S.Incremental.fed s piece) (before.held o start)
+          ∙ g.met.S.Incremental.fed_twice (g.S.Incremental.new_state o) before.message piece;
     }
 
 pub returns-in-Ok-eq0-clause-ok : goal.returns-in-Ok-eq0-clause-ok
@@ -33,7 +35,7 @@ returns-in-Ok-eq0-clause-ok g c =
     } in (
       before.message,
       GivesAll_end before.gives read (bytes.1 refl (omega arith)),
-      λ key start. c.finalize.ensures key before.message (before.held key start),
+      λ o start. c.finalize.ensures ∙ ap g.S.Incremental.finish (before.held o start) ∙ g.met.S.Incremental.finish_fed o before.message,
     )
 
 pub returns-then-taken-limit-clause-fault : goal.returns-then-taken-limit-clause-fault

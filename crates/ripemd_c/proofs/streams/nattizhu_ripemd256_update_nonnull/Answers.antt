@@ -1,5 +1,0 @@
-use Rattle.ripemd_c.proofs.SavedStates.{message_next}
-use Rattle.ripemd_c.proofs.streams.nattizhu_ripemd256_update_nonnull.Goals as goal
-
-pub returns-clause-message : goal.returns-clause-message
-returns-clause-message c = message_next c.args.bytes.now c.update_state.ensures.fed

@@ -1,0 +1,105 @@
+-- The laws of HMAC states, for callers: proved, not to be believed.
+use Rattle.std.proofs.Common.{◌≡◌, ℕ, ◌+◌, List, [], ◌++◌, length, take, drop, length-append, refl, sym, ap, ◌∙◌, arith}
+use Rattle.std.proofs.lemmas.List.{append-nil}
+use Rattle.std.proofs.Math.Seq.{take-append_seam, drop-append_seam}
+use Rattle.ripemd.specs.Standard.Hashing.{hash}
+use Rattle.ripemd.specs.States.{HashState, initial_state, fed, finish, core_and_tail}
+use Rattle.ripemd.specs.Listed.{TellsWords}
+use Rattle.ripemd.specs.Laws as laws
+use Rattle.ripemd.specs.Saving.{length-core_and_tail, one_saved_hasher}
+use Rattle.ripemd_mac.specs.Keyed.{key_block, masked, inner_message, outer_message, hmac}
+use Rattle.ripemd_mac.specs.Keyed.{KeyedState, fed_text, tag_of, keyed_state, StandsFor}
+use Rattle.ripemd_mac.specs.Saved.{IsKeyedState, hmac_bytes}
+
+-- HMAC states of the same two hash states are the same
+same_states : (s t : KeyedState) → s.inner ≡ t.inner → s.outer ≡ t.outer → s ≡ t
+same_states s t inner outer =
+    ap (λ (h : HashState). record s { inner = h }) inner ∙ ap (λ (h : HashState). record t { outer = h }) outer
+
+-- ---- texts
+
+-- some bytes and then others are both, joined
+pub fed_twice : (step : List ℕ → List ℕ → List ℕ) (s : KeyedState) (x y : List ℕ)
+    → fed_text step (fed_text step s x) y ≡ fed_text step s (x ++ y)
+fed_twice step s x y = ap (λ (h : HashState). record s { inner = h }) (laws.fed_twice step s.inner x y)
+
+module _ (start : List ℕ) (step : List ℕ → List ℕ → List ℕ) (output : List ℕ → List ℕ) (key : List ℕ) where
+  -- two hash states that have taken in the masked key blocks are the state of the key
+  pub keyed_by_blocks : (state : KeyedState)
+      → state.inner ≡ fed step (initial_state start) (masked 0x36 (key_block (hash start step output) key))
+      → state.outer ≡ fed step (initial_state start) (masked 0x5c (key_block (hash start step output) key))
+      → state ≡ keyed_state start step output key
+  unfolding keyed_state
+  keyed_by_blocks state inner outer = same_states state (keyed_state start step output key) inner outer
+
+  -- no bytes leave it as it is
+  pub fed_nothing : fed_text step (keyed_state start step output key) [] ≡ keyed_state start step output key
+  unfolding keyed_state
+  fed_nothing =
+      let block : List ℕ = masked 0x36 (key_block (hash start step output) key) in
+      ap (λ (h : HashState). record (keyed_state start step output key) { inner = h })
+      (laws.fed_twice step (initial_state start) block [] ∙ ap (fed step (initial_state start)) (append-nil block))
+
+  -- after a text it gives the tag of the text
+  pub tag_of_text : (text : List ℕ)
+      → tag_of step output (fed_text step (keyed_state start step output key) text) ≡ hmac (hash start step output) key text
+  unfolding keyed_state hmac outer_message inner_message
+  tag_of_text text =
+      let block : List ℕ = key_block (hash start step output) key in
+      let first : finish step output (fed step (fed step (initial_state start) (masked 0x36 block)) text)
+      ≡ hash start step output (masked 0x36 block ++ text) =
+      ap (finish step output) (laws.fed_twice step (initial_state start) (masked 0x36 block) text)
+      ∙ laws.finish_fed start step output (masked 0x36 block ++ text) in
+      ap (λ (bytes : List ℕ). finish step output (fed step (fed step (initial_state start) (masked 0x5c block)) bytes)) first
+      ∙ ap (finish step output)
+      (laws.fed_twice step (initial_state start) (masked 0x5c block) (hash start step output (masked 0x36 block ++ text)))
+      ∙ laws.finish_fed start step output (masked 0x5c block ++ hash start step output (masked 0x36 block ++ text))
+
+  -- states that stand for the key and a text: with no text yet, after one more piece, and their tag
+  pub stands_for_nothing : {state : KeyedState} → state ≡ keyed_state start step output key
+      → StandsFor start step output key [] state
+  stands_for_nothing new = record { is = new ∙ sym fed_nothing }
+
+  pub stands_for_more : (text bytes : List ℕ) (state : KeyedState) → StandsFor start step output key text state
+      → StandsFor start step output key (text ++ bytes) (fed_text step state bytes)
+  stands_for_more text bytes state stands = record {
+    is = ap (λ (s : KeyedState). fed_text step s bytes) stands.is
+        ∙ fed_twice step (keyed_state start step output key) text bytes;
+  }
+
+  pub tag_of_stands : (text : List ℕ) (state : KeyedState) → StandsFor start step output key text state
+      → tag_of step output state ≡ hmac (hash start step output) key text
+  tag_of_stands text state stands = ap (tag_of step output) stands.is ∙ tag_of_text text
+
+-- ---- saved bytes
+
+module _ {are_words : List ℕ → Type 0} {output : List ℕ → List ℕ} {n : ℕ} (tells : TellsWords are_words output n)
+    (s : KeyedState) (valid : IsKeyedState are_words s) where
+  first_size : length (core_and_tail output s.inner) ≡ n + 8 + 64
+  first_size = length-core_and_tail tells s.inner valid.inner
+
+  -- how many there are
+  pub length-hmac_bytes : length (hmac_bytes output s) ≡ (n + 8 + 64) + (n + 8 + 64)
+  length-hmac_bytes =
+      let both = length-append (core_and_tail output s.inner) (core_and_tail output s.outer) in
+      omega (arith, both, first_size, length-core_and_tail tells s.outer valid.outer)
+
+  -- the first of them are those of the inner state, and the others those of the outer one
+  pub inner_part : (bytes : List ℕ) → hmac_bytes output s ≡ bytes → core_and_tail output s.inner ≡ take (n + 8 + 64) bytes
+  inner_part bytes same =
+      sym (take-append_seam (core_and_tail output s.inner) (core_and_tail output s.outer)) ∙ rw (first_size, same) refl
+
+  pub outer_part : (bytes : List ℕ) → hmac_bytes output s ≡ bytes → core_and_tail output s.outer ≡ drop (n + 8 + 64) bytes
+  outer_part bytes same =
+      sym (drop-append_seam (core_and_tail output s.inner) (core_and_tail output s.outer)) ∙ rw (first_size, same) refl
+
+-- states that are saved as the same bytes are the same
+pub one_saved_hmac : {are_words : List ℕ → Type 0} {output : List ℕ → List ℕ} {n : ℕ} → TellsWords are_words output n
+    → (s t : KeyedState) → IsKeyedState are_words s → IsKeyedState are_words t
+    → hmac_bytes output s ≡ hmac_bytes output t → s ≡ t
+one_saved_hmac {output = output} tells s t of_s of_t same =
+    same_states s t
+    (one_saved_hasher tells s.inner t.inner of_s.inner of_t.inner
+    (inner_part tells s of_s (hmac_bytes output t) same ∙ sym (inner_part tells t of_t (hmac_bytes output t) refl)))
+    (one_saved_hasher tells s.outer t.outer of_s.outer of_t.outer
+    (outer_part tells s of_s (hmac_bytes output t) same ∙ sym (outer_part tells t of_t (hmac_bytes output t) refl)))
