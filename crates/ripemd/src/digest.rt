@@ -171,7 +171,7 @@ pub trait BlockDigest: Digest {
     type Core: BlockFunction<Digest = Self::Output>;
 
     // The digest of a message is the block function's hash of it.
-    ghost digest_is: { (message : List ℕ) (digest : Self.Output)
-        → Self.bytes_of digest ≡ hash Self.start Self.step Self.output message
-        → digest ≡ hash Self.Core.start_of Self.Core.step_of Self.Core.output_of message };
+    ghost digest_is: { (message : List ℕ)
+        → Self.bytes_of (hash Self.Core.start_of Self.Core.step_of Self.Core.output_of message)
+        ≡ hash Self.start Self.step Self.output message };
 }

@@ -189,5 +189,5 @@ impl<F: HashFunction> BlockDigest for BlockHasher<F> {
 
     ghost use Rattle.ripemd_block.specs.Listed.{hash_listed};
 
-    ghost digest_is = { hash_listed F.over_lists F.Digest.same_array F.start_of };
+    ghost digest_is = { hash_listed F.over_lists F.start_of };
 }

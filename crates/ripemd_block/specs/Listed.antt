@@ -1,6 +1,6 @@
 -- A block function over lists of numbers, in place of states of its own (this repository's own): for
 -- arrays, which are their lists, it is the block function itself.
-use Rattle.std.proofs.Common.{◌≡◌, ℕ, refl, sym, ap, ◌∙◌}
+use Rattle.std.proofs.Common.{◌≡◌, ℕ, refl, ap, ◌∙◌}
 use Rattle.std.proofs.Common.{List, [], ◌∷◌, length}
 use Rattle.ripemd_block.specs.Standard.Hashing.{padded_message, blocks, walk, hash}
 
@@ -25,20 +25,15 @@ pub record TellsWords (are_words : List ℕ → Type 0) (output : List ℕ → L
 module _ {S D : Type 0} {list : S → List ℕ} {is_state : S → Type 0} {step_of : S → List ℕ → S} {output_of : S → D}
     {bytes : D → List ℕ} {are_words : List ℕ → Type 0} {step : List ℕ → List ℕ → List ℕ} {output : List ℕ → List ℕ}
     (lists : IsOverLists list is_state step_of output_of bytes are_words step output) where
-  -- the list of a state is one
-  pub words_listed : (s : S) → is_state s → are_words (list s)
-  words_listed = lists.of_state
-
   -- the walk from the list of a state leads to the list of the state to which the walk from it leads
   pub walk_listed : (s : S) (bs : List (List ℕ)) → list (walk step_of s bs) ≡ walk step (list s) bs
   walk_listed s [] = refl
   walk_listed s (b ∷ bs) = walk_listed (step_of s b) bs ∙ ap (λ (xs : List ℕ). walk step xs bs) (lists.of_step s b)
 
-  -- so the hash by lists is the hash by states
-  pub hash_listed : ((c d : D) → bytes c ≡ bytes d → c ≡ d) → (start : S) (message : List ℕ) (d : D)
-      → bytes d ≡ hash (list start) step output message → d ≡ hash start step_of output_of message
+  -- so the hash by states has the bytes of the hash by lists
+  pub hash_listed : (start : S) (message : List ℕ)
+      → bytes (hash start step_of output_of message) ≡ hash (list start) step output message
   unfolding hash
-  hash_listed same_digest start message d same =
+  hash_listed start message =
       let bs = blocks (padded_message message) in
-      let ends = walk step_of start bs in
-      same_digest d (output_of ends) (same ∙ ap output (sym (walk_listed start bs)) ∙ sym (lists.of_output ends))
+      lists.of_output (walk step_of start bs) ∙ ap output (walk_listed start bs)

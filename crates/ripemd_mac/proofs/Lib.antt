@@ -1,3 +1,2 @@
 pub mod Differences
 pub mod MacReduction
-pub mod Outer

@@ -1,8 +1,10 @@
 -- What collisions of the inner and of the outer messages say of the texts.
-use Rattle.std.proofs.Common.{◌≡◌, ◌≢◌, ◌⊎◌, inl, inr, ◌↔◌, ℕ, sym, ap, subst, ◌∙◌}
+use Rattle.std.proofs.Common.{◌≡◌, ◌≢◌, ◌⊎◌, inl, inr, ◌↔◌, ℕ, sym, ap, subst, refl, rules, ◌∙◌}
 use Rattle.std.proofs.Common.{List, ◌++◌, Option, None, Some, Result, Ok, Err}
-use Rattle.std.specs.Prelude.{IsErr, OnErr}
-use Rattle.ripemd.specs.Collisions.{IsCollision}
+use Rattle.std.proofs.lemmas.List.{append_cancel_left}
+use Rattle.std.proofs.lemmas.Bool.{false≢true}
+use Rattle.std.specs.Prelude.{IsErr, OnErr, IsNone, IfSome, IsSomeAnd, MatchOption}
+use Rattle.ripemd.specs.Collisions.{IsCollision, IsOnlyCollision}
 use Rattle.ripemd.specs.declared.witness.Collision.{Collision}
 use Rattle.ripemd_mac.specs.declared.reduction.MacCollision.{MacCollision}
 use Rattle.ripemd_mac.specs.declared.reduction.MacCollision.TheVariants.{Inner, Outer}
@@ -16,92 +18,145 @@ moved start step x y x' y' c left right is =
     subst (λ (m : List ℕ). IsCollision start step x' m c) right
     (subst (λ (m : List ℕ). IsCollision start step m y c) left is)
 
--- two facts, where there is an error
-pub on_error : {X E P Q : Type 0} (r : Result X E) → P → Q → OnErr r (P × Q)
-on_error (Ok x) p q = tt
-on_error (Err e) p q = (p, q)
+-- two messages with one front are equal, or their hashes differ, exactly if it is so of what follows, and of another
+-- hash whose bytes are those
+pub after_front : {O : Type 0} (other : List ℕ → O) (bytes : O → List ℕ) (hash : List ℕ → List ℕ)
+    → ((m : List ℕ) → bytes (other m) ≡ hash m) → ((c d : O) → bytes c ≡ bytes d → c ≡ d) → (front a b : List ℕ)
+    → ((front ++ a ≡ front ++ b) ⊎ (other (front ++ a) ≢ other (front ++ b)))
+    ↔ ((a ≡ b) ⊎ (hash (front ++ a) ≢ hash (front ++ b)))
+after_front other bytes hash same one front a b =
+    let left = same (front ++ a) in
+    let right = same (front ++ b) in (
+      (λ nothing. elim nothing [
+        | inl equal ↦ inl (append_cancel_left front a b equal)
+        | inr apart ↦ inr (λ agree. apart (one _ _ (left ∙ agree ∙ sym right)))
+      ]),
+      (λ nothing. elim nothing [
+        | inl equal ↦ inl (ap (λ (m : List ℕ). front ++ m) equal)
+        | inr apart ↦ inr (λ agree. apart (sym left ∙ ap bytes agree ∙ right))
+      ]),
+    )
 
-module _ (hash : List ℕ → List ℕ) (key : List ℕ) where
-  -- a masked key block and a text are the inner message, and one and the first hash are the outer message
-  pub inner_is : (block masked_key text : List ℕ) → block ≡ key_block hash key → masked_key ≡ masked 0x36 block
-      → masked_key ++ text ≡ inner_message hash key text
-  unfolding inner_message
-  inner_is block masked_key text of_key is = ap (λ (k : List ℕ). k ++ text) (is ∙ ap (masked 0x36) of_key)
+-- the bytes of an inner digest
+pub inner_hash : (hash : List ℕ → List ℕ) (key masked_key text digest bytes : List ℕ)
+    → masked_key ≡ masked 0x36 (key_block hash key) → digest ≡ hash (masked_key ++ text) → bytes ≡ digest
+    → bytes ≡ hash (inner_message hash key text)
+unfolding inner_message
+inner_hash hash key masked_key text digest bytes is hashed same =
+    same ∙ hashed ∙ ap (λ (k : List ℕ). hash (k ++ text)) is
 
-  pub outer_is : (block masked_key bytes text : List ℕ) → block ≡ key_block hash key → masked_key ≡ masked 0x5c block
-      → bytes ≡ hash (inner_message hash key text) → masked_key ++ bytes ≡ outer_message hash key text
-  unfolding outer_message
-  outer_is block masked_key bytes text of_key is same =
-      ap (λ (k : List ℕ). k ++ bytes) (is ∙ ap (masked 0x5c) of_key)
-      ∙ ap (λ (bs : List ℕ). masked 0x5c (key_block hash key) ++ bs) same
+module _ (hash : List ℕ → List ℕ) (key a b : List ℕ) where
+  -- when there is nothing to be found
+  abbrev pub Nothing : Type 0
+  Nothing = (a ≡ b) ⊎ (hmac hash key a ≢ hmac hash key b)
 
-  -- the bytes of the first hash
-  pub first_bytes : (block masked_key digest bytes text : List ℕ) → block ≡ key_block hash key
-      → masked_key ≡ masked 0x36 block → digest ≡ hash (masked_key ++ text) → bytes ≡ digest
-      → bytes ≡ hash (inner_message hash key text)
-  first_bytes block masked_key digest bytes text of_key is hashed same =
-      same ∙ hashed ∙ ap hash (inner_is block masked_key text of_key is)
+  pub tags_agree : InnerAgree hash key a b → hmac hash key a ≡ hmac hash key b
+  unfolding hmac outer_message
+  tags_agree agree = ap (λ (bs : List ℕ). hash (masked 0x5c (key_block hash key) ++ bs)) agree
 
-  module _ (a b : List ℕ) where
-    -- when there is nothing to be found
-    abbrev pub Nothing : Type 0
-    Nothing = (a ≡ b) ⊎ (hmac hash key a ≢ hmac hash key b)
+  -- out of memory
+  pub no_memory : {X E : Type 0} (r : Result (Option X) E) → IsErr r → a ≢ b → InnerAgree hash key a b
+      → ((r ≡ Ok None) ↔ Nothing) × OnErr r ((a ≢ b) × InnerAgree hash key a b)
+  no_memory (Ok x) refused differ agree = absurd (cc)
+  no_memory (Err e) refused differ agree = (
+    (
+      (λ none. absurd (cc)),
+      (λ nothing. elim nothing [
+        | inl same ↦ absurd (differ same)
+        | inr apart ↦ absurd (apart (tags_agree agree))
+      ]),
+    ),
+    (differ, agree),
+  )
 
-    pub tags_agree : InnerAgree hash key a b → hmac hash key a ≡ hmac hash key b
+  module _ {S : Type 0} (start : S) (step : S → List ℕ → S) where
+    -- the answer where memory suffices
+    pub record IsAnswer (E : Type 0) (answer : Option (MacCollision S)) : Type 0 where
+      pub none : (◌≡◌ {A = Result (Option (MacCollision S)) E} (Ok answer) (Ok None)) ↔ Nothing
+      pub some : IfSome answer (IsMacCollision hash start step key a b)
+      pub only : IfSome answer (λ found. (other : MacCollision S)
+          → IsMacCollision hash start step key a b other → other ≡ found)
+
+    -- it is that of two messages whose collisions, wrapped, are those of the tags
+    wrapped : {E : Type 0} (wrap : Collision S → MacCollision S) (x y : List ℕ)
+        → ((c : Collision S) → IsCollision start step x y c → IsMacCollision hash start step key a b (wrap c))
+        → ((m : MacCollision S) → IsMacCollision hash start step key a b m
+        → (c : Collision S) × (m ≡ wrap c) × IsCollision start step x y c)
+        → (found : Option (Collision S)) (answer : Option (MacCollision S))
+        → MatchOption found (answer ≡ None) (λ c. IsSomeAnd answer (λ m. m ≡ wrap c))
+        → (IsNone found ↔ Nothing) → IfSome found (IsCollision start step x y) → IsOnlyCollision start step x y found
+        → IsAnswer E answer
+    wrapped wrap x y into back None None is none some only =
+        record { none = (λ _. none.0 refl, λ _. refl); some = tt; only = tt }
+    wrapped wrap x y into back None (Some m) is none some only = absurd (cc)
+    wrapped wrap x y into back (Some c) None is none some only = absurd is
+    wrapped wrap x y into back (Some c) (Some m) is none some only = record {
+      none = (λ same. absurd (cc), λ nothing. absurd (false≢true (sym (none.1 nothing))));
+      some = rw is (into c some);
+      only = λ other its.
+          let from = back other its in
+          let same : Some c ≡ Some from.0 = only from.0 from.2 in
+          from.1 ∙ ap wrap (search (rules, same)) ∙ sym is;
+    }
+
+    -- of the inner messages, whose hashes agree
+    of_inner : (x y : List ℕ) → inner_message hash key a ≡ x → inner_message hash key b ≡ y → (m : MacCollision S)
+        → IsMacCollision hash start step key a b m → InnerAgree hash key a b
+        → (c : Collision S) × (m ≡ Inner c) × IsCollision start step x y c
+    of_inner x y left right (Inner c) is agree = (c, refl, moved start step _ _ x y c left right is.1)
+    of_inner x y left right (Outer c) is agree = absurd (is.0 agree)
+
+    pub inner_answer : {E : Type 0} (masked_key : List ℕ) → masked_key ≡ masked 0x36 (key_block hash key)
+        → InnerAgree hash key a b → (found : Option (Collision S)) (answer : Option (MacCollision S))
+        → MatchOption found (answer ≡ None) (λ c. IsSomeAnd answer (λ m. m ≡ Inner c))
+        → (IsNone found ↔ ((a ≡ b) ⊎ (hash (masked_key ++ a) ≢ hash (masked_key ++ b))))
+        → IfSome found (IsCollision start step (masked_key ++ a) (masked_key ++ b))
+        → IsOnlyCollision start step (masked_key ++ a) (masked_key ++ b) found → IsAnswer E answer
+    unfolding inner_message
+    inner_answer masked_key is agree found answer met none some only =
+        let left = ap (λ (k : List ℕ). k ++ a) is in
+        let right = ap (λ (k : List ℕ). k ++ b) is in
+        let same : hash (masked_key ++ a) ≡ hash (masked_key ++ b) = ap hash left ∙ agree ∙ sym (ap hash right) in
+        wrapped Inner (masked_key ++ a) (masked_key ++ b) (λ c its. (agree, moved start step _ _ _ _ c left right its))
+        (λ m its. of_inner _ _ (sym left) (sym right) m its agree) found answer met (
+          (λ nothing. elim (none.0 nothing) [
+            | inl equal ↦ inl equal
+            | inr apart ↦ absurd (apart same)
+          ]),
+          (λ nothing. elim nothing [
+            | inl equal ↦ none.1 (inl equal)
+            | inr apart ↦ absurd (apart (tags_agree agree))
+          ]),
+        )
+        some only
+
+    -- of the outer messages, where the hashes of the inner ones differ
+    of_outer : (x y : List ℕ) → outer_message hash key a ≡ x → outer_message hash key b ≡ y → (m : MacCollision S)
+        → IsMacCollision hash start step key a b m → ¬ InnerAgree hash key a b
+        → (c : Collision S) × (m ≡ Outer c) × IsCollision start step x y c
+    of_outer x y left right (Inner c) is apart = absurd (apart is.0)
+    of_outer x y left right (Outer c) is apart = (c, refl, moved start step _ _ x y c left right is.1)
+
+    pub outer_answer : {E : Type 0} (masked_key c d : List ℕ) → masked_key ≡ masked 0x5c (key_block hash key)
+        → c ≡ hash (inner_message hash key a) → d ≡ hash (inner_message hash key b)
+        → ¬ InnerAgree hash key a b → (found : Option (Collision S)) (answer : Option (MacCollision S))
+        → MatchOption found (answer ≡ None) (λ o. IsSomeAnd answer (λ m. m ≡ Outer o))
+        → (IsNone found ↔ ((c ≡ d) ⊎ (hash (masked_key ++ c) ≢ hash (masked_key ++ d))))
+        → IfSome found (IsCollision start step (masked_key ++ c) (masked_key ++ d))
+        → IsOnlyCollision start step (masked_key ++ c) (masked_key ++ d) found → IsAnswer E answer
     unfolding hmac outer_message
-    tags_agree agree = ap (λ (bs : List ℕ). hash (masked 0x5c (key_block hash key) ++ bs)) agree
-
-    something : a ≢ b → ¬ (hmac hash key a ≢ hmac hash key b) → Nothing → ⊥
-    something differ together (inl same) = differ same
-    something differ together (inr apart) = together apart
-
-    -- an answer that is there, one that is not, and out of memory
-    pub some_answer : {X E : Type 0} (r : Result (Option X) E) (x : X) → r ≡ Ok (Some x) → a ≢ b
-        → ¬ (hmac hash key a ≢ hmac hash key b) → (r ≡ Ok None) ↔ Nothing
-    some_answer r x is differ together = (λ none. absurd (cc), λ nothing. absurd (something differ together nothing))
-
-    pub no_answer : {X E : Type 0} (r : Result (Option X) E) → r ≡ Ok None → hmac hash key a ≢ hmac hash key b
-        → (r ≡ Ok None) ↔ Nothing
-    no_answer r is apart = (λ none. inr apart, λ nothing. is)
-
-    pub no_memory : {X E : Type 0} (r : Result (Option X) E) → IsErr r → a ≢ b
-        → ¬ (hmac hash key a ≢ hmac hash key b) → (r ≡ Ok None) ↔ Nothing
-    no_memory (Ok x) refused differ together = absurd (cc)
-    no_memory (Err e) refused differ together =
-        (λ none. absurd (cc), λ nothing. absurd (something differ together nothing))
-
-    module _ {S : Type 0} (start : S) (step : S → List ℕ → S) (x y : List ℕ) (c : Collision S) where
-      -- a collision of the inner messages
-      pub inner_collides : x ≡ inner_message hash key a → y ≡ inner_message hash key b → InnerAgree hash key a b
-          → IsCollision start step x y c → IsMacCollision hash start step key a b (Inner c)
-      inner_collides left right agree is = (agree, moved start step x y _ _ c left right is)
-
-      pub inner_only : x ≡ inner_message hash key a → y ≡ inner_message hash key b → InnerAgree hash key a b
-          → ((other : Collision S) → IsCollision start step x y other → other ≡ c)
-          → (other : MacCollision S) → IsMacCollision hash start step key a b other → other ≡ Inner c
-      inner_only left right agree only (Inner o) is =
-          ap Inner (only o (moved start step _ _ x y o (sym left) (sym right) is.1))
-      inner_only left right agree only (Outer o) is = absurd (is.0 agree)
-
-      -- a collision of the outer messages
-      pub outer_collides : x ≡ outer_message hash key a → y ≡ outer_message hash key b → ¬ InnerAgree hash key a b
-          → IsCollision start step x y c → IsMacCollision hash start step key a b (Outer c)
-      outer_collides left right apart is = (apart, moved start step x y _ _ c left right is)
-
-      pub outer_only : x ≡ outer_message hash key a → y ≡ outer_message hash key b → ¬ InnerAgree hash key a b
-          → ((other : Collision S) → IsCollision start step x y other → other ≡ c)
-          → (other : MacCollision S) → IsMacCollision hash start step key a b other → other ≡ Outer c
-      outer_only left right apart only (Inner o) is = absurd (apart is.0)
-      outer_only left right apart only (Outer o) is =
-          ap Outer (only o (moved start step _ _ x y o (sym left) (sym right) is.1))
-
-    -- the tags agree exactly where the hashes of the outer messages do
-    pub same_tags : (x y : List ℕ) → x ≡ outer_message hash key a → y ≡ outer_message hash key b
-        → hash x ≡ hash y → hmac hash key a ≡ hmac hash key b
-    unfolding hmac
-    same_tags x y left right same = sym (ap hash left) ∙ same ∙ ap hash right
-
-    pub other_tags : (x y : List ℕ) → x ≡ outer_message hash key a → y ≡ outer_message hash key b
-        → hash x ≢ hash y → hmac hash key a ≢ hmac hash key b
-    unfolding hmac
-    other_tags x y left right apart same = apart (ap hash left ∙ same ∙ sym (ap hash right))
+    outer_answer masked_key c d is of_a of_b differ found answer met none some only =
+        let left = ap (λ (k : List ℕ). k ++ c) is ∙ ap (λ (bs : List ℕ). masked 0x5c (key_block hash key) ++ bs) of_a in
+        let right = ap (λ (k : List ℕ). k ++ d) is ∙ ap (λ (bs : List ℕ). masked 0x5c (key_block hash key) ++ bs) of_b in
+        wrapped Outer (masked_key ++ c) (masked_key ++ d) (λ o its. (differ, moved start step _ _ _ _ o left right its))
+        (λ m its. of_outer _ _ (sym left) (sym right) m its differ) found answer met (
+          (λ nothing. elim (none.0 nothing) [
+            | inl equal ↦ absurd (differ (sym of_a ∙ equal ∙ of_b))
+            | inr apart ↦ inr (λ same. apart (ap hash left ∙ same ∙ sym (ap hash right)))
+          ]),
+          (λ nothing. elim nothing [
+            | inl equal ↦ absurd (differ (ap (λ (t : List ℕ). hash (inner_message hash key t)) equal))
+            | inr apart ↦ none.1 (inr (λ same. apart (sym (ap hash left) ∙ same ∙ ap hash right)))
+          ]),
+        )
+        some only

@@ -1,15 +1,15 @@
 //! From two texts with the same tag under one key to a collision of the block function.
 
-ghost use Rattle.std.specs.Prelude.{◌≡◌, ◌≢◌, ◌+◌, ◌-◌, ◌<◌, ◌≤◌, ◌^◌, ◌↔◌, ◌⊎◌};
-ghost use Rattle.std.specs.Prelude.{◌++◌, length, take, drop, IsNone, IfOk, IfSome, OnErr};
+ghost use Rattle.std.specs.Prelude.{◌≡◌, ◌≢◌, ◌+◌, ◌-◌, ◌<◌, ◌^◌, ◌↔◌, ◌⊎◌};
+ghost use Rattle.std.specs.Prelude.{◌++◌, length, IsNone, IfOk, IfSome, OnErr};
 ghost use Rattle.ripemd.specs.Standard.Hashing.{hash};
-ghost use Rattle.ripemd.specs.Collisions.{IsCollision};
+ghost use Rattle.ripemd.specs.Collisions.{IsCollision, IsOnlyCollision};
 ghost use Rattle.ripemd.specs.declared.witness.Collision.{Collision};
 ghost use Rattle.ripemd_mac.specs.declared.reduction.MacCollision.{MacCollision};
-ghost use Rattle.ripemd_mac.specs.Keyed.{filled, hmac};
+ghost use Rattle.ripemd_mac.specs.Keyed.{hmac};
 ghost use Rattle.ripemd_mac.specs.MacCollisions.{InnerAgree, IsMacCollision};
 
-use crate::keyed::{key_block, masked};
+use crate::keyed::masked_keys;
 use ripemd::digest::BlockDigest;
 use ripemd::witness::{BlockFunction, Collision, collision_witness};
 use std::alloc::{AllocError, Global};
@@ -58,20 +58,23 @@ pub fn mac_collision<D: BlockDigest>(
     if a == b {
         return Ok(None);
     }
-    let block = key_block::<D>(key);
-    let inner_key = masked(&block, 0x36);
-    let a_digest = prefixed_digest::<D>(&inner_key, a);
-    let b_digest = prefixed_digest::<D>(&inner_key, b);
+    let keys = masked_keys::<D>(key);
+    let a_digest = prefixed_digest::<D>(&keys.inner, a);
+    let b_digest = prefixed_digest::<D>(&keys.inner, b);
     let a_bytes = D::output_bytes(&a_digest);
     let b_bytes = D::output_bytes(&b_digest);
     if a_bytes == b_bytes {
-        let collision = inner_collision::<D::Core>(alloc, &inner_key, a, b)?;
-        return Ok(Some(MacCollision::Inner(collision)));
+        let mut left = vec![in alloc; 0; 64 + a.len()]?;
+        let mut right = vec![in alloc; 0; 64 + b.len()]?;
+        let collision = prefixed_collision::<D>(&keys.inner, a, b, &mut left, &mut right);
+        return Ok(collision.map(MacCollision::Inner));
     }
-    match outer_collision::<D>(&masked(&block, 0x5c), a_bytes, b_bytes) {
-        Some(collision) => Ok(Some(MacCollision::Outer(collision))),
-        None => Ok(None),
-    }
+    let mut left = [0; 128];
+    let mut right = [0; 128];
+    let left = &mut left[..64 + a_bytes.len()];
+    let right = &mut right[..64 + b_bytes.len()];
+    let collision = prefixed_collision::<D>(&keys.outer, a_bytes, b_bytes, left, right);
+    Ok(collision.map(MacCollision::Outer))
 }
 
 // The digest of a masked key and then some bytes.
@@ -83,96 +86,38 @@ fn prefixed_digest<D: BlockDigest>(masked_key: &[u8; 64], bytes: &[u8]) -> D::Ou
         .finalize()
 }
 
-// The collision of two different inner messages with one hash.
-fn inner_collision<F: BlockFunction>(
-    alloc: Global,
+// The collision of two messages, each a masked key and then some bytes. It writes them to `left` and
+// `right`.
+fn prefixed_collision<D: BlockDigest>(
     masked_key: &[u8; 64],
     a: &[u8],
     b: &[u8],
-) -> Result<Collision<F::State>, AllocError>
+    left: &mut [u8],
+    right: &mut [u8],
+) -> Option<Collision<<D::Core as BlockFunction>::State>>
     requires a_short { length a.now < 2 ^ 61 - 64 }
     requires b_short { length b.now < 2 ^ 61 - 64 }
-    requires differ { a.now ≢ b.now }
-    requires same { hash F.start_of F.step_of F.output_of (masked_key.now ++ a.now)
-        ≡ hash F.start_of F.step_of F.output_of (masked_key.now ++ b.now) }
-    ensures is { IfOk result (IsCollision F.start_of F.step_of
-        (masked_key.now ++ a.now) (masked_key.now ++ b.now)) }
-    ensures only { IfOk result (λ found. (other : Collision _) → IsCollision F.start_of F.step_of
-        (masked_key.now ++ a.now) (masked_key.now ++ b.now) other → other ≡ found) }
-{
-    let left = joined(alloc, masked_key, a)?;
-    let right = joined(alloc, masked_key, b)?;
-    Ok(collision_of::<F>(&left, &right))
-}
-
-// The collision of two different outer messages, if they have one hash.
-fn outer_collision<D: BlockDigest>(
-    masked_key: &[u8; 64],
-    a: &[u8],
-    b: &[u8],
-) -> Option<Collision<<D::Core as BlockFunction>::State>>
-    requires a_most { length a.now ≤ 64 }
-    requires b_most { length b.now ≤ 64 }
-    requires differ { a.now ≢ b.now }
-    ensures none { IsNone result ↔ (hash D.start D.step D.output (masked_key.now ++ a.now)
-        ≢ hash D.start D.step D.output (masked_key.now ++ b.now)) }
+    requires left_size { length left.old ≡ 64 + length a.now }
+    requires right_size { length right.old ≡ 64 + length b.now }
+    ensures none { IsNone result ↔ ((a.now ≡ b.now)
+        ⊎ (hash D.start D.step D.output (masked_key.now ++ a.now)
+        ≢ hash D.start D.step D.output (masked_key.now ++ b.now))) }
     ensures some { IfSome result (IsCollision D.Core.start_of D.Core.step_of
         (masked_key.now ++ a.now) (masked_key.now ++ b.now)) }
-    ensures only { IfSome result (λ found. (other : Collision _)
-        → IsCollision D.Core.start_of D.Core.step_of
-        (masked_key.now ++ a.now) (masked_key.now ++ b.now) other → other ≡ found) }
+    ensures only { IsOnlyCollision D.Core.start_of D.Core.step_of
+        (masked_key.now ++ a.now) (masked_key.now ++ b.now) result }
 {
-    let left = two_blocks(masked_key, a);
-    let right = two_blocks(masked_key, b);
-    let left = &left[..64 + a.len()];
-    let right = &right[..64 + b.len()];
-    let left_tag = D::digest(left);
-    let right_tag = D::digest(right);
-    if D::output_bytes(&left_tag) == D::output_bytes(&right_tag) {
-        Some(collision_of::<D::Core>(left, right))
-    } else {
-        None
-    }
+    join(masked_key, a, left);
+    join(masked_key, b, right);
+    collision_witness::<D::Core>(left, right)
 }
 
-// The collision of two different messages with one hash.
-fn collision_of<F: BlockFunction>(a: &[u8], b: &[u8]) -> Collision<F::State>
-    requires a_short { length a.now < 2 ^ 61 }
-    requires b_short { length b.now < 2 ^ 61 }
-    requires differ { a.now ≢ b.now }
-    requires same { hash F.start_of F.step_of F.output_of a.now
-        ≡ hash F.start_of F.step_of F.output_of b.now }
-    ensures is { IsCollision F.start_of F.step_of a.now b.now result }
-    ensures only { (other : Collision _) → IsCollision F.start_of F.step_of a.now b.now other
-        → other ≡ result }
+// Writes a masked key and then some bytes.
+fn join(masked_key: &[u8; 64], bytes: &[u8], out: &mut [u8])
+    requires { length out.old ≡ 64 + length bytes.now }
+    ensures { out.new ≡ masked_key.now ++ bytes.now }
 {
-    collision_witness::<F>(a, b).unwrap()
-}
-
-// A masked key and then a text.
-fn joined(alloc: Global, masked_key: &[u8; 64], text: &[u8]) -> Result<Vec<u8>, AllocError>
-    ensures { IfOk result (λ message. message.items ≡ masked_key.now ++ text.now) }
-{
-    let mut message = Vec::from_slice(alloc, masked_key)?;
-    message.extend_from_slice(text)?;
-    Ok(message)
-}
-
-// A masked key, and a digest filled with zeros to a block.
-fn two_blocks(masked_key: &[u8; 64], digest: &[u8]) -> [u8; 128]
-    requires { length digest.now ≤ 64 }
-    ensures { result ≡ masked_key.now ++ filled digest.now }
-{
-    let mut blocks = [0; 128];
-    put(&mut blocks, 0, masked_key);
-    put(&mut blocks, 64, digest);
-    blocks
-}
-
-// Writes bytes over those at a place.
-fn put(all: &mut [u8], place: usize, bytes: &[u8])
-    requires { place + length bytes.now ≤ length all.old }
-    ensures { all.new ≡ take place all.old ++ bytes.now ++ drop (place + length bytes.now) all.old }
-{
-    all[place..place + bytes.len()].copy_from_slice(bytes);
+    let (front, back) = out.split_at_mut(64);
+    front.copy_from_slice(masked_key);
+    back.copy_from_slice(bytes);
 }
