@@ -1,5 +1,14 @@
--- Three arguments, and two answers that are one.
-use Rattle.std.proofs.Common.{◌≡◌, ◌<◌, ◌≤◌, List, [], ◌∷◌, length, map, get_or, Option, Some, refl, arith}
+-- What arguments ask for: three of them, and never both a digest and a tag.
+use Rattle.std.proofs.Common.{◌≡◌, ℕ, ◌<◌, ◌≤◌, List, [], ◌∷◌, length, map, get_or, Option, Some, refl, arith}
+use Rattle.ripemd_sum.specs.declared.variant.Variant.{Variant}
+use Rattle.ripemd_sum.specs.Arguments.{Chooses, ChoosesMac}
+
+-- no arguments ask for both
+pub not_both : (arguments : List (List ℕ)) (v w : Variant) (count : ℕ)
+    → Chooses arguments v → ¬ ChoosesMac arguments w count
+not_both [] v w count digest tag = tag
+not_both (name ∷ []) v w count digest tag = tag
+not_both (name ∷ word ∷ rest) v w count digest tag = digest
 
 -- three elements, each read at its place
 pub map-three : {X Y : Type 0} (f : X → Y) (xs : List X) {a b c : X} → 3 ≤ length xs → length xs < 4

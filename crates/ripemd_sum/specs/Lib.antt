@@ -1,6 +1,5 @@
 -- What the program promises: what has to be believed of a run.
-pub mod Variants
-pub mod Keys
+pub mod Arguments
 pub mod Runs
 pub mod Faults
 -- Worked cases of these.

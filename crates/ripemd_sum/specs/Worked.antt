@@ -5,8 +5,7 @@ use Rattle.std.specs.declared.io.Error.{Error}
 use Rattle.ripemd_sum.specs.declared.variant.Variant.{Variant}
 use Rattle.ripemd_sum.specs.declared.variant.Variant.TheVariants.{R128, R160, R256, R320}
 use Rattle.ripemd_sum.specs.declared.fault.RunFault.TheVariants.{Read, TooLong, Write}
-use Rattle.ripemd_sum.specs.Variants.{Chooses}
-use Rattle.ripemd_sum.specs.Keys.{IsKeyText, ChoosesMac, HasKey, AsksNothing}
+use Rattle.ripemd_sum.specs.Arguments.{Chooses, IsKeyText, ChoosesMac, HasKey, AsksNothing}
 use Rattle.ripemd_sum.specs.declared.tracked.Tracked.{Tracked}
 use Rattle.ripemd_sum.specs.Runs.{digest_line, tag_line, GivesAll, FailsToGive, GivesTooMuch, Gets}
 use Rattle.ripemd_sum.specs.declared.fault.RunFault.{RunFault}

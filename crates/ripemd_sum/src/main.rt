@@ -3,10 +3,10 @@
 #![tactic(auto)]
 
 mod any_hasher;
+mod arguments;
 mod engine;
 mod facts;
 mod fault;
-mod key;
 #[cfg(test)]
 mod tests;
 mod tracked;
@@ -14,20 +14,18 @@ mod variant;
 
 ghost use Rattle.std.specs.Prelude.{◌≡◌, ◌↔◌, ℕ, List, IsNone, IfNone, IfSome, false, map, string_bytes};
 ghost use Rattle.ripemd_sum.specs.Track.{has_failed, taken_of};
-ghost use Rattle.ripemd_sum.specs.Variants.{Chooses};
-ghost use Rattle.ripemd_sum.specs.Keys.{ChoosesMac, HasKey, AsksNothing};
+ghost use Rattle.ripemd_sum.specs.Arguments.{Chooses, ChoosesMac, HasKey, AsksNothing};
 ghost use Rattle.ripemd_sum.specs.Runs.{digest_line, tag_line, most_bytes, most_bytes_under_a_key};
 ghost use Rattle.ripemd_sum.specs.Faults.{IsRun};
 ghost use Rattle.ripemd_sum.specs.declared.variant.Variant.{Variant};
 
+use arguments::{choose, choose_mac};
 use engine::{run, run_mac};
 use fault::RunFault;
-use key::choose_mac;
 use std::io::{Read, Write};
 use std::process::ExitCode;
 use std::{env, io};
 use tracked::Tracked;
-use variant::choose;
 
 /// What the program prints, with status 2, if it does not know its arguments.
 pub const USAGE: &str = "usage: ripemd_sum [128|160|256|320]";
@@ -43,7 +41,7 @@ const LIMIT: u64 = u64::MAX / 8;
 const MAC_LIMIT: u64 = LIMIT - 64;
 
 // The arguments after the program's name.
-fn arguments(rt: &HostRuntime) -> io::Result<Vec<String>> {
+fn collect_arguments(rt: &HostRuntime) -> io::Result<Vec<String>> {
     Ok(env::args(rt)?.skip(1).collect(rt.alloc())?)
 }
 
@@ -73,8 +71,7 @@ fn perform<R: Read, W: Write>(
     ensures none { IsNone result ↔ AsksNothing (map string_bytes arguments.now) }
     ensures untouched { IfNone result ((reader.new ≡ reader.old) × (writer.new ≡ writer.old)) }
 {
-    if arguments.len() < 3 {
-        let variant = choose(arguments)?;
+    if let Some(variant) = choose(arguments) {
         return Some(run(variant, reader, writer, LIMIT));
     }
     let mut key = [0; 64];
@@ -83,7 +80,7 @@ fn perform<R: Read, W: Write>(
 }
 
 fn main(rt: HostRuntime) -> ExitCode {
-    let Ok(arguments) = arguments(&rt) else {
+    let Ok(arguments) = collect_arguments(&rt) else {
         complain(&rt, NO_MEMORY);
         return ExitCode::from(3);
     };

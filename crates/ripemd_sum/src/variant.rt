@@ -1,7 +1,7 @@
 //! Which hash the program computes.
 
-ghost use Rattle.std.specs.Prelude.{◌≡◌, ◌↔◌, Some, map, string_bytes};
-ghost use Rattle.ripemd_sum.specs.Variants.{name_of, Chooses};
+ghost use Rattle.std.specs.Prelude.{◌≡◌, ◌↔◌, Some};
+ghost use Rattle.ripemd_sum.specs.Arguments.{name_of};
 ghost use Rattle.ripemd_sum.specs.declared.variant.Variant.{Variant};
 
 /// A hash that the program has.
@@ -30,17 +30,5 @@ impl Variant {
             "320" => Some(Variant::R320),
             _ => None,
         }
-    }
-}
-
-/// The variant that the program's arguments ask for: none is RIPEMD-160, one is the name of a
-/// variant; `None` for every other argument and for more of them.
-pub fn choose(arguments: &[String]) -> Option<Variant>
-    ensures { (v : Variant) → (result ≡ Some v) ↔ Chooses (map string_bytes arguments.now) v }
-{
-    match arguments {
-        [] => Some(Variant::R160),
-        [name] => Variant::from_name(name.as_str()),
-        _ => None,
     }
 }

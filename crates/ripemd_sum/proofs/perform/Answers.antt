@@ -1,13 +1,18 @@
+use Rattle.ripemd_sum.proofs.Choosing.{not_both}
 use Rattle.ripemd_sum.proofs.perform.Goals as goal
 
-pub returns-then-arguments-lt3-clause-none : goal.returns-then-arguments-lt3-clause-none
-returns-then-arguments-lt3-clause-none g c = (
+pub returns-in-Some-clause-tag : goal.returns-in-Some-clause-tag
+returns-in-Some-clause-tag g c v count key chosen has_key =
+    absurd (not_both _ _ v count ((c.choose.ensures c.in-Some.variant).0 c.in-Some.is) chosen)
+
+pub returns-in-Some-clause-none : goal.returns-in-Some-clause-none
+returns-in-Some-clause-none g c = (
   λ none. cc none,
-  λ nothing. absurd (nothing.no_digest _ ((c.choose.ensures c.in_ok-variant.variant).0 c.in_ok-variant.was)),
+  λ nothing. absurd (nothing.no_digest _ ((c.choose.ensures c.in-Some.variant).0 c.in-Some.is)),
 )
 
 pub returns-clause-none : goal.returns-clause-none
 returns-clause-none g c = (
   λ none. cc none,
-  λ nothing. absurd (nothing.no_tag _ _ ((c.choose_mac.ensures.chosen _ _).0 c.in_ok-variant-2.was)),
+  λ nothing. absurd (nothing.no_tag _ _ ((c.choose_mac.ensures.chosen _ _).0 c.in_ok-variant.was)),
 )

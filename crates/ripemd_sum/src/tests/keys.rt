@@ -2,7 +2,7 @@
 //! for no tag, are tried on the built program.
 
 use super::{VARIANTS, arguments_of, name_of};
-use crate::key::{choose_mac, parse_key};
+use crate::arguments::{choose_mac, parse_key};
 use crate::variant::Variant;
 use std::alloc::{AllocError, Global};
 use std::test::Fail;

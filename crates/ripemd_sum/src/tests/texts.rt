@@ -2,8 +2,9 @@
 //! prints, are tried on the built program.
 
 use super::{VARIANTS, arguments_of, name_of};
+use crate::arguments::choose;
 use crate::fault::{ReadFault, RunFault};
-use crate::variant::{Variant, choose};
+use crate::variant::Variant;
 use std::alloc::{AllocError, Global};
 use std::fmt::Display;
 use std::io;

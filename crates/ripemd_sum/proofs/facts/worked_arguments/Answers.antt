@@ -1,7 +1,7 @@
 use Rattle.std.proofs.Common.{◌≡◌, ℕ, ◌≤◌, List, [], ◌∷◌, length, Ok, refl, arith}
 use Rattle.hex.specs.Hex.{decode_of, decode_pairs}
 use Rattle.hex.proofs.HexLemmas.{decode_of-ok}
-use Rattle.ripemd_sum.specs.Keys.{IsKeyText}
+use Rattle.ripemd_sum.specs.Arguments.{IsKeyText}
 use Rattle.ripemd_sum.proofs.facts.worked_arguments.Goals as goal
 
 -- a text that decodes to at most 64 bytes is the text of a key

@@ -2,7 +2,7 @@ use Rattle.std.proofs.Common.{◌≡◌, ◌*◌, ◌/◌, length, take, ap, sym
 use Rattle.std.specs.Prelude.{Some, IsOk}
 use Rattle.std.proofs.lemmas.List.{length-take-le}
 use Rattle.hex.proofs.HexLemmas.{IsOk-decode_sized, IsOk-written}
-use Rattle.ripemd_sum.proofs.key.parse_key.Goals as goal
+use Rattle.ripemd_sum.proofs.arguments.parse_key.Goals as goal
 
 pub returns-in_err-ok-clause-length : goal.returns-in_err-ok-clause-length
 returns-in_err-ok-clause-length c n =

@@ -1,9 +1,22 @@
--- The texts of keys, and what the program's arguments ask for with one.
+-- What the program's arguments ask for.
 use Rattle.std.specs.Prelude.{◌≡◌, ℕ, ◌*◌, ◌≤◌, List, [], ◌∷◌, length, codes, Ok}
 use Rattle.std.specs.List.{AllPass}
 use Rattle.hex.specs.Hex.{decode_of, is_hex_digit}
 use Rattle.ripemd_sum.specs.declared.variant.Variant.{Variant}
-use Rattle.ripemd_sum.specs.Variants.{name_of, Chooses}
+use Rattle.ripemd_sum.specs.declared.variant.Variant.TheVariants.{R128, R160, R256, R320}
+
+-- the name of a variant
+abbrev pub name_of : Variant → List ℕ
+name_of R128 = codes "128"
+name_of R160 = codes "160"
+name_of R256 = codes "256"
+name_of R320 = codes "320"
+
+-- no argument asks for RIPEMD-160, and one for the variant that it names
+abbrev pub Chooses : List (List ℕ) → Variant → Type 0
+Chooses [] v = v ≡ R160
+Chooses (name ∷ []) v = name ≡ name_of v
+Chooses _ v = ⊥
 
 -- two hexadecimal digits, of either case, for each of so many bytes, at most 64
 pub record IsKeyText (text : List ℕ) (count : ℕ) : Type 0 where

@@ -1,7 +1,7 @@
 use Rattle.std.proofs.Common.{codes, string_bytes, sym, ◌∙◌, refl}
 use Rattle.std.proofs.lemmas.Slice.Eq.{bytes_eq-Decides}
 use Rattle.ripemd_sum.proofs.Choosing.{map-three, Some-parts, Some-pair}
-use Rattle.ripemd_sum.proofs.key.choose_mac.Goals as goal
+use Rattle.ripemd_sum.proofs.arguments.choose_mac.Goals as goal
 
 pub returns-in_err-length-in-len3-clause-chosen : goal.returns-in_err-length-in-len3-clause-chosen
 returns-in_err-length-in-len3-clause-chosen c v n =
