@@ -1,4 +1,4 @@
--- HMAC, the hash of a text under a key, by any hash function (RFC 2104), and its states.
+-- HMAC, the hash of a text under a key, by any hash function (RFC 2104, section 2), and its states.
 use Rattle.std.specs.Prelude.{◌≡◌, ℕ, ◌-◌, nat_le, if◌then◌else◌, List, ◌++◌, length, map, replicate}
 use Rattle.std.specs.Int.Bits.{bit_xor}
 use Rattle.ripemd.specs.Standard.Hashing.{hash}
@@ -6,7 +6,7 @@ use Rattle.ripemd.specs.States.{HashState, initial_state, fed, finish}
 
 -- ---- the tag
 
--- at most 64 bytes, filled with zeros to 64
+-- at most 64 bytes, filled with zeros to 64 (its step 1)
 abbrev pub filled : List ℕ → List ℕ
 filled bytes = bytes ++ replicate (64 - length bytes) 0
 
@@ -14,18 +14,19 @@ filled bytes = bytes ++ replicate (64 - length bytes) 0
 unfoldable pub key_block : (List ℕ → List ℕ) → List ℕ → List ℕ
 key_block hash key = filled (if nat_le (length key) 64 then key else hash key)
 
--- bytes with each combined with a mask, by exclusive or
+-- bytes with each combined with a mask, by exclusive or (steps 2 and 5: ipad is 0x36, opad 0x5c)
 abbrev pub masked : ℕ → List ℕ → List ℕ
 masked mask bytes = map (λ b. bit_xor b mask) bytes
 
--- the two messages that are hashed: a masked key block, and then the text or the inner hash
+-- the two messages that are hashed: a masked key block, and then the text or the inner hash (steps 3
+-- and 6)
 unfoldable pub inner_message : (List ℕ → List ℕ) → List ℕ → List ℕ → List ℕ
 inner_message hash key text = masked 0x36 (key_block hash key) ++ text
 
 unfoldable pub outer_message : (List ℕ → List ℕ) → List ℕ → List ℕ → List ℕ
 outer_message hash key text = masked 0x5c (key_block hash key) ++ hash (inner_message hash key text)
 
--- the tag of a text under a key
+-- the tag of a text under a key (step 7)
 unfoldable pub hmac : (List ℕ → List ℕ) → List ℕ → List ℕ → List ℕ
 hmac hash key text = hash (outer_message hash key text)
 

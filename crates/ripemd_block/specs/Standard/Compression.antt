@@ -1,5 +1,4 @@
--- The compression functions of RIPEMD-128, RIPEMD-160, RIPEMD-256 and RIPEMD-320 (the 1996 paper:
--- its operations in one step, its pseudo-code, and its extensions to 256 and 320 bits).
+-- The compression functions of RIPEMD-128, RIPEMD-160, RIPEMD-256 and RIPEMD-320 (1996).
 use Rattle.std.specs.Prelude.{ℕ, zero, suc, ◌-◌, Option, Some, None}
 use Rattle.std.specs.Prelude.{List, [], ◌∷◌, ◌++◌, length, take, drop, slice_get, slice_index, slice_set}
 use Rattle.ripemd_block.specs.Standard.Words.{◌⊞◌, rol, message_word}
@@ -17,11 +16,11 @@ pub record Parameters : Type 0 where
   pub exchanges : List ℕ
   pub combination : List ℕ → List ℕ → List ℕ → List ℕ
 
--- the start words of a line of five registers; a line of four has the first four
+-- the start words of a line of five registers; a line of four has the first four (1996, pseudo-code)
 abbrev pub start_words : List ℕ
 start_words = 0x67452301 ∷ 0xefcdab89 ∷ 0x98badcfe ∷ 0x10325476 ∷ 0xc3d2e1f0 ∷ []
 
--- those of the right line, where it has its own
+-- those of the right line, where it has its own (1996, extensions to 256 and 320 bits)
 abbrev pub second_start_words : List ℕ
 second_start_words = 0x76543210 ∷ 0xfedcba98 ∷ 0x89abcdef ∷ 0x01234567 ∷ 0x3c2d1e0f ∷ []
 
@@ -37,11 +36,12 @@ from_place k xs = drop k xs ++ take k xs
 -- the new state of RIPEMD-128 and RIPEMD-160, where both lines start from the whole state: the state,
 -- the left and the right registers, rotated by 1, 2 and 3 places, and added word by word.
 -- Of five words that is h1 + C + D', h2 + D + E', h3 + E + A', h4 + A + B', h0 + B + C'
+-- (1996, pseudo-code)
 abbrev pub joint_state : List ℕ → List ℕ → List ℕ → List ℕ
 joint_state state left right = word_sums (word_sums (from_place 1 state) (from_place 2 left)) (from_place 3 right)
 
 -- the new state of RIPEMD-256 and RIPEMD-320, of which each line works on a half: the left
--- registers are added to the first half, and the right ones to the second
+-- registers are added to the first half, and the right ones to the second (1996, extensions)
 abbrev pub double_state : List ℕ → List ℕ → List ℕ → List ℕ
 double_state state left right = word_sums state (left ++ right)
 
@@ -63,7 +63,7 @@ ripemd160 = record {
   combination = joint_state;
 }
 
--- after the rounds 0 to 3 the lines exchange A, B, C and D in turn
+-- after the rounds 0 to 3 the lines exchange A, B, C and D in turn (1996, extensions)
 abbrev pub ripemd256 : Parameters
 ripemd256 = record {
   registers = 4;
@@ -73,7 +73,7 @@ ripemd256 = record {
   combination = double_state;
 }
 
--- after the rounds 0 to 4 the lines exchange B, D, A, C and E in turn
+-- after the rounds 0 to 4 the lines exchange B, D, A, C and E in turn (1996, extensions)
 abbrev pub ripemd320 : Parameters
 ripemd320 = record {
   registers = 5;
@@ -83,7 +83,7 @@ ripemd320 = record {
   combination = double_state;
 }
 
--- ---- steps and rounds
+-- ---- steps and rounds (1996, operations in one step)
 
 -- a step with the Boolean function f, the message word x, the constant k and the rotation by s bits
 -- takes the registers A B C D to D T B C, where T = rol(A + f(B, C, D) + X + K, s), and A B C D E
@@ -105,7 +105,7 @@ registers_after line block r (suc n) registers =
 abbrev pub round : Line → List ℕ → ℕ → List ℕ → List ℕ
 round line block r registers = registers_after line block r 16 registers
 
--- ---- both lines
+-- ---- both lines (1996, pseudo-code)
 
 -- the registers of the two lines
 pub record Lines : Type 0 where

@@ -1,17 +1,17 @@
 -- Messages: their padding, their blocks, the walk of a block function through these, and the hash
--- (the 1996 paper's pseudo-code; the padding is that of MD4).
+-- (1996, pseudo-code; the padding is that of MD4, RFC 1320, sections 3.1 and 3.2).
 use Rattle.std.specs.Prelude.{ℕ, ◌+◌, ◌-◌, ◌*◌, ◌/◌, ◌%◌, ◌^◌, List, ◌∷◌, ◌++◌, length, drop, replicate}
 use Rattle.std.specs.List.{fold}
 use Rattle.std.specs.Simd.{first_chunks}
 use Rattle.ripemd_block.specs.Standard.Words.{block_size, word_bytes, eight_bytes}
 use Rattle.ripemd_block.specs.Standard.Compression.{Parameters, compress}
 
--- the place of the length in the last block, whose last 8 bytes it is
+-- the place of the length in the last block, whose last 8 bytes it is (RFC 1320, section 3.2)
 abbrev pub length_place : ℕ
 length_place = 56
 
 -- how many zero bytes follow n bytes and the byte 0x80: the fewest after which the length has its
--- place
+-- place (RFC 1320, section 3.1)
 abbrev pub zero_count : ℕ → ℕ
 zero_count n = (length_place - 1 + block_size - n % block_size) % block_size
 
@@ -20,7 +20,7 @@ zero_count n = (length_place - 1 + block_size - n % block_size) % block_size
 unfoldable pub with_padding : List ℕ → ℕ → List ℕ
 with_padding tail bit_length = tail ++ 0x80 ∷ replicate (zero_count (length tail)) 0 ++ eight_bytes bit_length
 
--- the message with its padding. Its length in bits is taken modulo 2 ^ 64, as MD4 does
+-- the message with its padding. Its length in bits is taken modulo 2 ^ 64 (RFC 1320, section 3.2)
 abbrev pub padded_message : List ℕ → List ℕ
 padded_message message = with_padding message (8 * length message % 2 ^ 64)
 

@@ -1,13 +1,11 @@
--- What the steps of the two lines read (the 1996 paper, where it gives the order of the message
--- words, the shifts, the constants and the Boolean functions): which message word a step takes, by
--- how many bits it rotates, and its round's constant and function. Rounds r and steps i are counted
--- from 0.
+-- What the steps of the two lines read (1996): which message word a step takes, by how many bits it
+-- rotates, and its round's constant and function. Rounds r and steps i are counted from 0.
 use Rattle.std.specs.Prelude.{ℕ, zero, suc, ◌+◌, ◌-◌, ◌*◌, ◌%◌, ◌^◌, nat_le, bit_and, bit_or, bit_xor, if◌then◌else◌}
 use Rattle.std.specs.Prelude.{List, [], ◌∷◌, slice_index, slice_index_or}
 use Rattle.std.specs.Fn.{iterate}
 use Rattle.std.specs.Int.{w32, bit_not}
 
--- ---- the order of the message words
+-- ---- the order of the message words (1996, ordering of the message words)
 
 -- the permutation ρ of the sixteen message words
 abbrev pub rho : ℕ → ℕ
@@ -17,7 +15,7 @@ rho i = slice_index (7 ∷ 4 ∷ 13 ∷ 1 ∷ 10 ∷ 6 ∷ 15 ∷ 3 ∷ 12 ∷ 0
 abbrev pub pi : ℕ → ℕ
 pi i = (9 * i + 5) % 16
 
--- ---- the rotations
+-- ---- the rotations (1996, shifts)
 
 -- by how many bits a step rotates, a row for each round, by the number of its message word; both
 -- lines use the one table
@@ -34,7 +32,7 @@ rotations =
 abbrev pub rotation : ℕ → ℕ → ℕ
 rotation r j = slice_index (slice_index_or rotations r []) j
 
--- ---- the constants
+-- ---- the constants (1996, constants)
 
 -- k with its lower bits found one by one from the highest down: each is set if the e-th power of the
 -- sum is at most n
@@ -58,7 +56,7 @@ square_root_constant i = whole_root 2 (prime i * 2 ^ 60)
 abbrev pub cube_root_constant : ℕ → ℕ
 cube_root_constant i = whole_root 3 (prime i * 2 ^ 90)
 
--- ---- the Boolean functions of three words, bit by bit
+-- ---- the Boolean functions of three words, bit by bit (1996, Boolean functions)
 
 -- x ^ y ^ z
 abbrev pub f0 : ℕ → ℕ → ℕ → ℕ
@@ -84,7 +82,7 @@ f4 x y z = bit_xor x (bit_or y (bit_not w32 z))
 abbrev pub boolean_function : ℕ → ℕ → ℕ → ℕ → ℕ
 boolean_function j = slice_index_or (f0 ∷ f1 ∷ f2 ∷ f3 ∷ f4 ∷ []) j f0
 
--- ---- the two lines
+-- ---- the two lines (1996, pseudo-code)
 
 -- a line: the number of the message word that each round and step takes, and each round's constant
 -- and Boolean function
