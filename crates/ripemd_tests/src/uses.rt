@@ -1,5 +1,6 @@
 //! The tests of `ripemd_uses`, the callers that the pages show.
 
+use ripemd::block_api::Ripemd160Function;
 use ripemd::replay::Command;
 use ripemd::{Ripemd128, Ripemd160};
 use ripemd_uses::batch;
@@ -160,8 +161,8 @@ fn tags(rt: HostRuntime) {
 fn tags_of_many(rt: HostRuntime) {
     let (first, second) = tags_of_two(&[0x0b; 20], b"Hi There", b"Hi There");
     assert!(rt; first == TAG && second == TAG);
-    let saved = saved_after::<Ripemd160>(&[0x0b; 20], b"Hi");
-    let loaded = tag_of_saved::<Ripemd160>(&saved, b" There");
+    let saved = saved_after::<Ripemd160Function>(&[0x0b; 20], b"Hi");
+    let loaded = tag_of_saved::<Ripemd160Function>(&saved, b" There");
     assert!(rt; loaded.is_ok_and(|tag| tag == TAG));
 }
 
