@@ -1,6 +1,6 @@
 -- Eight messages side by side: a vector has a word of each.
 use Rattle.std.specs.Prelude.{ℕ, ◌<◌, ◌≡◌, ◌+◌, ◌*◌, ◌%◌, ◌^◌}
-use Rattle.std.specs.Prelude.{List, [], ◌∷◌, length, map, slice_index, slice_index_or}
+use Rattle.std.specs.Prelude.{List, [], ◌∷◌, length, map, slice_index, slice_index_or, Option, None, Some}
 use Rattle.std.specs.Borrow.{Bor}
 use Rattle.ripemd_block.specs.Standard.Words.{message_word}
 use Rattle.ripemd_block.specs.Standard.Hashing.{with_padding, blocks, walk}
@@ -74,3 +74,27 @@ padded_after before message = with_padding message (8 * (before + length message
 -- the bytes before it led
 unfoldable pub hash_after : ℕ → List ℕ → (List ℕ → List ℕ → List ℕ) → (List ℕ → List ℕ) → List ℕ → List ℕ
 hash_after before first step output message = output (walk step first (blocks (padded_after before message)))
+
+-- ---- what is made of the messages of a list
+
+-- the state from which messages are hashed, to which so many bytes before them led; and, where the
+-- output is hashed again, the state for that, to which a block led
+pub record ListStates : Type 0 where
+  pub before : ℕ
+  pub first : List ℕ
+  pub outer : Option (List ℕ)
+
+-- a function, and where there is a state for it, the output hashed again
+abbrev pub hashed_again : (List ℕ → List ℕ → List ℕ) → (List ℕ → List ℕ) → Option (List ℕ)
+    → (List ℕ → List ℕ) → List ℕ → List ℕ
+hashed_again step output None inner = inner
+hashed_again step output (Some outer) inner = λ m. hash_after 64 outer step output (inner m)
+
+-- what these states make of a message
+abbrev pub made_by : (List ℕ → List ℕ → List ℕ) → (List ℕ → List ℕ) → ListStates → List ℕ → List ℕ
+made_by step output s = hashed_again step output s.outer (hash_after s.before s.first step output)
+
+-- an optional state as a list of numbers
+abbrev pub listed : {S : Type 0} → (S → List ℕ) → Option S → Option (List ℕ)
+listed list None = None
+listed list (Some state) = Some (list state)

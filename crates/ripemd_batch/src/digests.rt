@@ -6,6 +6,7 @@ ghost use Rattle.ripemd_block.specs.Standard.Hashing.{hash, walk, blocks};
 ghost use Rattle.ripemd_batch.specs.Lanes.{of_message, targets, blocks_of, padded_after, hash_after};
 
 use crate::eight::Eight;
+use crate::lists::ListHasher;
 use crate::padded::MessageBlocks;
 use crate::states::EightStates;
 use ripemd::digest::BlockDigest;
@@ -103,46 +104,14 @@ pub fn digest_each<D: BatchDigest>(messages: &[&[u8]], digests: &mut [D::Output]
     ensures { map D.bytes_of digests.new
         ≡ map (hash D.start D.step D.output) (targets messages.now) }
 {
-    digest_from::<D>(FunctionOf::<D>::start(), 0, messages, digests);
+    ListHasher::<D>::new().hash_each(messages, digests);
 }
 
-// Writes the digests of messages, walked through from a state to which so many bytes before them
-// led. Not inlined, so that the steps stand once in a program.
+// Writes the digests of at most eight messages, walked through from a state to which so many bytes
+// before them led: at once, or one by one where that is faster. Not inlined, so that the steps stand
+// once in a program.
 #[inline(never)]
-pub(crate) fn digest_from<D: BatchDigest>(
-    first: StateOf<D>,
-    before: u64,
-    messages: &[&[u8]],
-    digests: &mut [D::Output],
-)
-    requires valid { D.States.Function.is_state first }
-    requires length { length digests.old ≡ length messages.now }
-    ensures { map D.bytes_of digests.new
-        ≡ map (hash_after before (D.States.Function.list first) D.step D.output)
-        (targets messages.now) }
-{
-    for g in 0..messages.len().div_ceil(8) {
-        let end = group_end(messages.len(), g);
-        digest_group::<D>(
-            first,
-            before,
-            &messages[8 * g..end],
-            &mut digests[8 * g..end],
-        );
-    }
-}
-
-// Where group `g` of eight ends, of `len` in all.
-#[inline(always)]
-pub(crate) fn group_end(len: usize, g: usize) -> usize
-    requires { 8 * g < len }
-    ensures { result ≡ min (8 * g + 8) len }
-{
-    if len - 8 * g < 8 { len } else { 8 * g + 8 }
-}
-
-// Writes the digests of at most eight messages.
-fn digest_group<D: BatchDigest>(
+pub(crate) fn digest_group<D: BatchDigest>(
     first: StateOf<D>,
     before: u64,
     messages: &[&[u8]],
@@ -155,10 +124,17 @@ fn digest_group<D: BatchDigest>(
         ≡ map (hash_after before (D.States.Function.list first) D.step D.output)
         (targets messages.now) }
 {
-    if fills_lanes(messages) {
-        digest_at_once::<D>(first, before, messages, digests);
-    } else {
+    if !fills_lanes(messages) {
         digest_one_by_one::<D>(first, before, messages, digests);
+        return;
+    }
+    let states: D::States = walk_group(first, before, messages);
+    // Eight turns, so that the compiler knows the lane of each.
+    for j in 0..8 {
+        if j < messages.len() {
+            let digest = states.digest_of(j);
+            digests[j] = digest;
+        }
     }
 }
 
@@ -208,29 +184,6 @@ fn digest_one<D: BatchDigest>(first: StateOf<D>, before: u64, message: &[u8]) ->
     let mut zeros = [[0; 64]; 2];
     let blocks = MessageBlocks::of(before, message, &mut zeros);
     FunctionOf::<D>::output(blocks.walk::<FunctionOf<D>>(first))
-}
-
-// Writes the digests of at most eight messages, hashed at once.
-fn digest_at_once<D: BatchDigest>(
-    first: StateOf<D>,
-    before: u64,
-    messages: &[&[u8]],
-    digests: &mut [D::Output],
-)
-    requires few { length messages.now ≤ 8 }
-    requires length { length digests.old ≡ length messages.now }
-    ensures { map D.bytes_of digests.new
-        ≡ map (hash_after before (D.States.Function.list first) D.step D.output)
-        (targets messages.now) }
-{
-    let states: D::States = walk_group(first, before, messages);
-    // Eight turns, so that the compiler knows the lane of each.
-    for j in 0..8 {
-        if j < messages.len() {
-            let digest = states.digest_of(j);
-            digests[j] = digest;
-        }
-    }
 }
 
 // Message `i`.
@@ -283,22 +236,11 @@ fn walk_group<S: EightStates>(
         MessageBlocks::of(before, message_or_empty(messages, 6), &mut zeros_6),
         MessageBlocks::of(before, message_or_empty(messages, 7), &mut zeros_7),
     ];
-    walk_all(first, &blocks)
-}
-
-// The last states of eight walks from one state, through all blocks of each message.
-fn walk_all<S: EightStates>(
-    first: <S::Function as BlockFunction>::State,
-    blocks: &[MessageBlocks; 8],
-) -> S
-    ensures { (j : ℕ) → j < 8 → S.words_of j result
-        ≡ walk S.Function.step (S.Function.list first) (blocks_of blocks.now j) }
-{
-    let counts = block_counts(blocks);
+    let counts = block_counts(&blocks);
     let most = most(&counts);
     let mut states = S::splat(first);
     for i in 0..most {
-        let next = compress_live(states, blocks, &counts, i);
+        let next = compress_live(states, &blocks, &counts, i);
         states = next;
     }
     states

@@ -11,6 +11,7 @@ pub mod facts;
 mod five_registers;
 mod four_registers;
 mod four_words;
+pub mod lists;
 mod message;
 mod padded;
 mod states;
@@ -18,4 +19,5 @@ mod steps;
 pub mod tags;
 
 pub use digests::{BatchDigest, digest_each};
+pub use lists::ListHasher;
 pub use tags::tag_each;

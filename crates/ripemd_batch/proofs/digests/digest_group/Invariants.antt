@@ -1,7 +1,7 @@
 -- The digests so far are written.
 use Rattle.std.proofs.Common.{◌≡◌, length, map, take}
 use Rattle.ripemd_batch.specs.Lanes.{targets, hash_after}
-use Rattle.ripemd_batch.proofs.digests.digest_at_once.Given as goal
+use Rattle.ripemd_batch.proofs.digests.digest_group.Given as goal
 
 abbrev pub invariant-loop-j : goal.invariant-loop-j
 invariant-loop-j g l =

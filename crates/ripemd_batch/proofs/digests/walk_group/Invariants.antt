@@ -2,7 +2,7 @@
 use Rattle.std.proofs.Common.{◌≡◌, ℕ, ◌<◌, take}
 use Rattle.ripemd_block.specs.Standard.Hashing.{walk}
 use Rattle.ripemd_batch.specs.Lanes.{blocks_of}
-use Rattle.ripemd_batch.proofs.digests.walk_all.Given as goal
+use Rattle.ripemd_batch.proofs.digests.walk_group.Given as goal
 
 abbrev pub invariant-loop-i : goal.invariant-loop-i
 invariant-loop-i g l =

@@ -1,4 +1,4 @@
-use Rattle.ripemd_batch.proofs.tags.state_after.Goals as goal
+use Rattle.ripemd_batch.proofs.lists.state_after.Goals as goal
 
 pub returns-clause-value : goal.returns-clause-value
 returns-clause-value g c =

@@ -3,8 +3,8 @@ use Rattle.std.proofs.lemmas.List.{length-map, length-set}
 use Rattle.ripemd_batch.specs.Lanes.{targets, of_message, hash_after}
 use Rattle.ripemd_batch.proofs.Placing.{put_next, all_taken, all_equal}
 use Rattle.ripemd_batch.proofs.Walking.{output_after}
-use Rattle.ripemd_batch.proofs.digests.digest_at_once.Goals as goal
-use Rattle.ripemd_batch.proofs.digests.digest_at_once.Goals.{then-j-messages, else-j-messages}
+use Rattle.ripemd_batch.proofs.digests.digest_group.Goals as goal
+use Rattle.ripemd_batch.proofs.digests.digest_group.Goals.{then-j-messages, else-j-messages}
 
 pub loop-j-preserved : goal.loop-j-preserved
 loop-j-preserved g c =

@@ -1,0 +1,110 @@
+//! What is made of each message of a list: its digest, or its tag under a key.
+
+ghost use Rattle.std.specs.Prelude.{◌≡◌, ◌+◌, ◌*◌, ◌<◌, ◌≤◌, min, length, map};
+ghost use Rattle.ripemd_block.specs.Standard.Hashing.{hash};
+ghost use Rattle.ripemd_mac.specs.Keyed.{hmac};
+ghost use Rattle.ripemd_batch.specs.Lanes.{made_by, targets};
+
+use crate::digests::{BatchDigest, FunctionOf, StateOf, digest_group};
+use crate::tags::{digest_blocks, digests_in};
+use ripemd_block::block_api::{BlockFunction, walk};
+use ripemd_mac::keyed::masked_keys;
+use std::marker::Model;
+
+/// Makes the digest of each message of a list, or its tag under a key (RFC 2104), for any number of
+/// lists. Contracts see the states from which it hashes, by what these make of a message.
+#[derive(Drop)]
+pub struct ListHasher<D: BatchDigest> {
+    // The state from which messages are hashed, and how many bytes led to it.
+    first: StateOf<D>,
+    before: u64,
+    // Of tags, the state after the outer masked key.
+    outer: Option<StateOf<D>>,
+}
+
+impl<D: BatchDigest> Model for ListHasher<D> {
+    ghost use Rattle.std.specs.Prelude.{IfSome};
+    ghost use Rattle.ripemd_batch.specs.Lanes.{ListStates, listed};
+
+    ghost Value = { ListStates };
+
+    ghost view = { λ h. record {
+      before = h.before;
+      first = D.States.Function.list h.first;
+      outer = listed D.States.Function.list h.outer;
+    } };
+
+    ghost invariant = { λ h. D.States.Function.is_state h.first
+        × IfSome h.outer D.States.Function.is_state };
+}
+
+impl<D: BatchDigest> ListHasher<D> {
+    /// Of digests.
+    pub fn new() -> ListHasher<D>
+        ensures { made_by D.step D.output result ≡ hash D.start D.step D.output }
+    {
+        ListHasher {
+            first: FunctionOf::<D>::start(),
+            before: 0,
+            outer: None,
+        }
+    }
+
+    /// Of tags under a key of any length, which is hashed here, once for all lists.
+    pub fn keyed(key: &[u8]) -> ListHasher<D>
+        ensures { made_by D.step D.output result ≡ hmac (hash D.start D.step D.output) key.now }
+    {
+        let keys = masked_keys::<D>(key);
+        ListHasher {
+            first: state_after::<D>(keys.inner),
+            before: 64,
+            outer: Some(state_after::<D>(keys.outer)),
+        }
+    }
+
+    /// Writes what is made of each message to the place in `outputs` that the message has in
+    /// `messages`. There must be as many places as messages. Nothing is allocated.
+    pub fn hash_each(&self, messages: &[&[u8]], outputs: &mut [D::Output])
+        requires { length outputs.old ≡ length messages.now }
+        ensures { map D.bytes_of outputs.new
+            ≡ map (made_by D.step D.output self.now) (targets messages.now) }
+    {
+        for g in 0..messages.len().div_ceil(8) {
+            let end = group_end(messages.len(), g);
+            self.hash_group(&messages[8 * g..end], &mut outputs[8 * g..end]);
+        }
+    }
+
+    // The same of at most eight messages. Of tags, the inner digests are written to their places and
+    // hashed after the outer masked key.
+    fn hash_group(&self, messages: &[&[u8]], outputs: &mut [D::Output])
+        requires few { length messages.now ≤ 8 }
+        requires length { length outputs.old ≡ length messages.now }
+        ensures { map D.bytes_of outputs.new
+            ≡ map (made_by D.step D.output self.now) (targets messages.now) }
+    {
+        digest_group::<D>(self.first, self.before, messages, outputs);
+        if let Some(outer) = self.outer {
+            let blocks = digest_blocks::<D>(outputs);
+            let digests = digests_in::<D>(&blocks);
+            digest_group::<D>(outer, 64, &digests[..messages.len()], outputs);
+        }
+    }
+}
+
+// Where group `g` of eight ends, of `len` in all.
+#[inline(always)]
+fn group_end(len: usize, g: usize) -> usize
+    requires { 8 * g < len }
+    ensures { result ≡ min (8 * g + 8) len }
+{
+    if len - 8 * g < 8 { len } else { 8 * g + 8 }
+}
+
+// The state after one block.
+fn state_after<D: BatchDigest>(block: [u8; 64]) -> StateOf<D>
+    ensures value { D.States.Function.list result ≡ D.step D.start block }
+    ensures valid { D.States.Function.is_state result }
+{
+    walk::<FunctionOf<D>>(FunctionOf::<D>::start(), &[block])
+}
