@@ -107,11 +107,43 @@ pub fn digest_each<D: BatchDigest>(messages: &[&[u8]], digests: &mut [D::Output]
     ListHasher::<D>::new().hash_each(messages, digests);
 }
 
-// Writes the digests of at most eight messages, walked through from a state to which so many bytes
-// before them led: at once, or one by one where that is faster. Not inlined, so that the steps stand
-// once in a program.
+// Writes the digests of messages, walked through from a state to which so many bytes before them
+// led. Not inlined, so that the steps stand once in a program.
 #[inline(never)]
-pub(crate) fn digest_group<D: BatchDigest>(
+pub(crate) fn digest_from<D: BatchDigest>(
+    first: StateOf<D>,
+    before: u64,
+    messages: &[&[u8]],
+    digests: &mut [D::Output],
+)
+    requires valid { D.States.Function.is_state first }
+    requires length { length digests.old ≡ length messages.now }
+    ensures { map D.bytes_of digests.new
+        ≡ map (hash_after before (D.States.Function.list first) D.step D.output)
+        (targets messages.now) }
+{
+    for g in 0..messages.len().div_ceil(8) {
+        let end = group_end(messages.len(), g);
+        digest_group::<D>(
+            first,
+            before,
+            &messages[8 * g..end],
+            &mut digests[8 * g..end],
+        );
+    }
+}
+
+// Where group `g` of eight ends, of `len` in all.
+#[inline(always)]
+pub(crate) fn group_end(len: usize, g: usize) -> usize
+    requires { 8 * g < len }
+    ensures { result ≡ min (8 * g + 8) len }
+{
+    if len - 8 * g < 8 { len } else { 8 * g + 8 }
+}
+
+// Writes the digests of at most eight messages: at once, or one by one where that is faster.
+fn digest_group<D: BatchDigest>(
     first: StateOf<D>,
     before: u64,
     messages: &[&[u8]],

@@ -1,11 +1,11 @@
 //! What is made of each message of a list: its digest, or its tag under a key.
 
-ghost use Rattle.std.specs.Prelude.{◌≡◌, ◌+◌, ◌*◌, ◌<◌, ◌≤◌, min, length, map};
+ghost use Rattle.std.specs.Prelude.{◌≡◌, ◌≤◌, length, map};
 ghost use Rattle.ripemd_block.specs.Standard.Hashing.{hash};
 ghost use Rattle.ripemd_mac.specs.Keyed.{hmac};
 ghost use Rattle.ripemd_batch.specs.Lanes.{made_by, targets};
 
-use crate::digests::{BatchDigest, FunctionOf, StateOf, digest_group};
+use crate::digests::{BatchDigest, FunctionOf, StateOf, digest_from, group_end};
 use crate::tags::{digest_blocks, digests_in};
 use ripemd_block::block_api::{BlockFunction, walk};
 use ripemd_mac::keyed::masked_keys;
@@ -69,6 +69,10 @@ impl<D: BatchDigest> ListHasher<D> {
         ensures { map D.bytes_of outputs.new
             ≡ map (made_by D.step D.output self.now) (targets messages.now) }
     {
+        if self.outer.is_none() {
+            digest_from::<D>(self.first, self.before, messages, outputs);
+            return;
+        }
         for g in 0..messages.len().div_ceil(8) {
             let end = group_end(messages.len(), g);
             self.hash_group(&messages[8 * g..end], &mut outputs[8 * g..end]);
@@ -83,22 +87,13 @@ impl<D: BatchDigest> ListHasher<D> {
         ensures { map D.bytes_of outputs.new
             ≡ map (made_by D.step D.output self.now) (targets messages.now) }
     {
-        digest_group::<D>(self.first, self.before, messages, outputs);
+        digest_from::<D>(self.first, self.before, messages, outputs);
         if let Some(outer) = self.outer {
             let blocks = digest_blocks::<D>(outputs);
             let digests = digests_in::<D>(&blocks);
-            digest_group::<D>(outer, 64, &digests[..messages.len()], outputs);
+            digest_from::<D>(outer, 64, &digests[..messages.len()], outputs);
         }
     }
-}
-
-// Where group `g` of eight ends, of `len` in all.
-#[inline(always)]
-fn group_end(len: usize, g: usize) -> usize
-    requires { 8 * g < len }
-    ensures { result ≡ min (8 * g + 8) len }
-{
-    if len - 8 * g < 8 { len } else { 8 * g + 8 }
 }
 
 // The state after one block.

@@ -4,5 +4,3 @@ pub mod Records
 pub mod SavedStates
 -- A worked example of this.
 pub mod Worked
--- What is written of each record, for private functions.
-pub mod Outputs

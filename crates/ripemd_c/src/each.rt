@@ -1,19 +1,18 @@
 //! Digests of many records of one size, and their tags under one key (RFC 2104).
 
-ghost use Rattle.std.specs.Prelude.{◌≡◌, ◌↔◌, ℕ, ◌+◌, ◌*◌, ◌^◌, ◌<◌, ◌≤◌};
-ghost use Rattle.std.specs.Prelude.{length, map, slice_index_or, [], IsTrue, IsFalse};
+ghost use Rattle.std.specs.Prelude.{◌≡◌, ◌↔◌, ℕ, ◌+◌, ◌-◌, ◌*◌, ◌^◌, ◌<◌, ◌≤◌, min};
+ghost use Rattle.std.specs.Prelude.{length, map, IsTrue, IsFalse};
 ghost use Rattle.ripemd.specs.Standard.Compression.{ripemd128, ripemd160, ripemd256, ripemd320};
-ghost use Rattle.ripemd.specs.Standard.Hashing.{hash, ripemd};
+ghost use Rattle.ripemd.specs.Standard.Hashing.{ripemd};
 ghost use Rattle.ripemd_mac.specs.Keyed.{hmac};
-ghost use Rattle.ripemd_batch.specs.Lanes.{of_message, targets};
+ghost use Rattle.ripemd_batch.specs.Lanes.{made_by, of_message, targets};
 ghost use Rattle.ripemd_c.specs.Records.{record_at, records};
-ghost use Rattle.ripemd_c.specs.Outputs.{digest_or_tag};
 
 use ripemd::{Ripemd128, Ripemd160, Ripemd256, Ripemd320};
-use ripemd_batch::{BatchDigest, digest_each, tag_each};
+use ripemd_batch::{BatchDigest, ListHasher};
 
-// How many records are handed on at once.
-const AT_ONCE: usize = 128;
+// How many records a group has.
+const GROUP: usize = 128;
 
 /// Writes the RIPEMD-128 digest of each record to its place in `digests`. The records lie one after
 /// another, each of `size` bytes. False exactly if `bytes` is not as long as the places times the
@@ -30,7 +29,7 @@ pub extern "C" fn nattizhu_ripemd128_each_nonnull(
         ≡ map (ripemd ripemd128) (records (length digests.old) size bytes.now) }
     ensures unchanged { IsFalse result → digests.new ≡ digests.old }
 {
-    write_digests::<Ripemd128>(bytes, size, digests)
+    hash_records(&ListHasher::<Ripemd128>::new(), bytes, size, digests)
 }
 
 /// Writes the RIPEMD-160 digest of each record to its place in `digests`. The records lie one after
@@ -48,7 +47,7 @@ pub extern "C" fn nattizhu_ripemd160_each_nonnull(
         ≡ map (ripemd ripemd160) (records (length digests.old) size bytes.now) }
     ensures unchanged { IsFalse result → digests.new ≡ digests.old }
 {
-    write_digests::<Ripemd160>(bytes, size, digests)
+    hash_records(&ListHasher::<Ripemd160>::new(), bytes, size, digests)
 }
 
 /// Writes the RIPEMD-256 digest of each record to its place in `digests`. The records lie one after
@@ -66,7 +65,7 @@ pub extern "C" fn nattizhu_ripemd256_each_nonnull(
         ≡ map (ripemd ripemd256) (records (length digests.old) size bytes.now) }
     ensures unchanged { IsFalse result → digests.new ≡ digests.old }
 {
-    write_digests::<Ripemd256>(bytes, size, digests)
+    hash_records(&ListHasher::<Ripemd256>::new(), bytes, size, digests)
 }
 
 /// Writes the RIPEMD-320 digest of each record to its place in `digests`. The records lie one after
@@ -84,7 +83,7 @@ pub extern "C" fn nattizhu_ripemd320_each_nonnull(
         ≡ map (ripemd ripemd320) (records (length digests.old) size bytes.now) }
     ensures unchanged { IsFalse result → digests.new ≡ digests.old }
 {
-    write_digests::<Ripemd320>(bytes, size, digests)
+    hash_records(&ListHasher::<Ripemd320>::new(), bytes, size, digests)
 }
 
 /// Writes the tag of each record under the key, by RIPEMD-128, to its place in `tags`. The key has any
@@ -103,7 +102,7 @@ pub extern "C" fn nattizhu_hmac_ripemd128_each_nonnull(
         ≡ map (hmac (ripemd ripemd128) key.now) (records (length tags.old) size bytes.now) }
     ensures unchanged { IsFalse result → tags.new ≡ tags.old }
 {
-    write_tags::<Ripemd128>(key, bytes, size, tags)
+    hash_records(&ListHasher::<Ripemd128>::keyed(key), bytes, size, tags)
 }
 
 /// Writes the tag of each record under the key, by RIPEMD-160, to its place in `tags`. The key has any
@@ -122,7 +121,7 @@ pub extern "C" fn nattizhu_hmac_ripemd160_each_nonnull(
         ≡ map (hmac (ripemd ripemd160) key.now) (records (length tags.old) size bytes.now) }
     ensures unchanged { IsFalse result → tags.new ≡ tags.old }
 {
-    write_tags::<Ripemd160>(key, bytes, size, tags)
+    hash_records(&ListHasher::<Ripemd160>::keyed(key), bytes, size, tags)
 }
 
 /// Writes the tag of each record under the key, by RIPEMD-256, to its place in `tags`. The key has any
@@ -141,7 +140,7 @@ pub extern "C" fn nattizhu_hmac_ripemd256_each_nonnull(
         ≡ map (hmac (ripemd ripemd256) key.now) (records (length tags.old) size bytes.now) }
     ensures unchanged { IsFalse result → tags.new ≡ tags.old }
 {
-    write_tags::<Ripemd256>(key, bytes, size, tags)
+    hash_records(&ListHasher::<Ripemd256>::keyed(key), bytes, size, tags)
 }
 
 /// Writes the tag of each record under the key, by RIPEMD-320, to its place in `tags`. The key has any
@@ -160,123 +159,54 @@ pub extern "C" fn nattizhu_hmac_ripemd320_each_nonnull(
         ≡ map (hmac (ripemd ripemd320) key.now) (records (length tags.old) size bytes.now) }
     ensures unchanged { IsFalse result → tags.new ≡ tags.old }
 {
-    write_tags::<Ripemd320>(key, bytes, size, tags)
+    hash_records(&ListHasher::<Ripemd320>::keyed(key), bytes, size, tags)
 }
 
-// Writes the digest of each record to its place in `digests`, if the records are as many as the
-// places; otherwise it answers false and writes nothing.
-fn write_digests<D: BatchDigest>(bytes: &[u8], size: usize, digests: &mut [D::Output]) -> bool
-    ensures fits { IsTrue result ↔ (length bytes.now ≡ length digests.old * size) }
-    ensures digests { IsTrue result → map D.bytes_of digests.new
-        ≡ map (hash D.start D.step D.output) (records (length digests.old) size bytes.now) }
-    ensures unchanged { IsFalse result → digests.new ≡ digests.old }
-{
-    try_write::<D>(None, bytes, size, digests)
-}
-
-// The same of tags under a key. One that is longer than a block is hashed here, once for all records.
-#[tactic(auto, using(crate::proofs::Keys::of_long_key))]
-fn write_tags<D: BatchDigest>(key: &[u8], bytes: &[u8], size: usize, tags: &mut [D::Output]) -> bool
-    ensures fits { IsTrue result ↔ (length bytes.now ≡ length tags.old * size) }
-    ensures tags { IsTrue result → map D.bytes_of tags.new
-        ≡ map (hmac (hash D.start D.step D.output) key.now)
-        (records (length tags.old) size bytes.now) }
-    ensures unchanged { IsFalse result → tags.new ≡ tags.old }
-{
-    if key.len() > 64 {
-        let digest = D::digest(key);
-        try_write::<D>(Some(D::output_bytes(&digest)), bytes, size, tags)
-    } else {
-        try_write::<D>(Some(key), bytes, size, tags)
-    }
-}
-
-// Writes the digest of each record to its place in `outputs`, or its tag where there is a key, if
-// the records are as many as the places; otherwise it answers false and writes nothing.
-fn try_write<D: BatchDigest>(
-    key: Option<&[u8]>,
+// Writes what the hasher makes of each record to its place, if the records are as many as the places;
+// otherwise it answers false and writes nothing. The records are handed on in groups, so that nothing
+// is allocated.
+fn hash_records<D: BatchDigest>(
+    hasher: &ListHasher<D>,
     bytes: &[u8],
     size: usize,
     outputs: &mut [D::Output],
 ) -> bool
     ensures fits { IsTrue result ↔ (length bytes.now ≡ length outputs.old * size) }
     ensures outputs { IsTrue result → map D.bytes_of outputs.new
-        ≡ map (digest_or_tag (hash D.start D.step D.output) key.entry)
+        ≡ map (made_by D.step D.output hasher.now)
         (records (length outputs.old) size bytes.now) }
     ensures unchanged { IsFalse result → outputs.new ≡ outputs.old }
 {
     match outputs.len().checked_mul(size) {
-        Some(len) if len == bytes.len() => {
-            write_all::<D>(key, bytes, size, outputs);
-            true
-        }
-        _ => false,
+        Some(len) if len == bytes.len() => {}
+        _ => return false,
     }
+    for g in 0..outputs.len().div_ceil(GROUP) {
+        let at = GROUP * g;
+        let count = group_len(outputs.len(), at);
+        let messages = records_from(bytes, size, at, count);
+        hasher.hash_each(&messages[..count], &mut outputs[at..at + count]);
+    }
+    true
 }
 
-// Writes the digest or tag of each record to its place.
-fn write_all<D: BatchDigest>(
-    key: Option<&[u8]>,
-    bytes: &[u8],
-    size: usize,
-    outputs: &mut [D::Output],
-)
-    requires { length bytes.now ≡ length outputs.old * size }
-    ensures { map D.bytes_of outputs.new ≡ map (digest_or_tag (hash D.start D.step D.output) key.entry)
-        (records (length outputs.old) size bytes.now) }
+// How many of `len` records the group from `at` on has.
+#[inline(always)]
+fn group_len(len: usize, at: usize) -> usize
+    requires { at < len }
+    ensures { result ≡ min 128 (len - at) }
 {
-    for g in 0..outputs.len().div_ceil(AT_ONCE) {
-        write_some::<D>(key, bytes, size, AT_ONCE * g, outputs);
-    }
-}
-
-// Writes those of the records from `at` on, of at most as many as are handed on at once, and leaves
-// those before them.
-fn write_some<D: BatchDigest>(
-    key: Option<&[u8]>,
-    bytes: &[u8],
-    size: usize,
-    at: usize,
-    outputs: &mut [D::Output],
-)
-    requires at { at < length outputs.old }
-    requires length { length bytes.now ≡ length outputs.old * size }
-    ensures length { length outputs.new ≡ length outputs.old }
-    ensures outputs { ((i : ℕ) → i < at → slice_index_or (map D.bytes_of outputs.old) i []
-        ≡ digest_or_tag (hash D.start D.step D.output) key.entry (record_at size bytes.now i))
-        → (i : ℕ) → i < at + 128 → i < length outputs.old
-        → slice_index_or (map D.bytes_of outputs.new) i []
-        ≡ digest_or_tag (hash D.start D.step D.output) key.entry (record_at size bytes.now i) }
-{
-    let count = if outputs.len() - at < AT_ONCE {
-        outputs.len() - at
-    } else {
-        AT_ONCE
-    };
-    let messages = records_from(bytes, size, at, count);
-    write_each::<D>(key, &messages[..count], &mut outputs[at..at + count]);
-}
-
-// Writes the digest of each message to its place, or its tag where there is a key.
-fn write_each<D: BatchDigest>(key: Option<&[u8]>, messages: &[&[u8]], outputs: &mut [D::Output])
-    requires { length outputs.old ≡ length messages.now }
-    ensures { map D.bytes_of outputs.new
-        ≡ map (digest_or_tag (hash D.start D.step D.output) key.entry) (targets messages.now) }
-{
-    match key {
-        Some(key) => tag_each::<D>(key, messages, outputs),
-        None => digest_each::<D>(messages, outputs),
-    }
+    if len - at < GROUP { len - at } else { GROUP }
 }
 
 // The first `count` of these are the records from `at` on.
-fn records_from<'a>(bytes: &'a [u8], size: usize, at: usize, count: usize) -> [&'a [u8]; AT_ONCE]
+fn records_from<'a>(bytes: &'a [u8], size: usize, at: usize, count: usize) -> [&'a [u8]; GROUP]
     requires most { count ≤ 128 }
     requires fits { at + count < 2 ^ 64 }
     requires length { (at + count) * size ≤ length bytes.now }
     ensures { (j : ℕ) → j < count → of_message (targets result) j ≡ record_at size bytes.now (at + j) }
 {
-    let mut messages: [&[u8]; AT_ONCE] = [&[]; AT_ONCE];
+    let mut messages: [&[u8]; GROUP] = [&[]; GROUP];
     for j in 0..count {
         messages[j] = record_at(bytes, size, at + j);
     }

@@ -17,7 +17,7 @@ returns-in-Some g c =
     let inner : List ℕ → List ℕ = hash_after inside.before (f.list inside.first) d.step d.output in
     let again : List ℕ → List ℕ = hash_after 64 (f.list c.in-Some.outer) d.step d.output in
     let count : ℕ = length c.args.messages.now in
-    let digests = c.digest_group.new.digests in
+    let digests = c.digest_from.new.digests in
     let blocks = c.digest_blocks-blocks.result in
     let messages = c.digests_in-digests.result in
     let all : length (map bytes_of digests) ≡ count = length-map digests bytes_of ∙ search rules in
@@ -30,5 +30,5 @@ returns-in-Some g c =
     let second : targets (take count messages) ≡ map bytes_of digests =
     sym (take-map (λ (m : Bor (List ℕ)). m.now) count messages) ∙ ap (take count) c.digests_in-digests.ensures ∙ fronts in
     rw (← c.self.view_is, c.in-Some.is)
-    (c.digest_group-in-Some.ensures ∙ ap (map again) (second ∙ c.digest_group.ensures)
+    (c.digest_from-in-Some.ensures ∙ ap (map again) (second ∙ c.digest_from.ensures)
     ∙ map-map again inner (targets c.args.messages.now))

@@ -1,4 +1,4 @@
-use Rattle.std.proofs.Common.{List, ℕ, rules}
+use Rattle.std.proofs.Common.{rules}
 use Rattle.std.proofs.Math.Path.{fun_ext}
 use Rattle.ripemd_batch.proofs.Tagging.{tag_after}
 use Rattle.ripemd_batch.proofs.lists.ListHasher.keyed.Goals as goal
