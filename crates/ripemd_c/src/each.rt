@@ -6,7 +6,7 @@ ghost use Rattle.ripemd.specs.Standard.Compression.{ripemd128, ripemd160, ripemd
 ghost use Rattle.ripemd.specs.Standard.Hashing.{ripemd};
 ghost use Rattle.ripemd_mac.specs.Keyed.{hmac};
 ghost use Rattle.ripemd_batch.specs.Lanes.{made_by, of_message, targets};
-ghost use Rattle.ripemd_c.specs.Records.{record_at, records};
+ghost use Rattle.ripemd_c.specs.Records.{WritesEach, record_at, records};
 
 use ripemd::{Ripemd128, Ripemd160, Ripemd256, Ripemd320};
 use ripemd_batch::{BatchDigest, ListHasher};
@@ -24,10 +24,7 @@ pub extern "C" fn nattizhu_ripemd128_each_nonnull(
     size: usize,
     digests: &mut [[u8; 16]],
 ) -> bool
-    ensures fits { IsTrue result ↔ (length bytes.now ≡ length digests.old * size) }
-    ensures digests { IsTrue result → digests.new
-        ≡ map (ripemd ripemd128) (records (length digests.old) size bytes.now) }
-    ensures unchanged { IsFalse result → digests.new ≡ digests.old }
+    ensures { WritesEach (ripemd ripemd128) bytes.now size result digests.old digests.new }
 {
     hash_records(&ListHasher::<Ripemd128>::new(), bytes, size, digests)
 }
@@ -42,10 +39,7 @@ pub extern "C" fn nattizhu_ripemd160_each_nonnull(
     size: usize,
     digests: &mut [[u8; 20]],
 ) -> bool
-    ensures fits { IsTrue result ↔ (length bytes.now ≡ length digests.old * size) }
-    ensures digests { IsTrue result → digests.new
-        ≡ map (ripemd ripemd160) (records (length digests.old) size bytes.now) }
-    ensures unchanged { IsFalse result → digests.new ≡ digests.old }
+    ensures { WritesEach (ripemd ripemd160) bytes.now size result digests.old digests.new }
 {
     hash_records(&ListHasher::<Ripemd160>::new(), bytes, size, digests)
 }
@@ -60,10 +54,7 @@ pub extern "C" fn nattizhu_ripemd256_each_nonnull(
     size: usize,
     digests: &mut [[u8; 32]],
 ) -> bool
-    ensures fits { IsTrue result ↔ (length bytes.now ≡ length digests.old * size) }
-    ensures digests { IsTrue result → digests.new
-        ≡ map (ripemd ripemd256) (records (length digests.old) size bytes.now) }
-    ensures unchanged { IsFalse result → digests.new ≡ digests.old }
+    ensures { WritesEach (ripemd ripemd256) bytes.now size result digests.old digests.new }
 {
     hash_records(&ListHasher::<Ripemd256>::new(), bytes, size, digests)
 }
@@ -78,10 +69,7 @@ pub extern "C" fn nattizhu_ripemd320_each_nonnull(
     size: usize,
     digests: &mut [[u8; 40]],
 ) -> bool
-    ensures fits { IsTrue result ↔ (length bytes.now ≡ length digests.old * size) }
-    ensures digests { IsTrue result → digests.new
-        ≡ map (ripemd ripemd320) (records (length digests.old) size bytes.now) }
-    ensures unchanged { IsFalse result → digests.new ≡ digests.old }
+    ensures { WritesEach (ripemd ripemd320) bytes.now size result digests.old digests.new }
 {
     hash_records(&ListHasher::<Ripemd320>::new(), bytes, size, digests)
 }
@@ -97,10 +85,7 @@ pub extern "C" fn nattizhu_hmac_ripemd128_each_nonnull(
     size: usize,
     tags: &mut [[u8; 16]],
 ) -> bool
-    ensures fits { IsTrue result ↔ (length bytes.now ≡ length tags.old * size) }
-    ensures tags { IsTrue result → tags.new
-        ≡ map (hmac (ripemd ripemd128) key.now) (records (length tags.old) size bytes.now) }
-    ensures unchanged { IsFalse result → tags.new ≡ tags.old }
+    ensures { WritesEach (hmac (ripemd ripemd128) key.now) bytes.now size result tags.old tags.new }
 {
     hash_records(&ListHasher::<Ripemd128>::keyed(key), bytes, size, tags)
 }
@@ -116,10 +101,7 @@ pub extern "C" fn nattizhu_hmac_ripemd160_each_nonnull(
     size: usize,
     tags: &mut [[u8; 20]],
 ) -> bool
-    ensures fits { IsTrue result ↔ (length bytes.now ≡ length tags.old * size) }
-    ensures tags { IsTrue result → tags.new
-        ≡ map (hmac (ripemd ripemd160) key.now) (records (length tags.old) size bytes.now) }
-    ensures unchanged { IsFalse result → tags.new ≡ tags.old }
+    ensures { WritesEach (hmac (ripemd ripemd160) key.now) bytes.now size result tags.old tags.new }
 {
     hash_records(&ListHasher::<Ripemd160>::keyed(key), bytes, size, tags)
 }
@@ -135,10 +117,7 @@ pub extern "C" fn nattizhu_hmac_ripemd256_each_nonnull(
     size: usize,
     tags: &mut [[u8; 32]],
 ) -> bool
-    ensures fits { IsTrue result ↔ (length bytes.now ≡ length tags.old * size) }
-    ensures tags { IsTrue result → tags.new
-        ≡ map (hmac (ripemd ripemd256) key.now) (records (length tags.old) size bytes.now) }
-    ensures unchanged { IsFalse result → tags.new ≡ tags.old }
+    ensures { WritesEach (hmac (ripemd ripemd256) key.now) bytes.now size result tags.old tags.new }
 {
     hash_records(&ListHasher::<Ripemd256>::keyed(key), bytes, size, tags)
 }
@@ -154,10 +133,7 @@ pub extern "C" fn nattizhu_hmac_ripemd320_each_nonnull(
     size: usize,
     tags: &mut [[u8; 40]],
 ) -> bool
-    ensures fits { IsTrue result ↔ (length bytes.now ≡ length tags.old * size) }
-    ensures tags { IsTrue result → tags.new
-        ≡ map (hmac (ripemd ripemd320) key.now) (records (length tags.old) size bytes.now) }
-    ensures unchanged { IsFalse result → tags.new ≡ tags.old }
+    ensures { WritesEach (hmac (ripemd ripemd320) key.now) bytes.now size result tags.old tags.new }
 {
     hash_records(&ListHasher::<Ripemd320>::keyed(key), bytes, size, tags)
 }
@@ -200,6 +176,7 @@ fn group_len(len: usize, at: usize) -> usize
 }
 
 // The first `count` of these are the records from `at` on.
+#[inline(always)]
 fn records_from<'a>(bytes: &'a [u8], size: usize, at: usize, count: usize) -> [&'a [u8]; GROUP]
     requires most { count ≤ 128 }
     requires fits { at + count < 2 ^ 64 }
