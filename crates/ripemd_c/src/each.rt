@@ -12,7 +12,7 @@ use ripemd::{Ripemd128, Ripemd160, Ripemd256, Ripemd320};
 use ripemd_batch::{BatchDigest, ListHasher};
 
 // How many records a group has.
-const GROUP: usize = 128;
+const GROUP: usize = 64;
 
 /// Writes the RIPEMD-128 digest of each record to its place in `digests`. The records lie one after
 /// another, each of `size` bytes. False exactly if `bytes` is not as long as the places times the
@@ -170,7 +170,7 @@ fn hash_records<D: BatchDigest>(
 #[inline(always)]
 fn group_len(len: usize, at: usize) -> usize
     requires { at < len }
-    ensures { result ≡ min 128 (len - at) }
+    ensures { result ≡ min 64 (len - at) }
 {
     if len - at < GROUP { len - at } else { GROUP }
 }
@@ -178,7 +178,7 @@ fn group_len(len: usize, at: usize) -> usize
 // The first `count` of these are the records from `at` on.
 #[inline(always)]
 fn records_from<'a>(bytes: &'a [u8], size: usize, at: usize, count: usize) -> [&'a [u8]; GROUP]
-    requires most { count ≤ 128 }
+    requires most { count ≤ 64 }
     requires fits { at + count < 2 ^ 64 }
     requires length { (at + count) * size ≤ length bytes.now }
     ensures { (j : ℕ) → j < count → of_message (targets result) j ≡ record_at size bytes.now (at + j) }

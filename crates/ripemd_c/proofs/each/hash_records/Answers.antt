@@ -14,7 +14,7 @@ pub loop-g-preserved : goal.loop-g-preserved
 loop-g-preserved g c =
     let bytes_of = g.D.OutputSizeUser.bytes_of in
     let made : List ℕ → List ℕ = made_by g.D.Digest.step g.D.Digest.output c.args.hasher.now in
-    let at : ℕ = 128 * c.loop-g.g in
+    let at : ℕ = 64 * c.loop-g.g in
     let old = c.loop-g.outputs in
     let part = c.hash_each.new.outputs in
     let count : ℕ = c.group_len-count.result in

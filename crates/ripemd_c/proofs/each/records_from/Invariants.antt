@@ -6,6 +6,6 @@ use Rattle.ripemd_c.proofs.each.records_from.Given as goal
 
 abbrev pub invariant-loop-j : goal.invariant-loop-j
 invariant-loop-j l = record {
-  size : length l.messages ≡ 128;
+  size : length l.messages ≡ 64;
   so_far : (i : ℕ) → i < l.j → of_message (targets l.messages) i ≡ record_at l.size l.bytes (l.at + i);
 }
