@@ -56,9 +56,9 @@ lines_of_five_registers j left right = record { left = lane_of_five j left; righ
 abbrev pub targets : List (Bor (List ℕ)) → List (List ℕ)
 targets refs = map (λ r. r.now) refs
 
--- list j of some lists, that of message j
-abbrev pub of_message : List (List ℕ) → ℕ → List ℕ
-of_message xs j = slice_index_or xs j []
+-- list j of some lists
+abbrev pub list_at : List (List ℕ) → ℕ → List ℕ
+list_at xs j = slice_index_or xs j []
 
 -- the blocks of message j, of the blocks of each
 abbrev pub blocks_of : List (List (List ℕ)) → ℕ → List (List ℕ)

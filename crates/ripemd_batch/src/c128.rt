@@ -3,7 +3,7 @@
 
 ghost use Rattle.std.specs.Prelude.{◌≡◌, ◌<◌, ℕ};
 ghost use Rattle.ripemd_block.specs.Standard.Compression.{joint_state, compress, ripemd128};
-ghost use Rattle.ripemd_batch.specs.Lanes.{lane_of_four, of_message, targets};
+ghost use Rattle.ripemd_batch.specs.Lanes.{lane_of_four, list_at, targets};
 
 use crate::eight::Eight;
 use crate::four_registers::{Lines, round};
@@ -29,7 +29,7 @@ fn joint_state(state: [Eight; 4], lines: Lines) -> [Eight; 4]
 /// The states after one more block of each message.
 pub(crate) fn compress(state: [Eight; 4], blocks: &[&[u8; 64]; 8]) -> [Eight; 4]
     ensures { (j : ℕ) → j < 8 → lane_of_four j result
-        ≡ compress ripemd128 (lane_of_four j state) (of_message (targets blocks.now) j) }
+        ≡ compress ripemd128 (lane_of_four j state) (list_at (targets blocks.now) j) }
 {
     let words = message_words(blocks);
     let lines = Lines {

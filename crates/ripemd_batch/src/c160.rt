@@ -3,7 +3,7 @@
 
 ghost use Rattle.std.specs.Prelude.{◌≡◌, ◌<◌, ℕ};
 ghost use Rattle.ripemd_block.specs.Standard.Compression.{joint_state, compress, ripemd160};
-ghost use Rattle.ripemd_batch.specs.Lanes.{lane_of_five, of_message, targets};
+ghost use Rattle.ripemd_batch.specs.Lanes.{lane_of_five, list_at, targets};
 
 use crate::eight::Eight;
 use crate::five_registers::{Lines, round};
@@ -30,7 +30,7 @@ fn joint_state(state: [Eight; 5], lines: Lines) -> [Eight; 5]
 /// The states after one more block of each message.
 pub(crate) fn compress(state: [Eight; 5], blocks: &[&[u8; 64]; 8]) -> [Eight; 5]
     ensures { (j : ℕ) → j < 8 → lane_of_five j result
-        ≡ compress ripemd160 (lane_of_five j state) (of_message (targets blocks.now) j) }
+        ≡ compress ripemd160 (lane_of_five j state) (list_at (targets blocks.now) j) }
 {
     let words = message_words(blocks);
     let lines = Lines {

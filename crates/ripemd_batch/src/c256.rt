@@ -5,7 +5,7 @@ ghost use Rattle.std.specs.Prelude.{◌≡◌, ◌<◌, ℕ};
 ghost use Rattle.ripemd_block.specs.Standard.Compression.{lines_from, double_state};
 ghost use Rattle.ripemd_block.specs.Standard.Compression.{compress, ripemd256};
 ghost use Rattle.ripemd_batch.specs.Lanes.{lane_of_four, lines_of_four_registers, lane_of_eight};
-ghost use Rattle.ripemd_batch.specs.Lanes.{of_message, targets};
+ghost use Rattle.ripemd_batch.specs.Lanes.{list_at, targets};
 
 use crate::eight::Eight;
 use crate::four_registers::{Lines, exchange, round};
@@ -48,7 +48,7 @@ fn double_state(state: [Eight; 8], lines: Lines) -> [Eight; 8]
 /// and D in turn.
 pub(crate) fn compress(state: [Eight; 8], blocks: &[&[u8; 64]; 8]) -> [Eight; 8]
     ensures { (j : ℕ) → j < 8 → lane_of_eight j result
-        ≡ compress ripemd256 (lane_of_eight j state) (of_message (targets blocks.now) j) }
+        ≡ compress ripemd256 (lane_of_eight j state) (list_at (targets blocks.now) j) }
 {
     let words = message_words(blocks);
     let lines = lines_from(state);

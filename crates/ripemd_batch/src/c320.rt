@@ -4,7 +4,7 @@
 ghost use Rattle.std.specs.Prelude.{◌≡◌, ◌<◌, ℕ};
 ghost use Rattle.ripemd_block.specs.Standard.Compression.{lines_from, double_state};
 ghost use Rattle.ripemd_block.specs.Standard.Compression.{compress, ripemd320};
-ghost use Rattle.ripemd_batch.specs.Lanes.{lane_of_five, lines_of_five_registers, lane_of_ten, of_message, targets};
+ghost use Rattle.ripemd_batch.specs.Lanes.{lane_of_five, lines_of_five_registers, lane_of_ten, list_at, targets};
 
 use crate::eight::Eight;
 use crate::five_registers::{Lines, exchange, round};
@@ -49,7 +49,7 @@ fn double_state(state: [Eight; 10], lines: Lines) -> [Eight; 10]
 /// C and E in turn.
 pub(crate) fn compress(state: [Eight; 10], blocks: &[&[u8; 64]; 8]) -> [Eight; 10]
     ensures { (j : ℕ) → j < 8 → lane_of_ten j result
-        ≡ compress ripemd320 (lane_of_ten j state) (of_message (targets blocks.now) j) }
+        ≡ compress ripemd320 (lane_of_ten j state) (list_at (targets blocks.now) j) }
 {
     let words = message_words(blocks);
     let lines = lines_from(state);

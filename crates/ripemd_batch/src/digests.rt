@@ -3,7 +3,7 @@
 ghost use Rattle.std.specs.Prelude.{◌≡◌, ℕ, ◌+◌, ◌*◌, ◌<◌, ◌≤◌, min, List};
 ghost use Rattle.std.specs.Prelude.{length, map, slice_index, slice_index_or, []};
 ghost use Rattle.ripemd_block.specs.Standard.Hashing.{hash, walk, blocks};
-ghost use Rattle.ripemd_batch.specs.Lanes.{of_message, targets, blocks_of, padded_after, hash_after};
+ghost use Rattle.ripemd_batch.specs.Lanes.{list_at, targets, blocks_of, padded_after, hash_after};
 
 use crate::eight::Eight;
 use crate::lists::ListHasher;
@@ -170,8 +170,9 @@ fn digest_group<D: BatchDigest>(
     }
 }
 
-// Whether it is faster to hash at most eight messages at once than one after another: if all of
-// them have four times as many blocks as the longest, or more.
+// Whether to hash at most eight messages at once, and not one after another: if all of them have four
+// times as many blocks as the longest, or more. It has no contract, since both ways give the same
+// digests: any answer is right, and this one is the faster.
 fn fills_lanes(messages: &[&[u8]]) -> bool {
     let mut most = 0;
     let mut sum: usize = 0;
@@ -222,7 +223,7 @@ fn digest_one<D: BatchDigest>(first: StateOf<D>, before: u64, message: &[u8]) ->
 #[inline(always)]
 fn message_at<'a>(messages: &[&'a [u8]], i: usize) -> &'a [u8]
     requires { i < length messages.now }
-    ensures { result.now ≡ of_message (targets messages.now) i }
+    ensures { result.now ≡ list_at (targets messages.now) i }
 {
     messages[i]
 }
@@ -230,7 +231,7 @@ fn message_at<'a>(messages: &[&'a [u8]], i: usize) -> &'a [u8]
 // Message `i`, or an empty one behind the last.
 #[inline(always)]
 fn message_or_empty<'a>(messages: &[&'a [u8]], i: usize) -> &'a [u8]
-    ensures { i < length messages.now → result.now ≡ of_message (targets messages.now) i }
+    ensures { i < length messages.now → result.now ≡ list_at (targets messages.now) i }
 {
     if i < messages.len() {
         message_at(messages, i)
@@ -248,7 +249,7 @@ fn walk_group<S: EightStates>(
 ) -> S
     ensures { (j : ℕ) → j < 8 → j < length messages.now
         → S.words_of j result ≡ walk S.Function.step (S.Function.list first)
-        (blocks (padded_after before (of_message (targets messages.now) j))) }
+        (blocks (padded_after before (list_at (targets messages.now) j))) }
 {
     let mut zeros_0 = [[0; 64]; 2];
     let mut zeros_1 = [[0; 64]; 2];

@@ -2,7 +2,7 @@
 
 ghost use Rattle.std.specs.Prelude.{◌≡◌, ◌<◌, ◌+◌, ◌*◌, ℕ, slice_index};
 ghost use Rattle.ripemd_block.specs.Standard.Words.{message_word};
-ghost use Rattle.ripemd_batch.specs.Lanes.{HasWords, lane_at, of_message, targets};
+ghost use Rattle.ripemd_batch.specs.Lanes.{HasWords, lane_at, list_at, targets};
 
 use crate::eight::Eight;
 use crate::four_words::FourWords;
@@ -13,7 +13,7 @@ fn four_message_words(blocks: &[&[u8; 64]; 8], j: usize, i: usize) -> FourWords
     requires message { j < 8 }
     requires words { i < 4 }
     ensures { (k : ℕ) → k < 4 → slice_index result k
-        ≡ message_word (of_message (targets blocks.now) j) (4 * i + k) }
+        ≡ message_word (list_at (targets blocks.now) j) (4 * i + k) }
 {
     FourWords::of_block(blocks[j], i)
 }
@@ -23,7 +23,7 @@ fn four_message_words(blocks: &[&[u8; 64]; 8], j: usize, i: usize) -> FourWords
 fn four_message_words_of_each(blocks: &[&[u8; 64]; 8], i: usize) -> [Eight; 4]
     requires { i < 4 }
     ensures { (k : ℕ) → k < 4 → (j : ℕ) → j < 8
-        → lane_at result k j ≡ message_word (of_message (targets blocks.now) j) (4 * i + k) }
+        → lane_at result k j ≡ message_word (list_at (targets blocks.now) j) (4 * i + k) }
 {
     let low = FourWords::transposed(
         four_message_words(blocks, 0, i),
@@ -48,7 +48,7 @@ fn four_message_words_of_each(blocks: &[&[u8; 64]; 8], i: usize) -> [Eight; 4]
 /// The sixteen message words of eight blocks.
 #[inline(always)]
 pub(crate) fn message_words(blocks: &[&[u8; 64]; 8]) -> [Eight; 16]
-    ensures { (j : ℕ) → j < 8 → HasWords result j (of_message (targets blocks.now) j) }
+    ensures { (j : ℕ) → j < 8 → HasWords result j (list_at (targets blocks.now) j) }
 {
     let [x0, x1, x2, x3] = four_message_words_of_each(blocks, 0);
     let [x4, x5, x6, x7] = four_message_words_of_each(blocks, 1);

@@ -3,7 +3,7 @@
 
 ghost use Rattle.std.specs.Prelude.{◌≡◌, ℕ, ◌<◌, List, slice_index};
 ghost use Rattle.ripemd_batch.specs.Lanes.{lane_of_four, lane_of_five, lane_of_eight};
-ghost use Rattle.ripemd_batch.specs.Lanes.{lane_of_ten, of_message, targets};
+ghost use Rattle.ripemd_batch.specs.Lanes.{lane_of_ten, list_at, targets};
 
 use crate::eight::Eight;
 use crate::{c128, c160, c256, c320};
@@ -31,7 +31,7 @@ pub trait EightStates: Copy {
     // The states after one more block of each message.
     fn compress(self, blocks: &[&[u8; 64]; 8]) -> Self
         ensures { (j : ℕ) → j < 8 → words_of j result
-            ≡ Self.Function.step (words_of j self) (of_message (targets blocks.now) j) };
+            ≡ Self.Function.step (words_of j self) (list_at (targets blocks.now) j) };
 
     // The new states of the messages whose word in `live` has all bits set, and the old ones of
     // those where it is 0.

@@ -5,7 +5,7 @@ ghost use Rattle.std.specs.Prelude.{length, map, IsTrue, IsFalse};
 ghost use Rattle.ripemd.specs.Standard.Compression.{ripemd128, ripemd160, ripemd256, ripemd320};
 ghost use Rattle.ripemd.specs.Standard.Hashing.{ripemd};
 ghost use Rattle.ripemd_mac.specs.Keyed.{hmac};
-ghost use Rattle.ripemd_batch.specs.Lanes.{made_by, of_message, targets};
+ghost use Rattle.ripemd_batch.specs.Lanes.{made_by, list_at, targets};
 ghost use Rattle.ripemd_c.specs.Records.{WritesEach, record_at, records};
 
 use ripemd::{Ripemd128, Ripemd160, Ripemd256, Ripemd320};
@@ -181,18 +181,18 @@ fn records_from<'a>(bytes: &'a [u8], size: usize, at: usize, count: usize) -> [&
     requires most { count ≤ 64 }
     requires fits { at + count < 2 ^ 64 }
     requires length { (at + count) * size ≤ length bytes.now }
-    ensures { (j : ℕ) → j < count → of_message (targets result) j ≡ record_at size bytes.now (at + j) }
+    ensures { (j : ℕ) → j < count → list_at (targets result) j ≡ record_at size bytes.now (at + j) }
 {
     let mut messages: [&[u8]; GROUP] = [&[]; GROUP];
     for j in 0..count {
-        messages[j] = record_at(bytes, size, at + j);
+        messages[j] = record_slice(bytes, size, at + j);
     }
     messages
 }
 
 // Record `i`.
 #[inline(always)]
-fn record_at<'a>(bytes: &'a [u8], size: usize, i: usize) -> &'a [u8]
+fn record_slice<'a>(bytes: &'a [u8], size: usize, i: usize) -> &'a [u8]
     requires { i * size + size ≤ length bytes.now }
     ensures { result.now ≡ record_at size bytes.now i }
 {

@@ -1,6 +1,6 @@
 use Rattle.std.proofs.Common.{◌≡◌, ℕ, ◌+◌, ◌<◌, List, [], length, arith, sym, ◌∙◌}
 use Rattle.std.proofs.lemmas.List.{length-map, length-set}
-use Rattle.ripemd_batch.specs.Lanes.{targets, of_message, hash_after}
+use Rattle.ripemd_batch.specs.Lanes.{targets, list_at, hash_after}
 use Rattle.ripemd_batch.proofs.Placing.{put_next, all_taken, all_equal}
 use Rattle.ripemd_batch.proofs.Walking.{output_after}
 use Rattle.ripemd_batch.proofs.digests.digest_group.Goals as goal
@@ -26,7 +26,7 @@ loop-j-preserved g c =
       | then-j-messages w ↦
           let one =
           sym (same.same_bytes w.digest_of-digest.result) ∙ w.digest_of-digest.ensures
-          ∙ output_after c.args.before first f.step d.step f.output d.output (of_message all j)
+          ∙ output_after c.args.before first f.step d.step f.output d.output (list_at all j)
           (s.words_of j c.walk_group-states.result) (c.walk_group-states.ensures j lane (omega arith))
           same.same_step same.same_output in
           rw w.digests-is (record {

@@ -1,7 +1,7 @@
 use Rattle.std.proofs.Common.{◌≡◌, ℕ, ◌<◌, ◌≤◌, List, [], ◌∷◌, length, arith}
 use Rattle.std.proofs.lemmas.List.{take_all}
 use Rattle.ripemd_block.specs.Standard.Hashing.{blocks}
-use Rattle.ripemd_batch.specs.Lanes.{targets, of_message, blocks_of, padded_after}
+use Rattle.ripemd_batch.specs.Lanes.{targets, list_at, blocks_of, padded_after}
 use Rattle.ripemd_batch.proofs.Blocks.{blocks_at}
 use Rattle.ripemd_batch.proofs.Walking.{walk_on}
 use Rattle.ripemd_batch.proofs.EightLanes.{below_eight}
@@ -24,8 +24,8 @@ returns g c j h within =
     let before : ℕ = c.args.before in
     let own : List (List (List ℕ)) = c.of.result ∷ c.of-2.result ∷ c.of-3.result ∷ c.of-4.result ∷ c.of-5.result
     ∷ c.of-6.result ∷ c.of-7.result ∷ c.of-8.result ∷ [] in
-    let blocks_are : blocks_of own j ≡ blocks (padded_after before (of_message all j)) =
-    below_eight (λ i. i < count → blocks_of own i ≡ blocks (padded_after before (of_message all i)))
+    let blocks_are : blocks_of own j ≡ blocks (padded_after before (list_at all j)) =
+    below_eight (λ i. i < count → blocks_of own i ≡ blocks (padded_after before (list_at all i)))
     (blocks_at before all count 0 _ _ c.message_or_empty.ensures c.of.ensures)
     (blocks_at before all count 1 _ _ c.message_or_empty-2.ensures c.of-2.ensures)
     (blocks_at before all count 2 _ _ c.message_or_empty-3.ensures c.of-3.ensures)

@@ -1,12 +1,12 @@
 use Rattle.std.proofs.Common.{ℕ, ◌+◌, ◌*◌, arith}
 use Rattle.ripemd_block.specs.Standard.Words.{message_word}
-use Rattle.ripemd_batch.specs.Lanes.{of_message, targets}
+use Rattle.ripemd_batch.specs.Lanes.{list_at, targets}
 use Rattle.ripemd_batch.proofs.Transposing.{joined}
 use Rattle.ripemd_batch.proofs.message.four_message_words_of_each.Goals as goal
 
 pub returns : goal.returns
 returns c =
-    let word : ℕ → ℕ → ℕ = λ k j. message_word (of_message (targets c.args.blocks.now) j) (4 * c.args.i + k) in
+    let word : ℕ → ℕ → ℕ = λ k j. message_word (list_at (targets c.args.blocks.now) j) (4 * c.args.i + k) in
     joined word c.transposed-low.result c.transposed-high.result _ _ _ _ _ _ _ _ _ _ _ _ (omega arith) (omega arith)
     (λ k small. rw (
       c.four_message_words.ensures k small,
