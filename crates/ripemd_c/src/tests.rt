@@ -144,13 +144,12 @@ fn all_agree(count: usize, size: usize) -> bool
         && agree_by_320(records, size, count)
 }
 
-// Many records of three bytes; records longer than a block, as many as are handed on at once, and
-// one more.
+// Many records of three bytes; records longer than a block, as many as a group has, and one more.
 #[test]
 fn many_records(rt: HostRuntime) {
     assert!(rt; all_agree(300, 3));
-    assert!(rt; all_agree(128, 70));
-    assert!(rt; all_agree(129, 70));
+    assert!(rt; all_agree(64, 70));
+    assert!(rt; all_agree(65, 70));
 }
 
 // Records of no bytes: each digest is that of the empty message, as published.
