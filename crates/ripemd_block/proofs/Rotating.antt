@@ -1,4 +1,4 @@
--- Rotation by a shift of the word beside itself.
+-- Rotation by a shift of a doubled word.
 use Rattle.std.proofs.Common.{◌≡◌, ℕ, ◌<◌, ◌+◌, ◌-◌, ◌*◌, ◌/◌, ◌%◌, ◌^◌, bit_or, arith, refl, subst, ap, ◌∙◌}
 use Rattle.std.proofs.Common.{List, [], ◌∷◌, slice_index}
 use Rattle.std.specs.Simd.Lanes.{number_l, digits_l}
@@ -6,7 +6,7 @@ use Rattle.std.proofs.lemmas.Nat.{pow_pos, pow-add, or_shifted, shr_below, shr_l
 use Rattle.std.proofs.lemmas.Nat.{div-add-mod', div-mul-add}
 use Rattle.std.proofs.Math.Nat.{add-mul-div_left, add-mul-mod_self_left, mod-eq_of_lt}
 use Rattle.ripemd_block.specs.Standard.Words.{rol}
-use Rattle.ripemd_block.specs.Code.Pairs.{beside_itself}
+use Rattle.ripemd_block.specs.Code.Pairs.{doubled}
 
 -- A number y, of hi below A in front of lo below B. In both of its ways to be rotated, lo
 -- comes to stand in front of hi.
@@ -14,7 +14,7 @@ module _ (hi lo A B : ℕ) (high : hi < A) (low : lo < B) where
   parts_fit : lo * A + hi < A * B
   parts_fit = grind (arith, mul-add-lt lo A hi B low high)
 
-  -- y beside itself, without its last digits
+  -- y doubled, without its last digits
   from_beside : ((hi * B + lo) + A * B * (hi * B + lo)) / B % (A * B) ≡ lo * A + hi
   from_beside =
       let y : ℕ = hi * B + lo in
@@ -48,8 +48,8 @@ rotated_number y s t h =
     (λ (v : ℕ). (v + 2 ^ s * 2 ^ t * v) / 2 ^ t % (2 ^ s * 2 ^ t) ≡ bit_or (v * 2 ^ s % (2 ^ s * 2 ^ t)) hi)
     (div-add-mod' y (2 ^ t)) in_parts)
 
--- a word beside itself, shifted to the right by 32 - s, ends in the word rotated to the left by s
-pub shift_rotates : (y s : ℕ) → y < 2 ^ 32 → 0 < s → s < 32 → beside_itself y / 2 ^ (32 - s) % 2 ^ 32 ≡ rol y s
+-- a doubled word, shifted to the right by 32 - s, ends in the word rotated to the left by s
+pub shift_rotates : (y s : ℕ) → y < 2 ^ 32 → 0 < s → s < 32 → doubled y / 2 ^ (32 - s) % 2 ^ 32 ≡ rol y s
 shift_rotates y s h low high =
     let t : ℕ = 32 - s in
     let sum : s + t ≡ 32 = omega arith in
@@ -68,20 +68,20 @@ four_words a b h = search arith
 
 -- two words beside themselves, both shifted to the right by 32 - s: the rotated words, at 0 and 2
 abbrev pub shifted_words : ℕ → ℕ → ℕ → List ℕ
-shifted_words l r s = as_four_words (beside_itself l / 2 ^ (32 - s)) (beside_itself r / 2 ^ (32 - s))
+shifted_words l r s = as_four_words (doubled l / 2 ^ (32 - s)) (doubled r / 2 ^ (32 - s))
 
 module _ (l r s : ℕ) (left : l < 2 ^ 32) (right : r < 2 ^ 32) (low : 0 < s) (high : s < 32) where
-  first_below : beside_itself l / 2 ^ (32 - s) < 2 ^ 64
+  first_below : doubled l / 2 ^ (32 - s) < 2 ^ 64
   first_below =
-      let wide : beside_itself l < 2 ^ 64 = omega arith in
-      omega (arith, shr_le (beside_itself l) (32 - s))
+      let wide : doubled l < 2 ^ 64 = omega arith in
+      omega (arith, shr_le (doubled l) (32 - s))
 
   pub left_rotated : slice_index (shifted_words l r s) 0 ≡ rol l s
   left_rotated =
-      ap (λ (v : List ℕ). slice_index v 0) (four_words _ (beside_itself r / 2 ^ (32 - s)) first_below)
+      ap (λ (v : List ℕ). slice_index v 0) (four_words _ (doubled r / 2 ^ (32 - s)) first_below)
       ∙ shift_rotates l s left low high
 
   pub right_rotated : slice_index (shifted_words l r s) 2 ≡ rol r s
   right_rotated =
-      ap (λ (v : List ℕ). slice_index v 2) (four_words _ (beside_itself r / 2 ^ (32 - s)) first_below)
+      ap (λ (v : List ℕ). slice_index v 2) (four_words _ (doubled r / 2 ^ (32 - s)) first_below)
       ∙ shift_rotates r s right low high

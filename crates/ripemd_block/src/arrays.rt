@@ -105,11 +105,11 @@ pub(crate) fn read_words(bytes: &[u8], words: &mut [u32])
             bytes[4 * i + 3],
         ]);
     }
-    words_fit(words);
+    words_in_range(words);
 }
 
 // Words are below 2^32.
-fn words_fit(words: &[u32])
+fn words_in_range(words: &[u32])
     ensures { All (λ w. w < 2 ^ 32) words.now }
 {}
 

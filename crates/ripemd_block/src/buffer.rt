@@ -48,7 +48,7 @@ impl Buffer {
         if len >= 64 {
             return None;
         }
-        bytes_fit(bytes);
+        bytes_in_range(bytes);
         let mut all = [0; 64];
         all[..len].copy_from_slice(bytes);
         Some(Buffer { bytes: all, len })
@@ -79,7 +79,7 @@ impl Buffer {
         ensures valid { IsTail self.now }
     {
         let data = &self.bytes[..self.len];
-        bytes_fit(data);
+        bytes_in_range(data);
         data
     }
 
@@ -94,7 +94,7 @@ impl Buffer {
         ensures valid_tail_old { IsTail self.old }
         ensures valid_tail_new { IsTail self.new }
     {
-        bytes_fit(self.get_data());
+        bytes_in_range(self.get_data());
         let mut len = self.len;
         let mut rest = bytes;
         // The bytes may fill the block that the tail begins.
@@ -109,7 +109,7 @@ impl Buffer {
         core.update_blocks(blocks);
         put_behind(&mut self.bytes, len, tail);
         self.len = len + tail.len();
-        bytes_fit(self.get_data());
+        bytes_in_range(self.get_data());
     }
 
     /// The end of a message whose tail it holds and whose length is `bit_len` bits (1996, with the
@@ -130,8 +130,8 @@ impl Buffer {
     }
 }
 
-// Fewer bytes than a block are a tail.
-fn bytes_fit(tail: &[u8])
+// Bytes are below 256: fewer of them than a block are a tail.
+fn bytes_in_range(tail: &[u8])
     requires { length tail.now < block_size }
     ensures { IsTail tail.now }
 {}

@@ -2,13 +2,13 @@
 //! does to them.
 //!
 //! Each word stands twice. Vectors up to AVX2 have no rotation, so this takes one shift in place of
-//! two shifts and a sum: a word beside itself, shifted to the right, ends in the word rotated.
+//! two shifts and a sum: a doubled word, shifted to the right, ends in the word rotated.
 
 ghost use Rattle.std.specs.Prelude.{◌≡◌, ◌<◌, ◌^◌, ◌%◌, bit_xor, bit_and, bit_or};
 ghost use Rattle.std.specs.Prelude.{[], ◌∷◌, slice_index};
 ghost use Rattle.std.specs.Int.{w32, bit_not};
 ghost use Rattle.ripemd_block.specs.Standard.Words.{◌⊞◌, rol};
-ghost use Rattle.ripemd_block.specs.Code.Pairs.{beside_itself};
+ghost use Rattle.ripemd_block.specs.Code.Pairs.{doubled};
 
 use std::marker::Model;
 use std::simd::prelude::*;
@@ -142,10 +142,10 @@ impl Pair {
         }
     }
 
-    // Each word beside itself, as one number.
+    // Each word doubled: twice in one number.
     #[inline(always)]
-    fn beside_itself(self) -> u64x2
-        ensures numbers { result ≡ beside_itself self.left ∷ beside_itself self.right ∷ [] }
+    fn doubled(self) -> u64x2
+        ensures numbers { result ≡ doubled self.left ∷ doubled self.right ∷ [] }
         ensures words { (self.left < 2 ^ 32) × (self.right < 2 ^ 32) }
     {
         u64x2::from_le_bytes(self.lanes.to_le_bytes())
@@ -158,7 +158,7 @@ impl Pair {
         ensures left { slice_index result 0 ≡ rol self.left by }
         ensures right { slice_index result 2 ≡ rol self.right by }
     {
-        let shifted = self.beside_itself() >> u64x2::splat((32 - by) as u64);
+        let shifted = self.doubled() >> u64x2::splat((32 - by) as u64);
         u32x4::from_le_bytes(shifted.to_le_bytes())
     }
 

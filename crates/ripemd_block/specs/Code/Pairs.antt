@@ -16,6 +16,6 @@ pub record ArePair (lanes : List ℕ) : Type 0 where
   pub left_word : slice_index lanes 0 < 2 ^ 32
   pub right_word : slice_index lanes 2 < 2 ^ 32
 
--- the word y beside itself, as one number of 64 bits
-abbrev pub beside_itself : ℕ → ℕ
-beside_itself y = y + 2 ^ 32 * y
+-- the word y doubled: twice in one number of 64 bits
+abbrev pub doubled : ℕ → ℕ
+doubled y = y + 2 ^ 32 * y

@@ -12,7 +12,7 @@ use Rattle.ripemd_block.specs.Standard.Compression.{Parameters}
 use Rattle.ripemd_block.specs.States.{HashState, AreWords, IsTail, IsHashState, IsState, IsWithoutTail, IsCoreState}
 use Rattle.ripemd_block.specs.States.{output_and_count, core_and_tail, core_bytes, hasher_bytes}
 use Rattle.ripemd_block.specs.Listed.{TellsWords}
-use Rattle.ripemd_block.specs.Laws.WordBytes.{words_of, words_read, words_fit, bytes_of_words, one_list}
+use Rattle.ripemd_block.specs.Laws.WordBytes.{words_of, words_read, words_in_range, bytes_of_words, one_list}
 
 -- n words are told by their bytes
 pub words_told : (n : ℕ) → TellsWords (AreWords n) word_bytes (4 * n)
@@ -172,7 +172,7 @@ every_core v bytes size small refused =
     let count = le_bytes_8 last (from_le_bytes w64 last) last_size last_small refl in
     let no_tail : IsTail [] = record { short = omega arith; bytes = search rules } in
     let state : IsState v (record { words = words_of n bytes; count = from_le_bytes w64 last; tail = [] }) = record {
-      words = words_fit n bytes (omega arith) small;
+      words = words_in_range n bytes (omega arith) small;
       count = count_of_eight last last_size last_small;
       tail = no_tail;
     } in

@@ -68,17 +68,17 @@ words_read (suc n) (a ∷ b ∷ c ∷ d ∷ bytes) fits small =
     small_four a b c d fit_a fit_b fit_c fit_d (suc (suc (suc zero))) = fit_d
     small_four a b c d fit_a fit_b fit_c fit_d (suc (suc (suc (suc i)))) = omega arith
 
--- they are words
-pub words_fit : (n : ℕ) (bytes : List ℕ) → 4 * n ≤ length bytes → ((i : ℕ) → get_or bytes i 0 < 256)
+-- the words read are in range
+pub words_in_range : (n : ℕ) (bytes : List ℕ) → 4 * n ≤ length bytes → ((i : ℕ) → get_or bytes i 0 < 256)
     → AreWords n (words_of n bytes)
 unfolding words_of
-words_fit zero bytes fits small = record { count = refl; fit = search rules }
-words_fit (suc n) [] fits small = absurd (omega arith)
-words_fit (suc n) (a ∷ []) fits small = absurd (omega arith)
-words_fit (suc n) (a ∷ b ∷ []) fits small = absurd (omega arith)
-words_fit (suc n) (a ∷ b ∷ c ∷ []) fits small = absurd (omega arith)
-words_fit (suc n) (a ∷ b ∷ c ∷ d ∷ bytes) fits small =
-    let rest = words_fit n bytes (omega arith) (λ i. small (suc (suc (suc (suc i))))) in
+words_in_range zero bytes fits small = record { count = refl; fit = search rules }
+words_in_range (suc n) [] fits small = absurd (omega arith)
+words_in_range (suc n) (a ∷ []) fits small = absurd (omega arith)
+words_in_range (suc n) (a ∷ b ∷ []) fits small = absurd (omega arith)
+words_in_range (suc n) (a ∷ b ∷ c ∷ []) fits small = absurd (omega arith)
+words_in_range (suc n) (a ∷ b ∷ c ∷ d ∷ bytes) fits small =
+    let rest = words_in_range n bytes (omega arith) (λ i. small (suc (suc (suc (suc i))))) in
     let word = word_of_four a b c d (small 0) (small 1) (small 2) (small 3) in
     record {
       count = omega (arith, rest.count);

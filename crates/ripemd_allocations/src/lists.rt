@@ -86,7 +86,7 @@ static BAD_COMMAND: [Command; 3] = [
 ];
 
 // The imported hasher is finished, and is as new.
-fn finished<'a>(state: &'a [u8]) -> [Command<'a>; 3] {
+fn finish_imported<'a>(state: &'a [u8]) -> [Command<'a>; 3] {
     [
         Command::Import { bytes: state },
         Command::Finish { hasher: 0 },
@@ -95,7 +95,7 @@ fn finished<'a>(state: &'a [u8]) -> [Command<'a>; 3] {
 }
 
 // A state that is saved of the imported hasher stays as it was.
-fn saved_again<'a>(state: &'a [u8]) -> [Command<'a>; 5] {
+fn save_imported_again<'a>(state: &'a [u8]) -> [Command<'a>; 5] {
     [
         Command::Import { bytes: state },
         Command::Save { hasher: 0 },
@@ -150,15 +150,15 @@ fn outcomes_of_imports(alloc: Global) -> [(&'static str, Outcome); 3] {
     [
         (
             "an imported state, finished",
-            outcome(alloc, &finished(&abc), &[ABC, EMPTY]),
+            outcome(alloc, &finish_imported(&abc), &[ABC, EMPTY]),
         ),
         (
             "an imported state, saved again",
-            outcome(alloc, &saved_again(&abc), &[ABC]),
+            outcome(alloc, &save_imported_again(&abc), &[ABC]),
         ),
         (
             "an imported state with a block, saved again",
-            outcome(alloc, &saved_again(&letters), &[LETTERS]),
+            outcome(alloc, &save_imported_again(&letters), &[LETTERS]),
         ),
     ]
 }
