@@ -138,5 +138,7 @@ impl Digest for Sums {
 impl BlockDigest for Sums {
     type Core = SumsCore;
 
+    ghost use Rattle.std.specs.Prelude.{refl};
+
     ghost digest_is = { λ message. refl };
 }
