@@ -6,7 +6,7 @@ use Rattle.std.proofs.lemmas.List.{length-take-le, take-append-drop}
 use Rattle.std.proofs.Math.Seq.{take-append_seam, drop-append_seam}
 use Rattle.ripemd_block.specs.States.{HashState, IsTail, IsHashState, IsWithoutTail, with_tail}
 use Rattle.ripemd_block.specs.States.{output_and_count, core_and_tail}
-use Rattle.ripemd_block.specs.Listed.{TellsWords}
+use Rattle.ripemd_block.specs.OverLists.{IsInjectiveOutput}
 use Rattle.ripemd_block.specs.Laws.Saving.{tail_bytes, length-output_and_count, core_and_tail-split}
 
 -- bytes that are a length, as many bytes, and zero bytes, are those of the saved tail
@@ -30,7 +30,7 @@ rest_of_tail saved rest tail same back =
 
 -- ---- the saved bytes of a hasher, taken apart into those of a core and of a tail, where the core's end
 
-module _ {are_words : List ℕ → Type 0} {output : List ℕ → List ℕ} {size : ℕ} (told : TellsWords are_words output size)
+module _ {are_words : List ℕ → Type 0} {output : List ℕ → List ℕ} {size : ℕ} (told : IsInjectiveOutput are_words output size)
     (h : HashState) (valid : IsHashState are_words h) (n : ℕ) (core_size : n ≡ size + 8)
     (bytes : List ℕ) (same : core_and_tail output h ≡ bytes) where
   split : bytes ≡ output_and_count output h ++ tail_bytes h.tail

@@ -1,7 +1,7 @@
 -- The definitions that the contracts cite, from ripemd_block.
 pub use Rattle.ripemd_block.specs.Standard
 pub use Rattle.ripemd_block.specs.States
-pub use Rattle.ripemd_block.specs.Listed
+pub use Rattle.ripemd_block.specs.OverLists
 -- What the authors published, and worked values.
 pub use Rattle.ripemd_block.specs.Published
 -- What has to be believed besides: the machine of `replay`, and collisions of block functions.

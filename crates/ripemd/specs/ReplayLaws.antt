@@ -170,7 +170,7 @@ module _ (start : List ℕ) (step : List ℕ → List ℕ → List ℕ) (output 
 
   -- ---- one answer, where bytes are saved of one state
 
-  module _ (one_state : (g h : HashState) → is_valid g → is_valid h → state_bytes g ≡ state_bytes h → g ≡ h) where
+  module _ (state_injective : (g h : HashState) → is_valid g → is_valid h → state_bytes g ≡ state_bytes h → g ≡ h) where
     -- a command leads to one machine
     pub does_once : (c : Command) (m n k : Machine) → Does start step output is_valid state_bytes c m n
         → Does start step output is_valid state_bytes c m k → n ≡ k
@@ -182,7 +182,7 @@ module _ (start : List ℕ) (step : List ℕ → List ℕ → List ℕ) (output 
     does_once (Save i) m n k a b = a.1 ∙ sym b.1
     does_once (Load i) m n k a b = a.1 ∙ sym b.1
     does_once (Import x) m n k (g, valid_g, same_g, a) (h, valid_h, same_h, b) =
-        let same = one_state g h valid_g valid_h (same_g ∙ sym same_h) in
+        let same = state_injective g h valid_g valid_h (same_g ∙ sym same_h) in
         a ∙ ap (λ (s : HashState). add_hasher m (from_state s)) same ∙ sym b
 
     -- and so do some

@@ -4,8 +4,8 @@ use Rattle.ripemd_block.specs.Standard.Words.{word_bytes}
 use Rattle.ripemd_block.specs.Standard.Compression.{Parameters, compress}
 use Rattle.ripemd_block.specs.Standard.Hashing.{ripemd}
 use Rattle.ripemd_block.specs.States.{HashState, IsState, new_state, fed, finish, hasher_bytes}
-pub use Rattle.ripemd_block.specs.Laws.Saving.{length-core_and_tail, one_saved_hasher}
-use Rattle.ripemd_block.specs.Laws.Saving.{one_hasher}
+pub use Rattle.ripemd_block.specs.Laws.Saving.{length-core_and_tail, core_and_tail_injective}
+use Rattle.ripemd_block.specs.Laws.Saving.{hasher_bytes_injective}
 use Rattle.ripemd_block.specs.Laws.Pieces as laws
 use Rattle.ripemd.specs.Laws.{fed_nothing}
 
@@ -31,7 +31,7 @@ loaded : {v : Parameters} {message bytes : List ℕ} {h : HashState} → IsSaved
     → hasher_bytes h ≡ bytes → IsState v h → h ≡ fed (compress v) (new_state v) message
 unfolding SavesAs
 loaded {v} {message} {bytes} {h} before from valid =
-    one_hasher v h (fed (compress v) (new_state v) message) valid before.is.0 (from ∙ sym before.is.1)
+    hasher_bytes_injective v h (fed (compress v) (new_state v) message) valid before.is.0 (from ∙ sym before.is.1)
 
 -- what is saved after one more piece
 pub saved_next : {v : Parameters} {message : List ℕ} (piece : List ℕ) {bytes next : List ℕ} {h h' : HashState}

@@ -8,8 +8,8 @@ use crate::digest::{
     OutputSizeUser, Reset,
 };
 use ripemd_block::block_api::{
-    BlockCore, ByteArray, HashFunction, Ripemd128Function, Ripemd160Function, Ripemd256Function,
-    Ripemd320Function, digest_message,
+    BlockCore, ByteArray, ListBlockFunction, Ripemd128Function, Ripemd160Function,
+    Ripemd256Function, Ripemd320Function, digest_message,
 };
 use ripemd_block::buffer::Buffer;
 use std::alloc::AllocError;
@@ -19,7 +19,7 @@ use std::marker::Model;
 /// The hasher of a block function, by the padding of MD4 (1996): its block core, and the tail of the
 /// message after the core's blocks. Contracts see both as one hash state.
 #[derive(Drop)]
-pub struct BlockHasher<F: HashFunction> {
+pub struct BlockHasher<F: ListBlockFunction> {
     pub(crate) core: BlockCore<F>,
     pub(crate) buffer: Buffer,
 }
@@ -51,7 +51,7 @@ impl Ripemd256 {
     pub const OID: &'static str = "1.3.36.3.2.3";
 }
 
-impl<F: HashFunction> Model for BlockHasher<F> {
+impl<F: ListBlockFunction> Model for BlockHasher<F> {
     ghost Value = { HashState };
 
     ghost view = { λ h. with_tail h.core h.buffer };
@@ -59,7 +59,7 @@ impl<F: HashFunction> Model for BlockHasher<F> {
     ghost invariant = { λ h. IsHashState F.are_words (with_tail h.core h.buffer) };
 }
 
-impl<F: HashFunction> Default for BlockHasher<F> {
+impl<F: ListBlockFunction> Default for BlockHasher<F> {
     ghost is_default = { λ h. h ≡ initial_state (F.list F.start_of) };
 
     fn default() -> BlockHasher<F> {
@@ -70,7 +70,7 @@ impl<F: HashFunction> Default for BlockHasher<F> {
     }
 }
 
-impl<F: HashFunction> Clone for BlockHasher<F> {
+impl<F: ListBlockFunction> Clone for BlockHasher<F> {
     ghost is_clone = { λ x y. y ≡ x };
 
     ghost is_infallible = { λ _. ⊤ };
@@ -81,14 +81,14 @@ impl<F: HashFunction> Clone for BlockHasher<F> {
 }
 
 /// Writes the name of the hash function and no more, as `Ripemd160 { ... }`.
-impl<F: HashFunction + AlgorithmName> fmt::Debug for BlockHasher<F> {
+impl<F: ListBlockFunction + AlgorithmName> fmt::Debug for BlockHasher<F> {
     fn fmt<W: fmt::Write>(&self, f: &mut fmt::Formatter<W>) -> fmt::Result {
         F::write_alg_name(f)?;
         f.write_str(" { ... }")
     }
 }
 
-impl<F: HashFunction + AlgorithmName> AlgorithmName for BlockHasher<F> {
+impl<F: ListBlockFunction + AlgorithmName> AlgorithmName for BlockHasher<F> {
     ghost name = { F.name };
 
     const ALG_NAME: &'static str = <F as AlgorithmName>::ALG_NAME;
@@ -98,21 +98,21 @@ impl<F: HashFunction + AlgorithmName> AlgorithmName for BlockHasher<F> {
     }
 }
 
-impl<F: HashFunction> HashMarker for BlockHasher<F> {}
+impl<F: ListBlockFunction> HashMarker for BlockHasher<F> {}
 
-impl<F: HashFunction> HashMeaning for BlockHasher<F> {
+impl<F: ListBlockFunction> HashMeaning for BlockHasher<F> {
     ghost meaning = { λ h. h };
 
     ghost is_valid = { IsHashState F.are_words };
 }
 
-impl<F: HashFunction> Reset for BlockHasher<F> {
+impl<F: ListBlockFunction> Reset for BlockHasher<F> {
     fn reset(&mut self) {
         Digest::reset(self);
     }
 }
 
-impl<F: HashFunction> BlockSizeUser for BlockHasher<F> {
+impl<F: ListBlockFunction> BlockSizeUser for BlockHasher<F> {
     ghost BLOCK_SIZE = { 64 };
 
     ghost use Rattle.std.specs.Prelude.{refl};
@@ -122,7 +122,7 @@ impl<F: HashFunction> BlockSizeUser for BlockHasher<F> {
     const BLOCK_SIZE: usize = 64;
 }
 
-impl<F: HashFunction> OutputSizeUser for BlockHasher<F> {
+impl<F: ListBlockFunction> OutputSizeUser for BlockHasher<F> {
     type Output = F::Digest;
 
     ghost bytes_of = { F.Digest.bytes };
@@ -134,7 +134,7 @@ impl<F: HashFunction> OutputSizeUser for BlockHasher<F> {
     ghost same_digest = { F.Digest.same_array };
 }
 
-impl<F: HashFunction> Digest for BlockHasher<F> {
+impl<F: ListBlockFunction> Digest for BlockHasher<F> {
     ghost start = { F.list F.start_of };
 
     ghost step = { F.step };
@@ -184,10 +184,10 @@ impl<F: HashFunction> Digest for BlockHasher<F> {
         fed_nothing F.step h valid.count valid.tail.short };
 }
 
-impl<F: HashFunction> BlockDigest for BlockHasher<F> {
+impl<F: ListBlockFunction> BlockDigest for BlockHasher<F> {
     type Core = BlockCore<F>;
 
-    ghost use Rattle.ripemd_block.specs.Listed.{hash_listed};
+    ghost use Rattle.ripemd_block.specs.OverLists.{hash_over_lists};
 
-    ghost digest_is = { hash_listed F.over_lists F.start_of };
+    ghost digest_is = { hash_over_lists F.over_lists F.start_of };
 }

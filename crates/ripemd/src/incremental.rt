@@ -8,7 +8,7 @@ ghost use Rattle.ripemd_block.specs.States.{IsHashState, core_and_tail, initial_
 use crate::digest::{Digest, OutputSizeUser, SerializableState};
 use crate::hashers::BlockHasher;
 use crate::state::DeserializeStateError;
-use ripemd_block::block_api::{HashFunction, ResumableFunction};
+use ripemd_block::block_api::{ListBlockFunction, ResumableFunction};
 
 /// A hasher or an HMAC: it takes a message in pieces, and gives its digest or its tag at the end. How
 /// the message is cut makes no difference. No call allocates or fails.
@@ -85,7 +85,7 @@ pub trait Resumable: Incremental {
         → state_bytes s ≡ state_bytes t → s ≡ t };
 }
 
-impl<F: HashFunction> Incremental for BlockHasher<F> {
+impl<F: ListBlockFunction> Incremental for BlockHasher<F> {
     type Hash = BlockHasher<F>;
 
     ghost Origin = { ⊤ };
@@ -132,7 +132,7 @@ impl<F: ResumableFunction> Resumable for BlockHasher<F> {
         BlockHasher::deserialize(saved)
     }
 
-    ghost use Rattle.ripemd_block.specs.Laws.Saving.{one_saved_hasher};
+    ghost use Rattle.ripemd_block.specs.Laws.Saving.{core_and_tail_injective};
 
-    ghost injective = { one_saved_hasher F.tells_words };
+    ghost injective = { core_and_tail_injective F.injective_output };
 }

@@ -12,5 +12,5 @@ pub mod witness;
 
 pub use digest::Digest;
 pub use hashers::{BlockHasher, Ripemd128, Ripemd160, Ripemd256, Ripemd320};
-pub use ripemd_block::block_api::{HashFunction, ResumableFunction};
+pub use ripemd_block::block_api::{ListBlockFunction, ResumableFunction};
 pub use ripemd_block::{block_api, buffer, padding};

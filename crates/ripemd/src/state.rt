@@ -41,9 +41,9 @@ impl<F: ResumableFunction> SerializableState for BlockHasher<F> {
         }
     }
 
-    ghost use Rattle.ripemd_block.specs.Laws.Saving.{one_saved_hasher};
+    ghost use Rattle.ripemd_block.specs.Laws.Saving.{core_and_tail_injective};
 
-    ghost one_state = { one_saved_hasher F.tells_words };
+    ghost state_injective = { core_and_tail_injective F.injective_output };
 
     ghost same_saved = { F.SavedHasher.same_array };
 }

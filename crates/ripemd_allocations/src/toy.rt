@@ -3,7 +3,7 @@
 ghost use Rattle.std.specs.Prelude.{◌+◌, ◌%◌, [], ◌∷◌, slice_index, ⊤};
 
 use ripemd::witness::BlockFunction;
-use ripemd::{BlockHasher, HashFunction};
+use ripemd::{BlockHasher, ListBlockFunction};
 
 /// The block function: a step adds the first byte of the block to the one byte, and the last to the
 /// other.
@@ -44,12 +44,12 @@ impl BlockFunction for SumsFunction {
 
     ghost use Rattle.std.proofs.lemmas.Slice.Eq.{bytes_eq-Decides};
 
-    ghost one_output = { λ s t _ _ same. same };
+    ghost output_injective = { λ s t _ _ same. same };
 
     ghost same_state = { λ s t same. (bytes_eq-Decides s t).0 same };
 }
 
-impl HashFunction for SumsFunction {
+impl ListBlockFunction for SumsFunction {
     ghost list = { λ state. state };
 
     ghost are_words = { Self.is_state };
@@ -59,7 +59,7 @@ impl HashFunction for SumsFunction {
     ghost output = { Self.output_of };
 
     ghost use Rattle.std.proofs.Common.{rules};
-    ghost use Rattle.ripemd.specs.Listed.{of_arrays};
+    ghost use Rattle.ripemd.specs.OverLists.{of_arrays};
 
     ghost over_lists = { of_arrays };
 

@@ -6,7 +6,7 @@ ghost use Rattle.ripemd_block.specs.Standard.Hashing.{length_place, with_padding
 ghost use Rattle.ripemd_batch.specs.Lanes.{padded_after};
 
 use ripemd::padding::whole_blocks;
-use ripemd_block::block_api::{BlockFunction, HashFunction, walk};
+use ripemd_block::block_api::{BlockFunction, ListBlockFunction, walk};
 use std::marker::Model;
 
 /// The blocks of a message with its padding: the whole ones, and the last one or two. Contracts see
@@ -48,7 +48,7 @@ impl<'a, 'b> MessageBlocks<'a, 'b> {
     }
 
     /// The state after all of them.
-    pub(crate) fn walk<F: HashFunction>(&self, first: F::State) -> F::State
+    pub(crate) fn walk<F: ListBlockFunction>(&self, first: F::State) -> F::State
         requires { F.is_state first }
         ensures { result ≡ walk F.step_of first self.now }
     {

@@ -8,7 +8,7 @@ ghost use Rattle.ripemd_batch.specs.Lanes.{lane_of_ten, list_at, targets};
 use crate::eight::Eight;
 use crate::{c128, c160, c256, c320};
 use ripemd_block::block_api::{
-    BlockFunction, ByteArray, HashFunction, Ripemd128Function, Ripemd160Function,
+    BlockFunction, ByteArray, ListBlockFunction, Ripemd128Function, Ripemd160Function,
     Ripemd256Function, Ripemd320Function,
 };
 
@@ -19,7 +19,7 @@ pub trait EightStates: Copy {
     type Output: ByteArray;
 
     // The block function.
-    type Function: HashFunction<Digest = Self::Output>;
+    type Function: ListBlockFunction<Digest = Self::Output>;
 
     // The words of message `j`.
     ghost words_of: { ℕ → Self → List ℕ };

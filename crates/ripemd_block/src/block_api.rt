@@ -5,7 +5,7 @@ pub use crate::arrays::ByteArray;
 pub use crate::block_core::{BlockCore, digest_message, walk};
 pub use crate::traits::{
     AlgorithmName, BlockFunction, BlockSizeUser, BufferKindUser, DeserializeStateError, Eager,
-    FixedOutputCore, HashFunction, HashMarker, HashMeaning, OutputSizeUser, Reset,
+    FixedOutputCore, HashMarker, HashMeaning, ListBlockFunction, OutputSizeUser, Reset,
     ResumableFunction, SerializableState, UpdateCore,
 };
 pub use crate::variants::{

@@ -11,7 +11,7 @@ use crate::buffer::Buffer;
 use crate::padding::{Padded, last_blocks, whole_blocks};
 use crate::traits::{
     AlgorithmName, BlockFunction, BlockSizeUser, BufferKindUser, DeserializeStateError, Eager,
-    FixedOutputCore, HashFunction, HashMarker, HashMeaning, OutputSizeUser, Reset,
+    FixedOutputCore, HashMarker, HashMeaning, ListBlockFunction, OutputSizeUser, Reset,
     ResumableFunction, SerializableState, UpdateCore,
 };
 use std::alloc::AllocError;
@@ -22,12 +22,12 @@ use std::marker::Model;
 /// tail to a [`Buffer`]. It has a state, and the count of the blocks so far, modulo 2^64. Contracts
 /// see these, with an empty tail.
 #[derive(Drop)]
-pub struct BlockCore<F: HashFunction> {
+pub struct BlockCore<F: ListBlockFunction> {
     state: F::State,
     block_count: u64,
 }
 
-impl<F: HashFunction> Model for BlockCore<F> {
+impl<F: ListBlockFunction> Model for BlockCore<F> {
     ghost Value = { HashState };
 
     ghost view = { λ c. record { words = F.list c.state; count = c.block_count; tail = [] } };
@@ -35,7 +35,7 @@ impl<F: HashFunction> Model for BlockCore<F> {
     ghost invariant = { λ c. F.is_state c.state };
 }
 
-impl<F: HashFunction> BlockCore<F> {
+impl<F: ListBlockFunction> BlockCore<F> {
     /// A core with the same state and count.
     pub fn duplicate(&self) -> Self
         ensures { result ≡ self.now }
@@ -47,7 +47,7 @@ impl<F: HashFunction> BlockCore<F> {
     }
 }
 
-impl<F: HashFunction> Default for BlockCore<F> {
+impl<F: ListBlockFunction> Default for BlockCore<F> {
     ghost is_default = { λ c. c ≡ initial_state (F.list F.start_of) };
 
     fn default() -> BlockCore<F> {
@@ -58,7 +58,7 @@ impl<F: HashFunction> Default for BlockCore<F> {
     }
 }
 
-impl<F: HashFunction> Clone for BlockCore<F> {
+impl<F: ListBlockFunction> Clone for BlockCore<F> {
     ghost is_clone = { λ x y. y ≡ x };
 
     ghost is_infallible = { λ _. ⊤ };
@@ -69,14 +69,14 @@ impl<F: HashFunction> Clone for BlockCore<F> {
 }
 
 /// Writes the name of the hash function and no more, as `Ripemd160Core { ... }`.
-impl<F: HashFunction + AlgorithmName> fmt::Debug for BlockCore<F> {
+impl<F: ListBlockFunction + AlgorithmName> fmt::Debug for BlockCore<F> {
     fn fmt<W: fmt::Write>(&self, f: &mut fmt::Formatter<W>) -> fmt::Result {
         F::write_alg_name(f)?;
         f.write_str("Core { ... }")
     }
 }
 
-impl<F: HashFunction + AlgorithmName> AlgorithmName for BlockCore<F> {
+impl<F: ListBlockFunction + AlgorithmName> AlgorithmName for BlockCore<F> {
     ghost name = { F.name };
 
     const ALG_NAME: &'static str = <F as AlgorithmName>::ALG_NAME;
@@ -86,21 +86,21 @@ impl<F: HashFunction + AlgorithmName> AlgorithmName for BlockCore<F> {
     }
 }
 
-impl<F: HashFunction> HashMarker for BlockCore<F> {}
+impl<F: ListBlockFunction> HashMarker for BlockCore<F> {}
 
-impl<F: HashFunction> HashMeaning for BlockCore<F> {
+impl<F: ListBlockFunction> HashMeaning for BlockCore<F> {
     ghost meaning = { λ c. c };
 
     ghost is_valid = { IsWithoutTail F.are_words };
 }
 
-impl<F: HashFunction> Reset for BlockCore<F> {
+impl<F: ListBlockFunction> Reset for BlockCore<F> {
     fn reset(&mut self) {
         *self = BlockCore::default();
     }
 }
 
-impl<F: HashFunction> BlockSizeUser for BlockCore<F> {
+impl<F: ListBlockFunction> BlockSizeUser for BlockCore<F> {
     ghost BLOCK_SIZE = { 64 };
 
     ghost use Rattle.std.specs.Prelude.{refl};
@@ -110,7 +110,7 @@ impl<F: HashFunction> BlockSizeUser for BlockCore<F> {
     const BLOCK_SIZE: usize = 64;
 }
 
-impl<F: HashFunction> OutputSizeUser for BlockCore<F> {
+impl<F: ListBlockFunction> OutputSizeUser for BlockCore<F> {
     type Output = F::Digest;
 
     ghost bytes_of = { F.Digest.bytes };
@@ -122,11 +122,11 @@ impl<F: HashFunction> OutputSizeUser for BlockCore<F> {
     ghost same_digest = { F.Digest.same_array };
 }
 
-impl<F: HashFunction> BufferKindUser for BlockCore<F> {
+impl<F: ListBlockFunction> BufferKindUser for BlockCore<F> {
     type BufferKind = Eager;
 }
 
-impl<F: HashFunction> UpdateCore for BlockCore<F> {
+impl<F: ListBlockFunction> UpdateCore for BlockCore<F> {
     ghost is_core = { IsWithoutTail F.are_words };
 
     ghost after = { after_blocks F.step };
@@ -146,7 +146,7 @@ impl<F: HashFunction> UpdateCore for BlockCore<F> {
         after_joined_blocks F.step core xs ys };
 }
 
-impl<F: HashFunction> FixedOutputCore for BlockCore<F> {
+impl<F: ListBlockFunction> FixedOutputCore for BlockCore<F> {
     ghost digest_of = { λ core tail. finish F.step F.output (with_tail core tail) };
 
     fn finalize_fixed_core(&mut self, buffer: &mut Buffer, out: &mut F::Digest) {
@@ -166,7 +166,7 @@ impl<F: HashFunction> FixedOutputCore for BlockCore<F> {
 
 /// The state after blocks in order.
 #[inline(always)]
-pub fn walk<F: HashFunction>(state: F::State, blocks: &[[u8; 64]]) -> F::State
+pub fn walk<F: ListBlockFunction>(state: F::State, blocks: &[[u8; 64]]) -> F::State
     requires { F.is_state state }
     ensures value { result ≡ walk F.step_of state blocks.now }
     ensures valid { F.is_state result }
@@ -181,7 +181,7 @@ pub fn walk<F: HashFunction>(state: F::State, blocks: &[[u8; 64]]) -> F::State
 // Takes blocks into a state in order. Not inlined, so that a hash function's steps stand once in a
 // program.
 #[inline(never)]
-fn walk_on<F: HashFunction>(first: &mut F::State, blocks: &[[u8; 64]])
+fn walk_on<F: ListBlockFunction>(first: &mut F::State, blocks: &[[u8; 64]])
     requires { F.is_state first.old }
     ensures value { first.new ≡ walk F.step_of first.old blocks.now }
     ensures valid { F.is_state first.new }
@@ -194,7 +194,7 @@ fn walk_on<F: HashFunction>(first: &mut F::State, blocks: &[[u8; 64]])
 }
 
 // Takes the last blocks of a message into a state.
-fn walk_last<F: HashFunction>(state: &mut F::State, last: &Padded)
+fn walk_last<F: ListBlockFunction>(state: &mut F::State, last: &Padded)
     requires { F.is_state state.old }
     ensures value { state.new
         ≡ walk F.step_of state.old (last.now.first ∷ option_to_list last.now.second) }
@@ -208,7 +208,7 @@ fn walk_last<F: HashFunction>(state: &mut F::State, last: &Padded)
 }
 
 /// The digest of a whole message.
-pub fn digest_message<F: HashFunction>(message: &[u8]) -> F::Digest
+pub fn digest_message<F: ListBlockFunction>(message: &[u8]) -> F::Digest
     ensures digest { F.Digest.bytes result
         ≡ hash (F.list F.start_of) F.step F.output message.now }
     ensures size { length (F.Digest.bytes result) ≡ F.Digest.LEN }
@@ -255,15 +255,15 @@ impl<F: ResumableFunction> SerializableState for BlockCore<F> {
         }
     }
 
-    ghost use Rattle.ripemd_block.specs.Laws.Saving.{one_saved_core};
+    ghost use Rattle.ripemd_block.specs.Laws.Saving.{output_and_count_injective};
 
-    ghost one_state = { one_saved_core F.tells_words };
+    ghost state_injective = { output_and_count_injective F.injective_output };
 
     ghost same_saved = { F.SavedCore.same_array };
 }
 
 /// The block function of the core.
-impl<F: HashFunction> BlockFunction for BlockCore<F> {
+impl<F: ListBlockFunction> BlockFunction for BlockCore<F> {
     type State = F::State;
 
     type Digest = F::Digest;
@@ -288,7 +288,7 @@ impl<F: HashFunction> BlockFunction for BlockCore<F> {
         F::output(state)
     }
 
-    ghost one_output = { F.one_output };
+    ghost output_injective = { F.output_injective };
 
     ghost same_state = { F.same_state };
 }

@@ -4,7 +4,7 @@ ghost use Rattle.std.specs.Prelude.{◌≡◌, ◌≢◌, ℕ, ◌+◌, ◌≤�
 ghost use Rattle.std.specs.Fmt.{WritesOnOk, WritesStyledOnOk};
 ghost use Rattle.ripemd_block.specs.Standard.Words.{block_size};
 ghost use Rattle.ripemd_block.specs.States.{HashState, IsTail};
-ghost use Rattle.ripemd_block.specs.Listed.{IsOverLists, TellsWords};
+ghost use Rattle.ripemd_block.specs.OverLists.{IsOverLists, IsInjectiveOutput};
 
 use crate::arrays::ByteArray;
 use crate::buffer::Buffer;
@@ -119,7 +119,7 @@ pub trait SerializableState: HashMeaning {
 
     // States that are saved as the same bytes are the same: what was saved loads to the state that
     // it was.
-    ghost one_state: { (g h : HashState) → Self.is_valid g → Self.is_valid h
+    ghost state_injective: { (g h : HashState) → Self.is_valid g → Self.is_valid h
         → state_bytes g ≡ state_bytes h → g ≡ h };
 
     // Equal bytes are equal arrays: what was loaded saves to the array that it was.
@@ -218,7 +218,7 @@ pub trait BlockFunction {
         ensures valid { is_state state };
 
     // States with one output are one.
-    ghost one_output: { (s t : Self.State) → is_state s → is_state t
+    ghost output_injective: { (s t : Self.State) → is_state s → is_state t
         → output_of s ≡ output_of t → s ≡ t };
 
     // States that are equal by `==` are one.
@@ -227,7 +227,7 @@ pub trait BlockFunction {
 
 /// A block function that a hasher can be made of: its states are lists of numbers, and its digests
 /// are arrays of at most 64 bytes.
-pub trait HashFunction: BlockFunction<Digest: ByteArray> {
+pub trait ListBlockFunction: BlockFunction<Digest: ByteArray> {
     // The numbers of a state.
     ghost list: { Self.State → List ℕ };
 
@@ -251,7 +251,7 @@ pub trait HashFunction: BlockFunction<Digest: ByteArray> {
 /// A block function that gives a state back from its output, so that a hash state can be saved as
 /// bytes and loaded: it is saved as its chaining value's output, the count of its blocks, and its
 /// tail.
-pub trait ResumableFunction: HashFunction {
+pub trait ResumableFunction: ListBlockFunction {
     /// The saved bytes of a core: 8 more than a digest has.
     type SavedCore: ByteArray;
 
@@ -268,8 +268,8 @@ pub trait ResumableFunction: HashFunction {
         ensures none { IfNone result ((words : List ℕ) → Self.are_words words
             → Self.output words ≢ Self.Digest.bytes output) };
 
-    // An output has the size of a digest, and tells the words that it is of.
-    ghost tells_words: { TellsWords Self.are_words Self.output Self.Digest.LEN };
+    // An output has the size of a digest, and different words have different outputs.
+    ghost injective_output: { IsInjectiveOutput Self.are_words Self.output Self.Digest.LEN };
 
     // A core is saved in 8 bytes more than a digest has.
     ghost saved_core_size: { Self.SavedCore.LEN ≡ Self.Digest.LEN + 8 };

@@ -8,7 +8,7 @@ ghost use Rattle.ripemd_block.specs.States.{AreWords};
 
 use crate::arrays::{read_words, write_words};
 use crate::block_core::BlockCore;
-use crate::traits::{AlgorithmName, BlockFunction, HashFunction, ResumableFunction};
+use crate::traits::{AlgorithmName, BlockFunction, ListBlockFunction, ResumableFunction};
 use crate::{c128, c160, c256, c320};
 use std::fmt;
 
@@ -67,15 +67,15 @@ impl BlockFunction for Ripemd128Function {
         digest
     }
 
-    ghost use Rattle.ripemd_block.specs.Laws.WordBytes.{one_list};
+    ghost use Rattle.ripemd_block.specs.Laws.WordBytes.{word_bytes_injective};
     ghost use Rattle.ripemd_block.specs.Laws.Arrays.{equal_words};
 
-    ghost one_output = { one_list 4 };
+    ghost output_injective = { word_bytes_injective 4 };
 
     ghost same_state = { equal_words };
 }
 
-impl HashFunction for Ripemd128Function {
+impl ListBlockFunction for Ripemd128Function {
     ghost list = { λ words. words };
 
     ghost are_words = { AreWords 4 };
@@ -85,7 +85,7 @@ impl HashFunction for Ripemd128Function {
     ghost output = { word_bytes };
 
     ghost use Rattle.std.proofs.Common.{rules};
-    ghost use Rattle.ripemd_block.specs.Listed.{of_arrays};
+    ghost use Rattle.ripemd_block.specs.OverLists.{of_arrays};
 
     ghost over_lists = { of_arrays };
 
@@ -106,9 +106,9 @@ impl ResumableFunction for Ripemd128Function {
     }
 
     ghost use Rattle.std.specs.Prelude.{refl};
-    ghost use Rattle.ripemd_block.specs.Laws.Saving.{words_told};
+    ghost use Rattle.ripemd_block.specs.Laws.Saving.{word_bytes_output};
 
-    ghost tells_words = { words_told 4 };
+    ghost injective_output = { word_bytes_output 4 };
 
     ghost saved_core_size = { refl };
 
@@ -164,15 +164,15 @@ impl BlockFunction for Ripemd160Function {
         digest
     }
 
-    ghost use Rattle.ripemd_block.specs.Laws.WordBytes.{one_list};
+    ghost use Rattle.ripemd_block.specs.Laws.WordBytes.{word_bytes_injective};
     ghost use Rattle.ripemd_block.specs.Laws.Arrays.{equal_words};
 
-    ghost one_output = { one_list 5 };
+    ghost output_injective = { word_bytes_injective 5 };
 
     ghost same_state = { equal_words };
 }
 
-impl HashFunction for Ripemd160Function {
+impl ListBlockFunction for Ripemd160Function {
     ghost list = { λ words. words };
 
     ghost are_words = { AreWords 5 };
@@ -182,7 +182,7 @@ impl HashFunction for Ripemd160Function {
     ghost output = { word_bytes };
 
     ghost use Rattle.std.proofs.Common.{rules};
-    ghost use Rattle.ripemd_block.specs.Listed.{of_arrays};
+    ghost use Rattle.ripemd_block.specs.OverLists.{of_arrays};
 
     ghost over_lists = { of_arrays };
 
@@ -203,9 +203,9 @@ impl ResumableFunction for Ripemd160Function {
     }
 
     ghost use Rattle.std.specs.Prelude.{refl};
-    ghost use Rattle.ripemd_block.specs.Laws.Saving.{words_told};
+    ghost use Rattle.ripemd_block.specs.Laws.Saving.{word_bytes_output};
 
-    ghost tells_words = { words_told 5 };
+    ghost injective_output = { word_bytes_output 5 };
 
     ghost saved_core_size = { refl };
 
@@ -264,15 +264,15 @@ impl BlockFunction for Ripemd256Function {
         digest
     }
 
-    ghost use Rattle.ripemd_block.specs.Laws.WordBytes.{one_list};
+    ghost use Rattle.ripemd_block.specs.Laws.WordBytes.{word_bytes_injective};
     ghost use Rattle.ripemd_block.specs.Laws.Arrays.{equal_words};
 
-    ghost one_output = { one_list 8 };
+    ghost output_injective = { word_bytes_injective 8 };
 
     ghost same_state = { equal_words };
 }
 
-impl HashFunction for Ripemd256Function {
+impl ListBlockFunction for Ripemd256Function {
     ghost list = { λ words. words };
 
     ghost are_words = { AreWords 8 };
@@ -282,7 +282,7 @@ impl HashFunction for Ripemd256Function {
     ghost output = { word_bytes };
 
     ghost use Rattle.std.proofs.Common.{rules};
-    ghost use Rattle.ripemd_block.specs.Listed.{of_arrays};
+    ghost use Rattle.ripemd_block.specs.OverLists.{of_arrays};
 
     ghost over_lists = { of_arrays };
 
@@ -303,9 +303,9 @@ impl ResumableFunction for Ripemd256Function {
     }
 
     ghost use Rattle.std.specs.Prelude.{refl};
-    ghost use Rattle.ripemd_block.specs.Laws.Saving.{words_told};
+    ghost use Rattle.ripemd_block.specs.Laws.Saving.{word_bytes_output};
 
-    ghost tells_words = { words_told 8 };
+    ghost injective_output = { word_bytes_output 8 };
 
     ghost saved_core_size = { refl };
 
@@ -366,15 +366,15 @@ impl BlockFunction for Ripemd320Function {
         digest
     }
 
-    ghost use Rattle.ripemd_block.specs.Laws.WordBytes.{one_list};
+    ghost use Rattle.ripemd_block.specs.Laws.WordBytes.{word_bytes_injective};
     ghost use Rattle.ripemd_block.specs.Laws.Arrays.{equal_words};
 
-    ghost one_output = { one_list 10 };
+    ghost output_injective = { word_bytes_injective 10 };
 
     ghost same_state = { equal_words };
 }
 
-impl HashFunction for Ripemd320Function {
+impl ListBlockFunction for Ripemd320Function {
     ghost list = { λ words. words };
 
     ghost are_words = { AreWords 10 };
@@ -384,7 +384,7 @@ impl HashFunction for Ripemd320Function {
     ghost output = { word_bytes };
 
     ghost use Rattle.std.proofs.Common.{rules};
-    ghost use Rattle.ripemd_block.specs.Listed.{of_arrays};
+    ghost use Rattle.ripemd_block.specs.OverLists.{of_arrays};
 
     ghost over_lists = { of_arrays };
 
@@ -405,9 +405,9 @@ impl ResumableFunction for Ripemd320Function {
     }
 
     ghost use Rattle.std.specs.Prelude.{refl};
-    ghost use Rattle.ripemd_block.specs.Laws.Saving.{words_told};
+    ghost use Rattle.ripemd_block.specs.Laws.Saving.{word_bytes_output};
 
-    ghost tells_words = { words_told 10 };
+    ghost injective_output = { word_bytes_output 10 };
 
     ghost saved_core_size = { refl };
 

@@ -4,9 +4,9 @@ use Rattle.std.proofs.lemmas.List.{append-nil}
 use Rattle.std.proofs.Math.Seq.{take-append_seam, drop-append_seam}
 use Rattle.ripemd.specs.Standard.Hashing.{hash}
 use Rattle.ripemd.specs.States.{HashState, initial_state, fed, finish, core_and_tail}
-use Rattle.ripemd.specs.Listed.{TellsWords}
+use Rattle.ripemd.specs.OverLists.{IsInjectiveOutput}
 use Rattle.ripemd.specs.Laws as laws
-use Rattle.ripemd.specs.Saving.{length-core_and_tail, one_saved_hasher}
+use Rattle.ripemd.specs.Saving.{length-core_and_tail, core_and_tail_injective}
 use Rattle.ripemd_mac.specs.Keyed.{key_block, masked, inner_message, outer_message, hmac}
 use Rattle.ripemd_mac.specs.Keyed.{KeyedState, fed_text, tag_of, keyed_state, StandsFor}
 use Rattle.ripemd_mac.specs.Saved.{IsKeyedState, hmac_bytes}
@@ -73,7 +73,7 @@ module _ (start : List ℕ) (step : List ℕ → List ℕ → List ℕ) (output 
 
 -- ---- saved bytes
 
-module _ {are_words : List ℕ → Type 0} {output : List ℕ → List ℕ} {n : ℕ} (tells : TellsWords are_words output n)
+module _ {are_words : List ℕ → Type 0} {output : List ℕ → List ℕ} {n : ℕ} (tells : IsInjectiveOutput are_words output n)
     (s : KeyedState) (valid : IsKeyedState are_words s) where
   first_size : length (core_and_tail output s.inner) ≡ n + 8 + 64
   first_size = length-core_and_tail tells s.inner valid.inner
@@ -94,12 +94,12 @@ module _ {are_words : List ℕ → Type 0} {output : List ℕ → List ℕ} {n :
       sym (drop-append_seam (core_and_tail output s.inner) (core_and_tail output s.outer)) ∙ rw (first_size, same) refl
 
 -- states that are saved as the same bytes are the same
-pub one_saved_hmac : {are_words : List ℕ → Type 0} {output : List ℕ → List ℕ} {n : ℕ} → TellsWords are_words output n
+pub hmac_bytes_injective : {are_words : List ℕ → Type 0} {output : List ℕ → List ℕ} {n : ℕ} → IsInjectiveOutput are_words output n
     → (s t : KeyedState) → IsKeyedState are_words s → IsKeyedState are_words t
     → hmac_bytes output s ≡ hmac_bytes output t → s ≡ t
-one_saved_hmac {output = output} tells s t of_s of_t same =
+hmac_bytes_injective {output = output} tells s t of_s of_t same =
     same_states s t
-    (one_saved_hasher tells s.inner t.inner of_s.inner of_t.inner
+    (core_and_tail_injective tells s.inner t.inner of_s.inner of_t.inner
     (inner_part tells s of_s (hmac_bytes output t) same ∙ sym (inner_part tells t of_t (hmac_bytes output t) refl)))
-    (one_saved_hasher tells s.outer t.outer of_s.outer of_t.outer
+    (core_and_tail_injective tells s.outer t.outer of_s.outer of_t.outer
     (outer_part tells s of_s (hmac_bytes output t) same ∙ sym (outer_part tells t of_t (hmac_bytes output t) refl)))

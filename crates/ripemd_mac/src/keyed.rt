@@ -19,7 +19,7 @@ use ripemd::block_api::ByteArray;
 use ripemd::digest::{BlockDigest, Digest, SerializableState};
 use ripemd::incremental::{Incremental, Resumable};
 use ripemd::state::DeserializeStateError;
-use ripemd::{BlockHasher, HashFunction, ResumableFunction};
+use ripemd::{BlockHasher, ListBlockFunction, ResumableFunction};
 use std::alloc::AllocError;
 use std::marker::Model;
 
@@ -106,7 +106,7 @@ impl<D: BlockDigest> Clone for Hmac<D> {
     }
 }
 
-impl<F: HashFunction> Incremental for Hmac<BlockHasher<F>> {
+impl<F: ListBlockFunction> Incremental for Hmac<BlockHasher<F>> {
     type Hash = BlockHasher<F>;
 
     ghost Origin = { List ℕ };
@@ -214,9 +214,9 @@ impl<F: ResumableFunction> Resumable for Hmac<BlockHasher<F>> {
         Hmac::load(saved)
     }
 
-    ghost use Rattle.ripemd_mac.specs.Laws.{one_saved_hmac};
+    ghost use Rattle.ripemd_mac.specs.Laws.{hmac_bytes_injective};
 
-    ghost injective = { one_saved_hmac F.tells_words };
+    ghost injective = { hmac_bytes_injective F.injective_output };
 }
 
 // Whether bytes are equal. Where both are as many, it compares all of them, whatever they are.

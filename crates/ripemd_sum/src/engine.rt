@@ -18,7 +18,7 @@ use ripemd::block_api::{
 };
 use ripemd::digest::OutputSizeUser;
 use ripemd::incremental::Incremental;
-use ripemd::{BlockHasher, Digest, HashFunction};
+use ripemd::{BlockHasher, Digest, ListBlockFunction};
 use ripemd_mac::Hmac;
 use std::io::{Read, Write};
 
@@ -94,7 +94,7 @@ pub fn run_mac<R: Read, W: Write>(
 }
 
 // The run for the digest by a block function.
-fn run_digest<F: HashFunction, R: Read, W: Write>(
+fn run_digest<F: ListBlockFunction, R: Read, W: Write>(
     reader: &mut Tracked<R>,
     writer: &mut Tracked<W>,
     limit: u64,
@@ -114,7 +114,7 @@ fn run_digest<F: HashFunction, R: Read, W: Write>(
 }
 
 // The run for the tag under a key by a block function.
-fn run_tag<F: HashFunction, R: Read, W: Write>(
+fn run_tag<F: ListBlockFunction, R: Read, W: Write>(
     key: &[u8],
     reader: &mut Tracked<R>,
     writer: &mut Tracked<W>,

@@ -6,9 +6,9 @@ use crate::digits::{
     TWO_BLOCKS_160, TWO_BLOCKS_256, TWO_BLOCKS_320, is_written,
 };
 use ripemd::block_api::{
-    BlockCore, BlockSizeUser, FixedOutputCore, HashFunction, OutputSizeUser, Reset, Ripemd128Core,
-    Ripemd128Function, Ripemd160Core, Ripemd160Function, Ripemd256Core, Ripemd256Function,
-    Ripemd320Core, Ripemd320Function, UpdateCore,
+    BlockCore, BlockSizeUser, FixedOutputCore, ListBlockFunction, OutputSizeUser, Reset,
+    Ripemd128Core, Ripemd128Function, Ripemd160Core, Ripemd160Function, Ripemd256Core,
+    Ripemd256Function, Ripemd320Core, Ripemd320Function, UpdateCore,
 };
 use ripemd::buffer::Buffer;
 use ripemd::{BlockHasher, Digest, Ripemd128, Ripemd160, Ripemd256, Ripemd320};
@@ -149,7 +149,7 @@ fn reset_by_trait(rt: HostRuntime) {
 }
 
 // Whether the clone of a core which took in the block has this digest.
-fn cloned_core_has<F: HashFunction>(block: &[u8; 64], wanted: &F::Digest) -> bool {
+fn cloned_core_has<F: ListBlockFunction>(block: &[u8; 64], wanted: &F::Digest) -> bool {
     let mut core = BlockCore::<F>::default();
     core.update_blocks(&[*block]);
     let cloned: Result<_, _> = core.clone();
@@ -162,7 +162,7 @@ fn cloned_core_has<F: HashFunction>(block: &[u8; 64], wanted: &F::Digest) -> boo
 }
 
 // Whether the clone of a hasher which took in the block has this digest.
-fn cloned_hasher_has<F: HashFunction>(block: &[u8; 64], wanted: &F::Digest) -> bool {
+fn cloned_hasher_has<F: ListBlockFunction>(block: &[u8; 64], wanted: &F::Digest) -> bool {
     let mut hasher = BlockHasher::<F>::new_with_prefix(block);
     let cloned: Result<_, _> = hasher.clone();
     hasher.update(b"x");
@@ -176,7 +176,7 @@ fn cloned_hasher_has<F: HashFunction>(block: &[u8; 64], wanted: &F::Digest) -> b
 }
 
 // Whether the clone of a core, and that of a hasher, which took in a block give its digest.
-fn clones_have_the_block<F: HashFunction>() -> bool {
+fn clones_have_the_block<F: ListBlockFunction>() -> bool {
     let block = [b'a'; 64];
     let wanted = BlockHasher::<F>::digest(&block);
     cloned_core_has::<F>(&block, &wanted) && cloned_hasher_has::<F>(&block, &wanted)

@@ -246,7 +246,7 @@ impl BlockFunction for FirstBytes {
 
     ghost use Rattle.std.proofs.lemmas.Slice.Eq.{bytes_eq-Decides};
 
-    ghost one_output = { λ s t _ _ same. same };
+    ghost output_injective = { λ s t _ _ same. same };
 
     ghost same_state = { λ s t same. (bytes_eq-Decides s t).0 same };
 }
@@ -263,12 +263,12 @@ pub fn places_of_collision(a: &[u8], b: &[u8]) -> Option<(usize, usize)>
     Some((collision.left.place, collision.right.place))
 }
 
-use ripemd::{BlockHasher, HashFunction};
+use ripemd::{BlockHasher, ListBlockFunction};
 
 /// Its hasher.
 pub type Toy = BlockHasher<FirstBytes>;
 
-impl HashFunction for FirstBytes {
+impl ListBlockFunction for FirstBytes {
     ghost list = { λ state. state };
 
     ghost are_words = { Self.is_state };
@@ -278,7 +278,7 @@ impl HashFunction for FirstBytes {
     ghost output = { Self.output_of };
 
     ghost use Rattle.std.proofs.Common.{rules};
-    ghost use Rattle.ripemd.specs.Listed.{of_arrays};
+    ghost use Rattle.ripemd.specs.OverLists.{of_arrays};
 
     ghost over_lists = { of_arrays };
 
@@ -309,7 +309,7 @@ impl ResumableFunction for FirstBytes {
 
     ghost use Rattle.std.specs.Prelude.{refl};
 
-    ghost tells_words = { record { size = λ xs valid. valid; one = λ xs ys _ _ same. same } };
+    ghost injective_output = { record { size = λ xs valid. valid; injective = λ xs ys _ _ same. same } };
 
     ghost saved_core_size = { refl };
 

@@ -11,20 +11,20 @@ use Rattle.ripemd_block.specs.Standard.Words.{word_bytes, eight_bytes}
 use Rattle.ripemd_block.specs.Standard.Compression.{Parameters}
 use Rattle.ripemd_block.specs.States.{HashState, AreWords, IsTail, IsHashState, IsState, IsWithoutTail, IsCoreState}
 use Rattle.ripemd_block.specs.States.{output_and_count, core_and_tail, core_bytes, hasher_bytes}
-use Rattle.ripemd_block.specs.Listed.{TellsWords}
-use Rattle.ripemd_block.specs.Laws.WordBytes.{words_of, words_read, words_in_range, bytes_of_words, one_list}
+use Rattle.ripemd_block.specs.OverLists.{IsInjectiveOutput}
+use Rattle.ripemd_block.specs.Laws.WordBytes.{words_of, words_read, words_in_range, bytes_of_words, word_bytes_injective}
 
 -- n words are told by their bytes
-pub words_told : (n : ℕ) → TellsWords (AreWords n) word_bytes (4 * n)
-words_told n = record { size = bytes_of_words n; one = one_list n }
+pub word_bytes_output : (n : ℕ) → IsInjectiveOutput (AreWords n) word_bytes (4 * n)
+word_bytes_output n = record { size = bytes_of_words n; injective = word_bytes_injective n }
 
 -- the saved bytes of a tail: its length, its bytes, and zero bytes
 abbrev pub tail_bytes : List ℕ → List ℕ
 tail_bytes tail = length tail ∷ tail ++ replicate (63 - length tail) 0
 
 -- tails that are saved as the same bytes are the same
-one_tail : (s t : List ℕ) → tail_bytes s ≡ tail_bytes t → s ≡ t
-one_tail s t same =
+tail_bytes_injective : (s t : List ℕ) → tail_bytes s ≡ tail_bytes t → s ≡ t
+tail_bytes_injective s t same =
     let size : length s ≡ length t = ap (λ (bs : List ℕ). get_or bs 0 0) same in
     let behind : s ++ replicate (63 - length s) 0 ≡ t ++ replicate (63 - length t) 0 = ap (drop 1) same in
     sym (take-append_seam s (replicate (63 - length s) 0)) ∙ ap (take (length s)) behind
@@ -44,7 +44,7 @@ same_meaning g h words count tail =
     ∙ ap (λ (n : ℕ). record g { words = h.words; count = n }) count
     ∙ ap (λ (t : List ℕ). record h { tail = t }) tail
 
-module _ {are_words : List ℕ → Type 0} {output : List ℕ → List ℕ} {n : ℕ} (tells : TellsWords are_words output n) where
+module _ {are_words : List ℕ → Type 0} {output : List ℕ → List ℕ} {n : ℕ} (tells : IsInjectiveOutput are_words output n) where
   -- ---- two states whose cores are saved as the beginning of the same bytes
 
   module _ (g h : HashState) (a b : List ℕ) (of_g : IsHashState are_words g) (of_h : IsHashState are_words h)
@@ -64,7 +64,7 @@ module _ {are_words : List ℕ → Type 0} {output : List ℕ → List ℕ} {n :
         let same_output : output g.words ≡ output h.words =
         sym (take-append_seam (output g.words) (eight_bytes g.count ++ a)) ∙ ap (take (length (output g.words))) parted
         ∙ rw same_size (take-append_seam (output h.words) (eight_bytes h.count ++ b)) in
-        tells.one g.words h.words of_g.words of_h.words same_output
+        tells.injective g.words h.words of_g.words of_h.words same_output
 
     after_words : eight_bytes g.count ++ a ≡ eight_bytes h.count ++ b
     after_words =
@@ -100,9 +100,9 @@ module _ {are_words : List ℕ → Type 0} {output : List ℕ → List ℕ} {n :
       sym (take-append_seam (output h.words) (eight_bytes h.count)) ∙ rw (size, same) refl
 
   -- cores that are saved as the same bytes are the same
-  pub one_saved_core : (g h : HashState) → IsWithoutTail are_words g → IsWithoutTail are_words h
+  pub output_and_count_injective : (g h : HashState) → IsWithoutTail are_words g → IsWithoutTail are_words h
       → output_and_count output g ≡ output_and_count output h → g ≡ h
-  one_saved_core g h of_g of_h same =
+  output_and_count_injective g h of_g of_h same =
       let behind : output_and_count output g ++ [] ≡ output_and_count output h ++ [] =
       ap (λ (bs : List ℕ). bs ++ []) same in
       let words = same_words g h [] [] of_g.state of_h.state behind in
@@ -128,21 +128,21 @@ module _ {are_words : List ℕ → Type 0} {output : List ℕ → List ℕ} {n :
       )
 
   -- hashers that are saved as the same bytes are the same
-  pub one_saved_hasher : (g h : HashState) → IsHashState are_words g → IsHashState are_words h
+  pub core_and_tail_injective : (g h : HashState) → IsHashState are_words g → IsHashState are_words h
       → core_and_tail output g ≡ core_and_tail output h → g ≡ h
-  one_saved_hasher g h of_g of_h same =
+  core_and_tail_injective g h of_g of_h same =
       let both : output_and_count output g ++ tail_bytes g.tail ≡ output_and_count output h ++ tail_bytes h.tail =
       sym (core_and_tail-split output g) ∙ same ∙ core_and_tail-split output h in
       let words = same_words g h (tail_bytes g.tail) (tail_bytes h.tail) of_g of_h both in
       let count = same_count g h (tail_bytes g.tail) (tail_bytes h.tail) of_g of_h both in
       let rest = same_rest g h (tail_bytes g.tail) (tail_bytes h.tail) of_g of_h both in
-      same_meaning g h words count (one_tail g.tail h.tail rest)
+      same_meaning g h words count (tail_bytes_injective g.tail h.tail rest)
 
 -- ---- the four variants
 
 -- hashers of a variant that are saved as the same bytes are the same
-pub one_hasher : (v : Parameters) (g h : HashState) → IsState v g → IsState v h → hasher_bytes g ≡ hasher_bytes h → g ≡ h
-one_hasher v = one_saved_hasher (words_told (length v.start))
+pub hasher_bytes_injective : (v : Parameters) (g h : HashState) → IsState v g → IsState v h → hasher_bytes g ≡ hasher_bytes h → g ≡ h
+hasher_bytes_injective v = core_and_tail_injective (word_bytes_output (length v.start))
 
 -- the number of eight bytes is below 2 ^ 64
 count_of_eight : (bs : List ℕ) → length bs ≡ 8 → ((i : ℕ) → get_or bs i 0 < 256) → from_le_bytes w64 bs < 2 ^ 64

@@ -31,8 +31,8 @@ words_of_bytes (w ∷ words) fit =
     rw (first, words_of_bytes words (All-tail (λ w. w < 2 ^ 32) w words fit)) refl
 
 -- words with the same bytes are the same
-pub one_list : (n : ℕ) (xs ys : List ℕ) → AreWords n xs → AreWords n ys → word_bytes xs ≡ word_bytes ys → xs ≡ ys
-one_list n xs ys of_xs of_ys same =
+pub word_bytes_injective : (n : ℕ) (xs ys : List ℕ) → AreWords n xs → AreWords n ys → word_bytes xs ≡ word_bytes ys → xs ≡ ys
+word_bytes_injective n xs ys of_xs of_ys same =
     sym (words_of_bytes xs of_xs.fit) ∙ rw (of_xs.count, same, ← of_ys.count) (words_of_bytes ys of_ys.fit)
 
 -- ---- any bytes are those of words, four for each

@@ -6,8 +6,8 @@ use crate::digits::{
     TWO_BLOCKS_256, TWO_BLOCKS_320, is_written,
 };
 use ripemd_block::block_api::{
-    BlockCore, BlockFunction, BufferKindUser, ByteArray, Eager, FixedOutputCore, HashFunction,
-    HashMarker, HashMeaning, Reset, ResumableFunction, Ripemd128Core, Ripemd128Function,
+    BlockCore, BlockFunction, BufferKindUser, ByteArray, Eager, FixedOutputCore, HashMarker,
+    HashMeaning, ListBlockFunction, Reset, ResumableFunction, Ripemd128Core, Ripemd128Function,
     Ripemd160Core, Ripemd160Function, Ripemd256Core, Ripemd256Function, Ripemd320Core,
     Ripemd320Function, SerializableState, UpdateCore,
 };
@@ -15,7 +15,11 @@ use ripemd_block::buffer::Buffer;
 use ripemd_block::padding::{block_count, pad_block};
 
 // Whether this is the digest that a core gives with this tail after its blocks.
-pub(super) fn gives<F: HashFunction>(core: &mut BlockCore<F>, tail: &[u8], digits: &str) -> bool {
+pub(super) fn gives<F: ListBlockFunction>(
+    core: &mut BlockCore<F>,
+    tail: &[u8],
+    digits: &str,
+) -> bool {
     let Some(mut buffer) = Buffer::try_new(tail) else {
         return false;
     };
@@ -26,7 +30,7 @@ pub(super) fn gives<F: HashFunction>(core: &mut BlockCore<F>, tail: &[u8], digit
 
 // Whether a new core has these digests of no bytes and of "abc". It is as it was after each, so it
 // can be finished again.
-fn finishes<F: HashFunction>(empty: &str, abc: &str) -> bool {
+fn finishes<F: ListBlockFunction>(empty: &str, abc: &str) -> bool {
     let mut core = BlockCore::<F>::default();
     gives(&mut core, b"", empty) && gives(&mut core, b"abc", abc) && gives(&mut core, b"", empty)
 }
@@ -71,7 +75,7 @@ fn published_digests_of_walks(rt: HostRuntime) {
 
 // Whether a core gives this digest of a million times "a", which is 15,625 blocks, however they are
 // cut.
-fn takes_a_million<F: HashFunction>(digits: &str) -> bool {
+fn takes_a_million<F: ListBlockFunction>(digits: &str) -> bool {
     let blocks = [[b'a'; 64]; 125];
     let mut one_by_one = BlockCore::<F>::default();
     for _ in 0..15_625 {
@@ -107,7 +111,7 @@ fn counted() -> [[u8; 64]; 2] {
 
 // Whether a duplicate, a clone and a reset core give what they must: `one` is the digest of the
 // first of those blocks, `two` of both, and `empty` of no bytes.
-fn copies<F: HashFunction>(empty: &str, one: &str, two: &str) -> bool {
+fn copies<F: ListBlockFunction>(empty: &str, one: &str, two: &str) -> bool {
     let blocks = counted();
     let mut core = BlockCore::<F>::default();
     core.update_blocks(&blocks[..1]);

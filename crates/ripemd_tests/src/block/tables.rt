@@ -6,7 +6,7 @@ ghost use Rattle.std.specs.Prelude.{◌<◌, ◌≤◌};
 use super::cores::{COUNTED_128, COUNTED_160, COUNTED_256, COUNTED_320};
 use crate::digits::is_written;
 use ripemd_block::block_api::{
-    ByteArray, HashFunction, Ripemd128Function, Ripemd160Function, Ripemd256Function,
+    ByteArray, ListBlockFunction, Ripemd128Function, Ripemd160Function, Ripemd256Function,
     Ripemd320Function,
 };
 use ripemd_block::textbook;
@@ -208,13 +208,13 @@ fn four_blocks() -> [[u8; 64]; 4] {
 }
 
 // The words of a new state after this block, as bytes.
-fn after<F: HashFunction>(block: &[u8; 64]) -> F::Digest {
+fn after<F: ListBlockFunction>(block: &[u8; 64]) -> F::Digest {
     F::output(F::step(F::start(), block))
 }
 
 // Whether a block function steps as the tables say, and to these words with the bytes 0 to 63, where
 // both lines work on one state.
-fn steps_jointly<F: HashFunction>(size: usize, counted: &str) -> bool
+fn steps_jointly<F: ListBlockFunction>(size: usize, counted: &str) -> bool
     requires { size ≤ 5 }
 {
     for block in four_blocks() {
@@ -226,7 +226,7 @@ fn steps_jointly<F: HashFunction>(size: usize, counted: &str) -> bool
 }
 
 // The same where each line works on a half of the state, and registers are exchanged.
-fn steps_doubly<F: HashFunction>(size: usize, exchanges: &[usize], counted: &str) -> bool
+fn steps_doubly<F: ListBlockFunction>(size: usize, exchanges: &[usize], counted: &str) -> bool
     requires { size ≤ 5 }
 {
     for block in four_blocks() {

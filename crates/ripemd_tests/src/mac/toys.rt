@@ -6,7 +6,7 @@ ghost use Rattle.ripemd.specs.States.{HashState, IsHashState};
 
 use crate::witness::toys::sum_from;
 use ripemd::digest::{BlockDigest, BlockFunction, Digest, HashMeaning, OutputSizeUser};
-use ripemd::{BlockHasher, HashFunction};
+use ripemd::{BlockHasher, ListBlockFunction};
 use std::marker::Model;
 
 /// The block function: a step adds all bytes of the block to the one byte, and the last to the other.
@@ -41,12 +41,12 @@ impl BlockFunction for SumsCore {
 
     ghost use Rattle.std.proofs.lemmas.Slice.Eq.{bytes_eq-Decides};
 
-    ghost one_output = { λ s t _ _ same. same };
+    ghost output_injective = { λ s t _ _ same. same };
 
     ghost same_state = { λ s t same. (bytes_eq-Decides s t).0 same };
 }
 
-impl HashFunction for SumsCore {
+impl ListBlockFunction for SumsCore {
     ghost list = { λ state. state };
 
     ghost are_words = { Self.is_state };
@@ -56,7 +56,7 @@ impl HashFunction for SumsCore {
     ghost output = { Self.output_of };
 
     ghost use Rattle.std.proofs.Common.{rules};
-    ghost use Rattle.ripemd.specs.Listed.{of_arrays};
+    ghost use Rattle.ripemd.specs.OverLists.{of_arrays};
 
     ghost over_lists = { of_arrays };
 

@@ -35,7 +35,7 @@ impl BlockFunction for Adding {
 
     ghost use Rattle.std.proofs.lemmas.Bool.{eqb-true};
 
-    ghost one_output = { λ s t _ _ same. same };
+    ghost output_injective = { λ s t _ _ same. same };
 
     ghost same_state = { eqb-true };
 }
@@ -70,7 +70,7 @@ impl BlockFunction for Forgetting {
 
     ghost use Rattle.std.proofs.lemmas.Bool.{eqb-true};
 
-    ghost one_output = { λ s t _ _ same. same };
+    ghost output_injective = { λ s t _ _ same. same };
 
     ghost same_state = { eqb-true };
 }

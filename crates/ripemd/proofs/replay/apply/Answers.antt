@@ -91,7 +91,7 @@ returns-in-Load g c m held =
     let bytes = array_at held i _ new here c.index-in-Load.ensures in
     let loaded = IfOk-at_ok _ c.unwrap-loaded.ensures c.deserialize.ensures.ok in
     let valid = IfOk-at_ok _ c.unwrap-loaded.ensures c.deserialize.ensures.valid in
-    let same = g.met.D.SerializableState.one_state _ _ valid (valid_at held i new here) (loaded ∙ bytes) in
+    let same = g.met.D.SerializableState.state_injective _ _ valid (valid_at held i new here) (loaded ∙ bytes) in
     rw c.in-Load.is (grown g.D.Digest.start g.D.Digest.step g.D.Digest.output g.D.HashMeaning.is_valid
     g.D.SerializableState.state_bytes (Load i) m (add_hasher m h) _ _ tt (omega (arith, saved_count held), refl)
     c.add-in-Load.ensures.ok c.add-in-Load.ensures.err (hasher_added held _ h _ same))

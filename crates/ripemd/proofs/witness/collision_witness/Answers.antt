@@ -58,8 +58,8 @@ returns-then-eq g c =
     let left_end = rw (take_all (j + i) xs (omega arith)) at c.loop-i.invariant.left in
     let right_end = rw (take_all (k + i) ys (omega arith)) at c.loop-i.invariant.right in
     let equal = sym c.eq.ensures ∙ c.if-eq.true in
-    let one_state = g.met.F.BlockFunction.same_state c.loop-i.left_state c.loop-i.right_state equal in
-    let same_end : walk step start xs ≡ walk step start ys = sym left_end ∙ one_state ∙ right_end in
+    let state_injective = g.met.F.BlockFunction.same_state c.loop-i.left_state c.loop-i.right_state equal in
+    let same_end : walk step start xs ≡ walk step start ys = sym left_end ∙ state_injective ∙ right_end in
     let found = c.loop-i.invariant.found in
     record {
       none = none_found start step a b j k i ends _ _ (ap g.F.BlockFunction.output_of same_end)
@@ -88,7 +88,7 @@ returns-else-eq g c =
     record {
       none = (
         λ none. inr (λ same. different
-            (g.met.F.BlockFunction.one_output left right c.loop-i.invariant.left_valid c.loop-i.invariant.right_valid
+            (g.met.F.BlockFunction.output_injective left right c.loop-i.invariant.left_valid c.loop-i.invariant.right_valid
             (rw (left_end, right_end) same))),
         λ h. refl,
       );

@@ -11,7 +11,7 @@ loop-j-preserved g c =
     let d = g.D.Digest in
     let same = g.met.D.BatchDigest in
     let s = g.D.States.EightStates in
-    let f = g.D.States.Function.HashFunction in
+    let f = g.D.States.Function.ListBlockFunction in
     let first = f.list c.args.first in
     let digest : List ℕ → List ℕ = hash_after c.args.before first d.step d.output in
     let bytes_of = g.D.OutputSizeUser.bytes_of in
@@ -45,7 +45,7 @@ loop-j-preserved g c =
 pub returns : goal.returns
 returns g c =
     let d = g.D.Digest in
-    let first = g.D.States.Function.HashFunction.list c.args.first in
+    let first = g.D.States.Function.ListBlockFunction.list c.args.first in
     let messages = c.args.messages.now in
     let many = length-map messages (λ m. m.now) in
     all_equal g.D.OutputSizeUser.bytes_of (hash_after c.args.before first d.step d.output) c.loop-j.digests

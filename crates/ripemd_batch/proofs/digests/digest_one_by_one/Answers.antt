@@ -7,7 +7,7 @@ use Rattle.ripemd_batch.proofs.digests.digest_one_by_one.Goals as goal
 pub loop-j-preserved : goal.loop-j-preserved
 loop-j-preserved g c =
     let d = g.D.Digest in
-    let first = g.D.States.Function.HashFunction.list c.args.first in
+    let first = g.D.States.Function.ListBlockFunction.list c.args.first in
     let digest : List ℕ → List ℕ = hash_after c.args.before first d.step d.output in
     let messages = c.args.messages.now in
     let all : List (List ℕ) = targets messages in
@@ -25,7 +25,7 @@ loop-j-preserved g c =
 pub returns : goal.returns
 returns g c =
     let d = g.D.Digest in
-    let first = g.D.States.Function.HashFunction.list c.args.first in
+    let first = g.D.States.Function.ListBlockFunction.list c.args.first in
     let messages = c.args.messages.now in
     let many = length-map messages (λ m. m.now) in
     all_equal g.D.OutputSizeUser.bytes_of (hash_after c.args.before first d.step d.output) c.loop-j.digests

@@ -6,7 +6,7 @@ use Rattle.ripemd_batch.proofs.digests.digest_one_by_one.Given as goal
 abbrev pub invariant-loop-j : goal.invariant-loop-j
 invariant-loop-j g l =
     let d = g.D.Digest in
-    let first = g.D.States.Function.HashFunction.list l.fn.first in
+    let first = g.D.States.Function.ListBlockFunction.list l.fn.first in
     let digest = hash_after l.fn.before first d.step d.output in
     record {
       size : length l.digests ≡ length l.messages;

@@ -10,7 +10,7 @@ use Rattle.ripemd_batch.proofs.digests.walk_group.Goals as goal
 pub loop-i-preserved : goal.loop-i-preserved
 loop-i-preserved g c j h =
     let s = g.S.EightStates in
-    let f = g.S.Function.HashFunction in
+    let f = g.S.Function.ListBlockFunction in
     let own : List (List (List ℕ)) = c.of.result ∷ c.of-2.result ∷ c.of-3.result ∷ c.of-4.result ∷ c.of-5.result
     ∷ c.of-6.result ∷ c.of-7.result ∷ c.of-8.result ∷ [] in
     walk_on f.step (f.list c.args.first) (blocks_of own j) c.loop-i.i

@@ -1,14 +1,14 @@
 use Rattle.std.proofs.Common.{◌≡◌, ℕ, List, ◌∷◌, arith, ap, ◌∙◌}
 use Rattle.std.specs.Option.{option_to_list}
 use Rattle.ripemd_block.specs.Standard.Hashing.{walk}
-use Rattle.ripemd_block.specs.Listed.{walk_listed}
+use Rattle.ripemd_block.specs.OverLists.{walk_over_lists}
 use Rattle.ripemd_block.proofs.Finishing.{hash_of_blocks}
 use Rattle.ripemd_block.proofs.block_core.digest_message.Goals as goal
 
 pub returns-clause-digest : goal.returns-clause-digest
 returns-clause-digest g c =
-    let f = g.F.HashFunction in
-    let lists = g.met.F.HashFunction.over_lists in
+    let f = g.F.ListBlockFunction in
+    let lists = g.met.F.ListBlockFunction.over_lists in
     let message = c.args.message.now in
     let parts = c.whole_blocks in
     let padded = c.last_blocks in
@@ -18,10 +18,10 @@ returns-clause-digest g c =
     let whole = parts.result.0.now in
     let first = g.F.BlockFunction.start_of in
     let start : f.list before ≡ walk f.step (f.list first) whole =
-    ap f.list c.walk-state.ensures.value ∙ walk_listed lists c.start.result whole
+    ap f.list c.walk-state.ensures.value ∙ walk_over_lists lists c.start.result whole
     ∙ ap (λ s. walk f.step (f.list s) whole) c.start.ensures.value in
     let words : f.list ends ≡ walk f.step (walk f.step (f.list first) whole) last =
-    ap f.list c.walk_last.ensures.value ∙ walk_listed lists before last
+    ap f.list c.walk_last.ensures.value ∙ walk_over_lists lists before last
     ∙ ap (λ (xs : List ℕ). walk f.step xs last) start in
     ap g.F.Digest.ByteArray.bytes c.output-digest.ensures.value ∙ lists.of_output ends ∙ ap f.output words
     ∙ hash_of_blocks (f.list first) f.step f.output message parts.result.1.now _ whole last

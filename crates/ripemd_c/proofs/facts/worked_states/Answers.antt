@@ -4,7 +4,7 @@ use Rattle.ripemd.specs.Standard.Words.{word_bytes}
 use Rattle.ripemd.specs.Standard.Compression.{ripemd160, registers_after, lines_after, compress}
 use Rattle.ripemd.specs.Standard.Hashing.{blocks, partial_block}
 use Rattle.ripemd.specs.States.{HashState, IsState, fed, output_and_count, core_and_tail}
-use Rattle.ripemd_block.specs.Laws.Saving.{words_told, length-output_and_count, core_and_tail-split, tail_bytes}
+use Rattle.ripemd_block.specs.Laws.Saving.{word_bytes_output, length-output_and_count, core_and_tail-split, tail_bytes}
 use Rattle.ripemd_c.proofs.facts.worked_states.Goals as goal
 
 -- the hash state
@@ -35,7 +35,7 @@ unfolding registers_after lines_after compress blocks partial_block fed output_a
 returns c = record {
   saved = record { valid = is_state; saved = refl };
   not_zero = λ h is_saved.
-      let core : length (output_and_count word_bytes h) ≡ 28 = length-output_and_count (words_told 5) h is_saved.valid in
+      let core : length (output_and_count word_bytes h) ≡ 28 = length-output_and_count (word_bytes_output 5) h is_saved.valid in
       let both = sym (core_and_tail-split word_bytes h) ∙ is_saved.saved in
       zero_behind h.tail
       (sym (drop-append_seam (output_and_count word_bytes h) (tail_bytes h.tail))

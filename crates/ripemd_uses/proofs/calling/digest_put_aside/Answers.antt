@@ -9,7 +9,7 @@ returns g c =
     let d = g.D.Digest in
     let ok = rw c.unwrap-hasher.ensures at c.deserialize.ensures.ok in
     let valid = rw c.unwrap-hasher.ensures at c.deserialize.ensures.valid in
-    let same = g.met.D.SerializableState.one_state _ _ valid c.serialize-saved.ensures.valid
+    let same = g.met.D.SerializableState.state_injective _ _ valid c.serialize-saved.ensures.valid
     (ok ∙ c.serialize-saved.ensures.bytes) in
     let first = c.args.first.now in
     let second = c.args.second.now in

@@ -10,7 +10,7 @@ use Rattle.ripemd.specs.declared.replay.Command.{Command}
 use Rattle.ripemd.specs.declared.replay.Command.TheVariants.{New, Update, Fork, Finish}
 use Rattle.ripemd.specs.Replay.{Gives}
 use Rattle.ripemd.specs.ReplayLaws.{ripemd_of_new, gives_once, gives_or_stops}
-use Rattle.ripemd_block.specs.Laws.Saving.{one_hasher}
+use Rattle.ripemd_block.specs.Laws.Saving.{hasher_bytes_injective}
 use Rattle.ripemd_uses.proofs.commands.digests_of_ends.Goals as goal
 
 -- the commands, and what the machine makes of them
@@ -52,7 +52,7 @@ returns-clause-digests c =
     IfOk-weaker c.replay.result _ _
     (λ digests given.
     sym (map-id digests.items)
-    ∙ gives_once ripemd160.start (compress ripemd160) word_bytes (IsState ripemd160) hasher_bytes (one_hasher ripemd160)
+    ∙ gives_once ripemd160.start (compress ripemd160) word_bytes (IsState ripemd160) hasher_bytes (hasher_bytes_injective ripemd160)
     (commands c.args.start c.args.end c.args.other) _ _ given (gives c.args.start c.args.end c.args.other))
     c.replay.ensures.digests
 
@@ -62,6 +62,6 @@ returns-clause-error c =
     IfErr-weaker c.replay.result _ _
     (λ error stops.
     gives_or_stops ripemd160.start (compress ripemd160) word_bytes (IsState ripemd160) hasher_bytes
-    (one_hasher ripemd160) (commands c.args.start c.args.end c.args.other) _ error
+    (hasher_bytes_injective ripemd160) (commands c.args.start c.args.end c.args.other) _ error
     (gives c.args.start c.args.end c.args.other) stops)
     c.replay.ensures.error

@@ -8,7 +8,7 @@ use Rattle.ripemd.proofs.state.BlockHasherSerializableState.load_slice.Goals as 
 pub returns-then-bytes-LEN-clause-err : goal.returns-then-bytes-LEN-clause-err
 returns-then-bytes-LEN-clause-err g c h valid same =
     let r = g.met.F.ResumableFunction in
-    let told = r.tells_words in
+    let told = r.injective_output in
     omega (
       arith,
       c.if-bytes-LEN.true,
@@ -22,7 +22,7 @@ returns-then-bytes-LEN-clause-err g c h valid same =
 pub returns-in-Err-clause-err : goal.returns-in-Err-clause-err
 returns-in-Err-clause-err g c h valid same =
     let r = g.met.F.ResumableFunction in
-    let told = r.tells_words in
+    let told = r.injective_output in
     let n = c.LEN-2.result in
     let size = c.LEN-2.ensures ∙ r.saved_core_size in
     let bytes = c.args.bytes.now in
@@ -34,7 +34,7 @@ returns-in-Err-clause-err g c h valid same =
 pub returns-in-None-clause-err : goal.returns-in-None-clause-err
 returns-in-None-clause-err g c h valid same =
     let r = g.met.F.ResumableFunction in
-    let told = r.tells_words in
+    let told = r.injective_output in
     let n = c.LEN-2.result in
     let size = c.LEN-2.ensures ∙ r.saved_core_size in
     let bytes = c.args.bytes.now in
@@ -46,5 +46,5 @@ unfolding output_and_count
 returns-in-Some-clause-ok g c =
     let h : HashState = with_tail c.in-Ok.core c.in-Some.buffer in
     let split = c.split_at in
-    both_saved g.F.HashFunction.output h c.LEN-2.result c.args.bytes.now split.result.0.now split.result.1.now split.ensures.front
+    both_saved g.F.ListBlockFunction.output h c.LEN-2.result c.args.bytes.now split.result.0.now split.result.1.now split.ensures.front
     split.ensures.back c.in-Ok.ensures.ok c.in-Some.ensures.some

@@ -6,7 +6,7 @@ use Rattle.ripemd.proofs.state.BlockHasherSerializableState.serialize.Goals as g
 pub returns-clause-bytes : goal.returns-clause-bytes
 unfolding output_and_count
 returns-clause-bytes g c =
-    let output = g.F.HashFunction.output in
+    let output = g.F.ListBlockFunction.output in
     let h : HashState = with_tail c.self.inside.core c.self.inside.buffer in
     let of_core : c.as_bytes.result.now ≡ output_and_count output h =
     rw c.serialize-core.ensures.bytes at c.as_bytes.ensures.bytes in

@@ -2,7 +2,7 @@ use Rattle.std.proofs.Common.{◌≡◌, ◌≢◌, ℕ, ◌+◌, length, take, 
 use Rattle.std.proofs.lemmas.List.{take-append-drop}
 use Rattle.ripemd_mac.specs.Keyed.{KeyedState}
 use Rattle.ripemd_mac.specs.Saved.{IsKeyedState, hmac_bytes}
-use Rattle.ripemd_mac.specs.Laws.{length-hmac_bytes, inner_part, outer_part, one_saved_hmac}
+use Rattle.ripemd_mac.specs.Laws.{length-hmac_bytes, inner_part, outer_part, hmac_bytes_injective}
 use Rattle.ripemd_mac.proofs.keyed.Hmac+BlockHasher+F.load_slice.Goals as goal
 
 -- what holds anyway holds of an error
@@ -18,7 +18,7 @@ returns-then-bytes-LEN-clause-err g c state valid same =
       arith,
       c.if-bytes-LEN.true,
       ap length same,
-      length-hmac_bytes r.tells_words state valid,
+      length-hmac_bytes r.injective_output state valid,
       r.saved_core_size,
       r.saved_hasher_size,
       r.saved_hmac_size,
@@ -30,10 +30,10 @@ returns-in_err-load_slice-clause-err g c =
     let r = g.met.F.ResumableFunction in
     let bytes = c.args.bytes.now in
     let size = c.LEN-2.ensures ∙ r.saved_hasher_size ∙ ap (λ (n : ℕ). n + 64) r.saved_core_size in
-    let refused : (state : KeyedState) → IsKeyedState g.F.HashFunction.are_words state
-    → hmac_bytes g.F.HashFunction.output state ≢ bytes =
+    let refused : (state : KeyedState) → IsKeyedState g.F.ListBlockFunction.are_words state
+    → hmac_bytes g.F.ListBlockFunction.output state ≢ bytes =
     λ state valid same. c.in_err-load_slice.ensures.err state.inner valid.inner
-    (inner_part r.tells_words state valid bytes same ∙ ap (λ (n : ℕ). take n bytes) (sym size) ∙ sym c.split_at.ensures.front) in
+    (inner_part r.injective_output state valid bytes same ∙ ap (λ (n : ℕ). take n bytes) (sym size) ∙ sym c.split_at.ensures.front) in
     of_error _ refused
 
 -- and the others those of its outer one
@@ -42,23 +42,23 @@ returns-in_err-load_slice-2-clause-err g c =
     let r = g.met.F.ResumableFunction in
     let bytes = c.args.bytes.now in
     let size = c.LEN-2.ensures ∙ r.saved_hasher_size ∙ ap (λ (n : ℕ). n + 64) r.saved_core_size in
-    let refused : (state : KeyedState) → IsKeyedState g.F.HashFunction.are_words state
-    → hmac_bytes g.F.HashFunction.output state ≢ bytes =
+    let refused : (state : KeyedState) → IsKeyedState g.F.ListBlockFunction.are_words state
+    → hmac_bytes g.F.ListBlockFunction.output state ≢ bytes =
     λ state valid same. c.in_err-load_slice-2.ensures.err state.outer valid.outer
-    (outer_part r.tells_words state valid bytes same ∙ ap (λ (n : ℕ). drop n bytes) (sym size) ∙ sym c.split_at.ensures.back) in
+    (outer_part r.injective_output state valid bytes same ∙ ap (λ (n : ℕ). drop n bytes) (sym size) ∙ sym c.split_at.ensures.back) in
     of_error _ refused
 
 pub returns-clause-text : goal.returns-clause-text
 returns-clause-text g c key text saved =
-    let tells = g.met.F.ResumableFunction.tells_words in
+    let tells = g.met.F.ResumableFunction.injective_output in
     let inner = c.in_ok-load_slice in
     let outer = c.in_ok-load_slice-2 in
     let state : KeyedState = record { inner = inner.field-0; outer = outer.field-0 } in
-    let bytes : hmac_bytes g.F.HashFunction.output state ≡ c.args.bytes.now =
+    let bytes : hmac_bytes g.F.ListBlockFunction.output state ≡ c.args.bytes.now =
     rw (inner.ensures.ok, outer.ensures.ok, c.split_at.ensures.front, c.split_at.ensures.back)
     (take-append-drop c.LEN-2.result c.args.bytes.now) in
     record {
-      is = one_saved_hmac tells state saved.state (record { inner = inner.ensures.valid; outer = outer.ensures.valid })
+      is = hmac_bytes_injective tells state saved.state (record { inner = inner.ensures.valid; outer = outer.ensures.valid })
           saved.valid (bytes ∙ sym saved.saved)
           ∙ saved.stands.is;
     }

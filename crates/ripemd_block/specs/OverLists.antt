@@ -17,23 +17,23 @@ pub of_arrays : {is_state : List ℕ → Type 0} {step : List ℕ → List ℕ �
     → IsOverLists (λ state. state) is_state step output (λ digest. digest) is_state step output
 of_arrays = record { of_state = λ state valid. valid; of_step = λ state block. refl; of_output = λ state. refl }
 
--- an output of n bytes, which tells the words that it is of
-pub record TellsWords (are_words : List ℕ → Type 0) (output : List ℕ → List ℕ) (n : ℕ) : Type 0 where
+-- an output of n bytes, which different words never share
+pub record IsInjectiveOutput (are_words : List ℕ → Type 0) (output : List ℕ → List ℕ) (n : ℕ) : Type 0 where
   pub size : (xs : List ℕ) → are_words xs → length (output xs) ≡ n
-  pub one : (xs ys : List ℕ) → are_words xs → are_words ys → output xs ≡ output ys → xs ≡ ys
+  pub injective : (xs ys : List ℕ) → are_words xs → are_words ys → output xs ≡ output ys → xs ≡ ys
 
 module _ {S D : Type 0} {list : S → List ℕ} {is_state : S → Type 0} {step_of : S → List ℕ → S} {output_of : S → D}
     {bytes : D → List ℕ} {are_words : List ℕ → Type 0} {step : List ℕ → List ℕ → List ℕ} {output : List ℕ → List ℕ}
     (lists : IsOverLists list is_state step_of output_of bytes are_words step output) where
   -- the walk from the list of a state leads to the list of the state to which the walk from it leads
-  pub walk_listed : (s : S) (bs : List (List ℕ)) → list (walk step_of s bs) ≡ walk step (list s) bs
-  walk_listed s [] = refl
-  walk_listed s (b ∷ bs) = walk_listed (step_of s b) bs ∙ ap (λ (xs : List ℕ). walk step xs bs) (lists.of_step s b)
+  pub walk_over_lists : (s : S) (bs : List (List ℕ)) → list (walk step_of s bs) ≡ walk step (list s) bs
+  walk_over_lists s [] = refl
+  walk_over_lists s (b ∷ bs) = walk_over_lists (step_of s b) bs ∙ ap (λ (xs : List ℕ). walk step xs bs) (lists.of_step s b)
 
   -- so the hash by states has the bytes of the hash by lists
-  pub hash_listed : (start : S) (message : List ℕ)
+  pub hash_over_lists : (start : S) (message : List ℕ)
       → bytes (hash start step_of output_of message) ≡ hash (list start) step output message
   unfolding hash
-  hash_listed start message =
+  hash_over_lists start message =
       let bs = blocks (padded_message message) in
-      lists.of_output (walk step_of start bs) ∙ ap output (walk_listed start bs)
+      lists.of_output (walk step_of start bs) ∙ ap output (walk_over_lists start bs)
