@@ -51,8 +51,8 @@ static const char TEXT[] = "Hi There";
 static const char TAG[] = "24cb4bd67d20fc1a5d2ed7732dcc39377f0a5668";
 
 // A library's functions by variant, NULL where it has none, and the least seconds of each task. A tag
-// is made from a copy of the state after the key, which the library keeps; ours hashes the key for
-// each 128 texts. The functions of messages in pieces are those of RIPEMD-160.
+// is made from a copy of the state after the key, which the library keeps; ours hashes the key once
+// for a list. The functions of messages in pieces are those of RIPEMD-160.
 struct library {
   char name[80];
   void (*digest[VARIANTS])(const uint8_t *message, size_t length, uint8_t *digest);
