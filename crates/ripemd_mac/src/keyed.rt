@@ -259,7 +259,7 @@ pub fn masked_keys<D: BlockDigest>(key: &[u8]) -> MaskedKeys
 }
 
 // The key as a block of the hash function.
-pub(crate) fn key_block<D: BlockDigest>(key: &[u8]) -> [u8; 64]
+fn key_block<D: BlockDigest>(key: &[u8]) -> [u8; 64]
     ensures { result ≡ key_block (hash D.start D.step D.output) key.now }
 {
     if key.len() > 64 {
@@ -281,7 +281,7 @@ pub fn filled(bytes: &[u8]) -> [u8; 64]
 }
 
 // A block, each byte combined with a mask.
-pub(crate) fn masked(block: &[u8; 64], mask: u8) -> [u8; 64]
+fn masked(block: &[u8; 64], mask: u8) -> [u8; 64]
     ensures { result ≡ masked mask block.now }
 {
     let mut bytes = *block;
