@@ -2,13 +2,15 @@
  *
  * What each call writes and returns is proved, if its caller ensures this, which nothing checks:
  *
- * - A pointer leads to as many bytes, digests or tags as the number after it says, or as its size in
- *   brackets. Each of these pieces of memory is smaller than 2^63 bytes.
+ * - A pointer leads to as many bytes, messages, digests or tags as the number after it says, or as its
+ *   type or its size in brackets says. Each of these pieces of memory is smaller than 2^63 bytes.
  * - A pointer with a number after it may be null where the number is 0. No other pointer is null.
  * - What a call writes overlaps nothing else that it is given; what it only reads may overlap.
  * - While a call runs, no other thread writes what it reads, or reads or writes what it writes.
  *
- * What was in the memory of a digest or a tag, or of a state before its init, makes no difference.
+ * The functions that take the variant as a number are tested and not proved: each calls one of the
+ * others. What was in the memory of a digest or a tag, or of a state before its init, makes no
+ * difference.
  *
  * No call allocates memory, keeps a pointer, or uses global data that changes: all calls may
  * run at once in any number of threads. Nothing is wiped from memory, neither keys nor texts. */
@@ -22,6 +24,9 @@
 #endif
 
 #define NATTIZHU_VERSION "0.1.0"
+
+/* Bytes of a block, of every variant. */
+#define NATTIZHU_BLOCK_SIZE 64
 
 /* Bytes of a digest, and of a tag. */
 #define NATTIZHU_RIPEMD128_SIZE 16
@@ -41,160 +46,68 @@
 #define NATTIZHU_HMAC_RIPEMD256_STATE_SIZE 208
 #define NATTIZHU_HMAC_RIPEMD320_STATE_SIZE 224
 
+/* Compilers warn where the answer of a function with this mark is ignored. */
+#if defined(__cplusplus) ? __cplusplus >= 201703L                                                  \
+                         : defined(__STDC_VERSION__) && __STDC_VERSION__ >= 202311L
+#define NATTIZHU_CHECKED [[nodiscard]]
+#elif defined(__GNUC__)
+#define NATTIZHU_CHECKED __attribute__((warn_unused_result))
+#else
+#define NATTIZHU_CHECKED
+#endif
+
 #ifdef __cplusplus
 extern "C" {
 #endif
 
-/* ---- The functions of the library whose pointers may not be null, not even with the number 0. They
- * are for foreign-function interfaces; C takes those below without `_nonnull`. */
-
-void nattizhu_ripemd128_nonnull(const uint8_t *message, size_t length,
-                                uint8_t digest[NATTIZHU_RIPEMD128_SIZE]);
-void nattizhu_ripemd160_nonnull(const uint8_t *message, size_t length,
-                                uint8_t digest[NATTIZHU_RIPEMD160_SIZE]);
-void nattizhu_ripemd256_nonnull(const uint8_t *message, size_t length,
-                                uint8_t digest[NATTIZHU_RIPEMD256_SIZE]);
-void nattizhu_ripemd320_nonnull(const uint8_t *message, size_t length,
-                                uint8_t digest[NATTIZHU_RIPEMD320_SIZE]);
-
-bool nattizhu_ripemd128_each_nonnull(const uint8_t *bytes, size_t length, size_t size,
-                                     uint8_t (*digests)[NATTIZHU_RIPEMD128_SIZE], size_t count);
-bool nattizhu_ripemd160_each_nonnull(const uint8_t *bytes, size_t length, size_t size,
-                                     uint8_t (*digests)[NATTIZHU_RIPEMD160_SIZE], size_t count);
-bool nattizhu_ripemd256_each_nonnull(const uint8_t *bytes, size_t length, size_t size,
-                                     uint8_t (*digests)[NATTIZHU_RIPEMD256_SIZE], size_t count);
-bool nattizhu_ripemd320_each_nonnull(const uint8_t *bytes, size_t length, size_t size,
-                                     uint8_t (*digests)[NATTIZHU_RIPEMD320_SIZE], size_t count);
-
-bool nattizhu_ripemd128_update_nonnull(uint8_t state[NATTIZHU_RIPEMD128_STATE_SIZE],
-                                       const uint8_t *bytes, size_t length);
-bool nattizhu_ripemd160_update_nonnull(uint8_t state[NATTIZHU_RIPEMD160_STATE_SIZE],
-                                       const uint8_t *bytes, size_t length);
-bool nattizhu_ripemd256_update_nonnull(uint8_t state[NATTIZHU_RIPEMD256_STATE_SIZE],
-                                       const uint8_t *bytes, size_t length);
-bool nattizhu_ripemd320_update_nonnull(uint8_t state[NATTIZHU_RIPEMD320_STATE_SIZE],
-                                       const uint8_t *bytes, size_t length);
-
-void nattizhu_hmac_ripemd128_nonnull(const uint8_t *key, size_t key_length, const uint8_t *text,
-                                     size_t text_length, uint8_t tag[NATTIZHU_RIPEMD128_SIZE]);
-void nattizhu_hmac_ripemd160_nonnull(const uint8_t *key, size_t key_length, const uint8_t *text,
-                                     size_t text_length, uint8_t tag[NATTIZHU_RIPEMD160_SIZE]);
-void nattizhu_hmac_ripemd256_nonnull(const uint8_t *key, size_t key_length, const uint8_t *text,
-                                     size_t text_length, uint8_t tag[NATTIZHU_RIPEMD256_SIZE]);
-void nattizhu_hmac_ripemd320_nonnull(const uint8_t *key, size_t key_length, const uint8_t *text,
-                                     size_t text_length, uint8_t tag[NATTIZHU_RIPEMD320_SIZE]);
-
-void nattizhu_hmac_ripemd128_init_nonnull(uint8_t state[NATTIZHU_HMAC_RIPEMD128_STATE_SIZE],
-                                          const uint8_t *key, size_t length);
-void nattizhu_hmac_ripemd160_init_nonnull(uint8_t state[NATTIZHU_HMAC_RIPEMD160_STATE_SIZE],
-                                          const uint8_t *key, size_t length);
-void nattizhu_hmac_ripemd256_init_nonnull(uint8_t state[NATTIZHU_HMAC_RIPEMD256_STATE_SIZE],
-                                          const uint8_t *key, size_t length);
-void nattizhu_hmac_ripemd320_init_nonnull(uint8_t state[NATTIZHU_HMAC_RIPEMD320_STATE_SIZE],
-                                          const uint8_t *key, size_t length);
-
-bool nattizhu_hmac_ripemd128_update_nonnull(uint8_t state[NATTIZHU_HMAC_RIPEMD128_STATE_SIZE],
-                                            const uint8_t *bytes, size_t length);
-bool nattizhu_hmac_ripemd160_update_nonnull(uint8_t state[NATTIZHU_HMAC_RIPEMD160_STATE_SIZE],
-                                            const uint8_t *bytes, size_t length);
-bool nattizhu_hmac_ripemd256_update_nonnull(uint8_t state[NATTIZHU_HMAC_RIPEMD256_STATE_SIZE],
-                                            const uint8_t *bytes, size_t length);
-bool nattizhu_hmac_ripemd320_update_nonnull(uint8_t state[NATTIZHU_HMAC_RIPEMD320_STATE_SIZE],
-                                            const uint8_t *bytes, size_t length);
-
-bool nattizhu_hmac_ripemd128_verify_nonnull(const uint8_t state[NATTIZHU_HMAC_RIPEMD128_STATE_SIZE],
-                                            const uint8_t *tag, size_t length);
-bool nattizhu_hmac_ripemd160_verify_nonnull(const uint8_t state[NATTIZHU_HMAC_RIPEMD160_STATE_SIZE],
-                                            const uint8_t *tag, size_t length);
-bool nattizhu_hmac_ripemd256_verify_nonnull(const uint8_t state[NATTIZHU_HMAC_RIPEMD256_STATE_SIZE],
-                                            const uint8_t *tag, size_t length);
-bool nattizhu_hmac_ripemd320_verify_nonnull(const uint8_t state[NATTIZHU_HMAC_RIPEMD320_STATE_SIZE],
-                                            const uint8_t *tag, size_t length);
-
-bool nattizhu_hmac_ripemd128_verify_text_nonnull(const uint8_t *key, size_t key_length,
-                                                 const uint8_t *text, size_t text_length,
-                                                 const uint8_t *tag, size_t tag_length);
-bool nattizhu_hmac_ripemd160_verify_text_nonnull(const uint8_t *key, size_t key_length,
-                                                 const uint8_t *text, size_t text_length,
-                                                 const uint8_t *tag, size_t tag_length);
-bool nattizhu_hmac_ripemd256_verify_text_nonnull(const uint8_t *key, size_t key_length,
-                                                 const uint8_t *text, size_t text_length,
-                                                 const uint8_t *tag, size_t tag_length);
-bool nattizhu_hmac_ripemd320_verify_text_nonnull(const uint8_t *key, size_t key_length,
-                                                 const uint8_t *text, size_t text_length,
-                                                 const uint8_t *tag, size_t tag_length);
-
-bool nattizhu_hmac_ripemd128_each_nonnull(const uint8_t *key, size_t key_length,
-                                          const uint8_t *bytes, size_t length, size_t size,
-                                          uint8_t (*tags)[NATTIZHU_RIPEMD128_SIZE], size_t count);
-bool nattizhu_hmac_ripemd160_each_nonnull(const uint8_t *key, size_t key_length,
-                                          const uint8_t *bytes, size_t length, size_t size,
-                                          uint8_t (*tags)[NATTIZHU_RIPEMD160_SIZE], size_t count);
-bool nattizhu_hmac_ripemd256_each_nonnull(const uint8_t *key, size_t key_length,
-                                          const uint8_t *bytes, size_t length, size_t size,
-                                          uint8_t (*tags)[NATTIZHU_RIPEMD256_SIZE], size_t count);
-bool nattizhu_hmac_ripemd320_each_nonnull(const uint8_t *key, size_t key_length,
-                                          const uint8_t *bytes, size_t length, size_t size,
-                                          uint8_t (*tags)[NATTIZHU_RIPEMD320_SIZE], size_t count);
-
-/* A pointer that is not null, in place of one that leads to no bytes. */
-static inline const uint8_t *nattizhu_some(const uint8_t *bytes) {
-  return bytes ? bytes : (const uint8_t *)"";
-}
+/* The version of the library that is loaded, as NATTIZHU_VERSION is that of this header. */
+const char *nattizhu_version(void);
 
 /* ---- Digests of whole messages */
 
 /* Writes the digest of the message, which has `length` bytes. */
-static inline void nattizhu_ripemd128(const uint8_t *message, size_t length,
-                                      uint8_t digest[NATTIZHU_RIPEMD128_SIZE]) {
-  nattizhu_ripemd128_nonnull(nattizhu_some(message), length, digest);
-}
-static inline void nattizhu_ripemd160(const uint8_t *message, size_t length,
-                                      uint8_t digest[NATTIZHU_RIPEMD160_SIZE]) {
-  nattizhu_ripemd160_nonnull(nattizhu_some(message), length, digest);
-}
-static inline void nattizhu_ripemd256(const uint8_t *message, size_t length,
-                                      uint8_t digest[NATTIZHU_RIPEMD256_SIZE]) {
-  nattizhu_ripemd256_nonnull(nattizhu_some(message), length, digest);
-}
-static inline void nattizhu_ripemd320(const uint8_t *message, size_t length,
-                                      uint8_t digest[NATTIZHU_RIPEMD320_SIZE]) {
-  nattizhu_ripemd320_nonnull(nattizhu_some(message), length, digest);
-}
+void nattizhu_ripemd128(const uint8_t *message, size_t length,
+                        uint8_t digest[NATTIZHU_RIPEMD128_SIZE]);
+void nattizhu_ripemd160(const uint8_t *message, size_t length,
+                        uint8_t digest[NATTIZHU_RIPEMD160_SIZE]);
+void nattizhu_ripemd256(const uint8_t *message, size_t length,
+                        uint8_t digest[NATTIZHU_RIPEMD256_SIZE]);
+void nattizhu_ripemd320(const uint8_t *message, size_t length,
+                        uint8_t digest[NATTIZHU_RIPEMD320_SIZE]);
 
-/* ---- Digests of many records of one size */
+/* ---- Digests of many messages, eight at once */
 
 /* Writes the digest of each of `count` records to its place in `digests`, and returns true. The
  * records lie one after another in `bytes`, each of `size` bytes. If `length` is not `count * size`,
  * as numbers and without overflow, the call writes nothing and returns false. */
-static inline bool nattizhu_ripemd128_each(const uint8_t *bytes, size_t length, size_t size,
-                                           uint8_t (*digests)[NATTIZHU_RIPEMD128_SIZE],
-                                           size_t count) {
-  uint8_t none[1][NATTIZHU_RIPEMD128_SIZE];
-  return nattizhu_ripemd128_each_nonnull(nattizhu_some(bytes), length, size,
-                                         digests ? digests : none, count);
-}
-static inline bool nattizhu_ripemd160_each(const uint8_t *bytes, size_t length, size_t size,
-                                           uint8_t (*digests)[NATTIZHU_RIPEMD160_SIZE],
-                                           size_t count) {
-  uint8_t none[1][NATTIZHU_RIPEMD160_SIZE];
-  return nattizhu_ripemd160_each_nonnull(nattizhu_some(bytes), length, size,
-                                         digests ? digests : none, count);
-}
-static inline bool nattizhu_ripemd256_each(const uint8_t *bytes, size_t length, size_t size,
-                                           uint8_t (*digests)[NATTIZHU_RIPEMD256_SIZE],
-                                           size_t count) {
-  uint8_t none[1][NATTIZHU_RIPEMD256_SIZE];
-  return nattizhu_ripemd256_each_nonnull(nattizhu_some(bytes), length, size,
-                                         digests ? digests : none, count);
-}
-static inline bool nattizhu_ripemd320_each(const uint8_t *bytes, size_t length, size_t size,
-                                           uint8_t (*digests)[NATTIZHU_RIPEMD320_SIZE],
-                                           size_t count) {
-  uint8_t none[1][NATTIZHU_RIPEMD320_SIZE];
-  return nattizhu_ripemd320_each_nonnull(nattizhu_some(bytes), length, size,
-                                         digests ? digests : none, count);
-}
+NATTIZHU_CHECKED bool nattizhu_ripemd128_each(const uint8_t *bytes, size_t length, size_t size,
+                                              uint8_t (*digests)[NATTIZHU_RIPEMD128_SIZE],
+                                              size_t count);
+NATTIZHU_CHECKED bool nattizhu_ripemd160_each(const uint8_t *bytes, size_t length, size_t size,
+                                              uint8_t (*digests)[NATTIZHU_RIPEMD160_SIZE],
+                                              size_t count);
+NATTIZHU_CHECKED bool nattizhu_ripemd256_each(const uint8_t *bytes, size_t length, size_t size,
+                                              uint8_t (*digests)[NATTIZHU_RIPEMD256_SIZE],
+                                              size_t count);
+NATTIZHU_CHECKED bool nattizhu_ripemd320_each(const uint8_t *bytes, size_t length, size_t size,
+                                              uint8_t (*digests)[NATTIZHU_RIPEMD320_SIZE],
+                                              size_t count);
+
+/* A message of a list. It has the layout of POSIX's struct iovec. */
+typedef struct nattizhu_message {
+  const uint8_t *bytes;
+  size_t length;
+} nattizhu_message;
+
+/* Writes the digest of each of `count` messages, of any lengths, to its place in `digests`. */
+void nattizhu_ripemd128_list(const nattizhu_message *messages, size_t count,
+                             uint8_t (*digests)[NATTIZHU_RIPEMD128_SIZE]);
+void nattizhu_ripemd160_list(const nattizhu_message *messages, size_t count,
+                             uint8_t (*digests)[NATTIZHU_RIPEMD160_SIZE]);
+void nattizhu_ripemd256_list(const nattizhu_message *messages, size_t count,
+                             uint8_t (*digests)[NATTIZHU_RIPEMD256_SIZE]);
+void nattizhu_ripemd320_list(const nattizhu_message *messages, size_t count,
+                             uint8_t (*digests)[NATTIZHU_RIPEMD320_SIZE]);
 
 /* ---- Digests of messages in pieces
  *
@@ -202,42 +115,46 @@ static inline bool nattizhu_ripemd320_each(const uint8_t *bytes, size_t length, 
  * stored, and loaded by another process. They are the saved bytes of a hasher of the library in Rattle.
  * States are not authenticated: only their layout is checked, and even an array of zeros is a hash
  * state. So call init first. */
+typedef struct nattizhu_ripemd128_state {
+  uint8_t bytes[NATTIZHU_RIPEMD128_STATE_SIZE];
+} nattizhu_ripemd128_state;
+typedef struct nattizhu_ripemd160_state {
+  uint8_t bytes[NATTIZHU_RIPEMD160_STATE_SIZE];
+} nattizhu_ripemd160_state;
+typedef struct nattizhu_ripemd256_state {
+  uint8_t bytes[NATTIZHU_RIPEMD256_STATE_SIZE];
+} nattizhu_ripemd256_state;
+typedef struct nattizhu_ripemd320_state {
+  uint8_t bytes[NATTIZHU_RIPEMD320_STATE_SIZE];
+} nattizhu_ripemd320_state;
 
 /* Writes the state of the empty message. */
-void nattizhu_ripemd128_init(uint8_t state[NATTIZHU_RIPEMD128_STATE_SIZE]);
-void nattizhu_ripemd160_init(uint8_t state[NATTIZHU_RIPEMD160_STATE_SIZE]);
-void nattizhu_ripemd256_init(uint8_t state[NATTIZHU_RIPEMD256_STATE_SIZE]);
-void nattizhu_ripemd320_init(uint8_t state[NATTIZHU_RIPEMD320_STATE_SIZE]);
+void nattizhu_ripemd128_init(nattizhu_ripemd128_state *state);
+void nattizhu_ripemd160_init(nattizhu_ripemd160_state *state);
+void nattizhu_ripemd256_init(nattizhu_ripemd256_state *state);
+void nattizhu_ripemd320_init(nattizhu_ripemd320_state *state);
 
 /* Appends bytes to the message: writes the state that follows, and returns true.
  * If these bytes are no hash state, it writes nothing and returns false. */
-static inline bool nattizhu_ripemd128_update(uint8_t state[NATTIZHU_RIPEMD128_STATE_SIZE],
-                                             const uint8_t *bytes, size_t length) {
-  return nattizhu_ripemd128_update_nonnull(state, nattizhu_some(bytes), length);
-}
-static inline bool nattizhu_ripemd160_update(uint8_t state[NATTIZHU_RIPEMD160_STATE_SIZE],
-                                             const uint8_t *bytes, size_t length) {
-  return nattizhu_ripemd160_update_nonnull(state, nattizhu_some(bytes), length);
-}
-static inline bool nattizhu_ripemd256_update(uint8_t state[NATTIZHU_RIPEMD256_STATE_SIZE],
-                                             const uint8_t *bytes, size_t length) {
-  return nattizhu_ripemd256_update_nonnull(state, nattizhu_some(bytes), length);
-}
-static inline bool nattizhu_ripemd320_update(uint8_t state[NATTIZHU_RIPEMD320_STATE_SIZE],
-                                             const uint8_t *bytes, size_t length) {
-  return nattizhu_ripemd320_update_nonnull(state, nattizhu_some(bytes), length);
-}
+NATTIZHU_CHECKED bool nattizhu_ripemd128_update(nattizhu_ripemd128_state *state,
+                                                const uint8_t *bytes, size_t length);
+NATTIZHU_CHECKED bool nattizhu_ripemd160_update(nattizhu_ripemd160_state *state,
+                                                const uint8_t *bytes, size_t length);
+NATTIZHU_CHECKED bool nattizhu_ripemd256_update(nattizhu_ripemd256_state *state,
+                                                const uint8_t *bytes, size_t length);
+NATTIZHU_CHECKED bool nattizhu_ripemd320_update(nattizhu_ripemd320_state *state,
+                                                const uint8_t *bytes, size_t length);
 
 /* Writes the digest of the message so far, and returns true. The state stays as it is, and the message
  * may go on. If these bytes are no hash state, the call writes nothing and returns false. */
-bool nattizhu_ripemd128_final(const uint8_t state[NATTIZHU_RIPEMD128_STATE_SIZE],
-                              uint8_t digest[NATTIZHU_RIPEMD128_SIZE]);
-bool nattizhu_ripemd160_final(const uint8_t state[NATTIZHU_RIPEMD160_STATE_SIZE],
-                              uint8_t digest[NATTIZHU_RIPEMD160_SIZE]);
-bool nattizhu_ripemd256_final(const uint8_t state[NATTIZHU_RIPEMD256_STATE_SIZE],
-                              uint8_t digest[NATTIZHU_RIPEMD256_SIZE]);
-bool nattizhu_ripemd320_final(const uint8_t state[NATTIZHU_RIPEMD320_STATE_SIZE],
-                              uint8_t digest[NATTIZHU_RIPEMD320_SIZE]);
+NATTIZHU_CHECKED bool nattizhu_ripemd128_final(const nattizhu_ripemd128_state *state,
+                                               uint8_t digest[NATTIZHU_RIPEMD128_SIZE]);
+NATTIZHU_CHECKED bool nattizhu_ripemd160_final(const nattizhu_ripemd160_state *state,
+                                               uint8_t digest[NATTIZHU_RIPEMD160_SIZE]);
+NATTIZHU_CHECKED bool nattizhu_ripemd256_final(const nattizhu_ripemd256_state *state,
+                                               uint8_t digest[NATTIZHU_RIPEMD256_SIZE]);
+NATTIZHU_CHECKED bool nattizhu_ripemd320_final(const nattizhu_ripemd320_state *state,
+                                               uint8_t digest[NATTIZHU_RIPEMD320_SIZE]);
 
 /* ---- Tags (HMAC)
  *
@@ -246,168 +163,182 @@ bool nattizhu_ripemd320_final(const uint8_t state[NATTIZHU_RIPEMD320_STATE_SIZE]
  * can make tags. For many tags under one key, copy the state after init. */
 
 /* Writes the tag of the text under the key. */
-static inline void nattizhu_hmac_ripemd128(const uint8_t *key, size_t key_length,
-                                           const uint8_t *text, size_t text_length,
-                                           uint8_t tag[NATTIZHU_RIPEMD128_SIZE]) {
-  nattizhu_hmac_ripemd128_nonnull(nattizhu_some(key), key_length,
-                                  nattizhu_some(text), text_length, tag);
-}
-static inline void nattizhu_hmac_ripemd160(const uint8_t *key, size_t key_length,
-                                           const uint8_t *text, size_t text_length,
-                                           uint8_t tag[NATTIZHU_RIPEMD160_SIZE]) {
-  nattizhu_hmac_ripemd160_nonnull(nattizhu_some(key), key_length,
-                                  nattizhu_some(text), text_length, tag);
-}
-static inline void nattizhu_hmac_ripemd256(const uint8_t *key, size_t key_length,
-                                           const uint8_t *text, size_t text_length,
-                                           uint8_t tag[NATTIZHU_RIPEMD256_SIZE]) {
-  nattizhu_hmac_ripemd256_nonnull(nattizhu_some(key), key_length,
-                                  nattizhu_some(text), text_length, tag);
-}
-static inline void nattizhu_hmac_ripemd320(const uint8_t *key, size_t key_length,
-                                           const uint8_t *text, size_t text_length,
-                                           uint8_t tag[NATTIZHU_RIPEMD320_SIZE]) {
-  nattizhu_hmac_ripemd320_nonnull(nattizhu_some(key), key_length,
-                                  nattizhu_some(text), text_length, tag);
-}
+void nattizhu_hmac_ripemd128(const uint8_t *key, size_t key_length, const uint8_t *text,
+                             size_t text_length, uint8_t tag[NATTIZHU_RIPEMD128_SIZE]);
+void nattizhu_hmac_ripemd160(const uint8_t *key, size_t key_length, const uint8_t *text,
+                             size_t text_length, uint8_t tag[NATTIZHU_RIPEMD160_SIZE]);
+void nattizhu_hmac_ripemd256(const uint8_t *key, size_t key_length, const uint8_t *text,
+                             size_t text_length, uint8_t tag[NATTIZHU_RIPEMD256_SIZE]);
+void nattizhu_hmac_ripemd320(const uint8_t *key, size_t key_length, const uint8_t *text,
+                             size_t text_length, uint8_t tag[NATTIZHU_RIPEMD320_SIZE]);
 
 /* Returns whether these bytes are the tag of the text under the key, all of them. It compares all bytes
  * of a tag of the right length, whatever they are, and returns false at once to another length. It
  * writes nothing. That the time is always the same is not proved. */
-static inline bool nattizhu_hmac_ripemd128_verify_text(const uint8_t *key, size_t key_length,
-                                                       const uint8_t *text, size_t text_length,
-                                                       const uint8_t *tag, size_t tag_length) {
-  return nattizhu_hmac_ripemd128_verify_text_nonnull(nattizhu_some(key), key_length,
-                                                     nattizhu_some(text), text_length,
-                                                     nattizhu_some(tag), tag_length);
-}
-static inline bool nattizhu_hmac_ripemd160_verify_text(const uint8_t *key, size_t key_length,
-                                                       const uint8_t *text, size_t text_length,
-                                                       const uint8_t *tag, size_t tag_length) {
-  return nattizhu_hmac_ripemd160_verify_text_nonnull(nattizhu_some(key), key_length,
-                                                     nattizhu_some(text), text_length,
-                                                     nattizhu_some(tag), tag_length);
-}
-static inline bool nattizhu_hmac_ripemd256_verify_text(const uint8_t *key, size_t key_length,
-                                                       const uint8_t *text, size_t text_length,
-                                                       const uint8_t *tag, size_t tag_length) {
-  return nattizhu_hmac_ripemd256_verify_text_nonnull(nattizhu_some(key), key_length,
-                                                     nattizhu_some(text), text_length,
-                                                     nattizhu_some(tag), tag_length);
-}
-static inline bool nattizhu_hmac_ripemd320_verify_text(const uint8_t *key, size_t key_length,
-                                                       const uint8_t *text, size_t text_length,
-                                                       const uint8_t *tag, size_t tag_length) {
-  return nattizhu_hmac_ripemd320_verify_text_nonnull(nattizhu_some(key), key_length,
-                                                     nattizhu_some(text), text_length,
-                                                     nattizhu_some(tag), tag_length);
-}
+NATTIZHU_CHECKED bool nattizhu_hmac_ripemd128_verify_text(const uint8_t *key, size_t key_length,
+                                                          const uint8_t *text, size_t text_length,
+                                                          const uint8_t *tag, size_t tag_length);
+NATTIZHU_CHECKED bool nattizhu_hmac_ripemd160_verify_text(const uint8_t *key, size_t key_length,
+                                                          const uint8_t *text, size_t text_length,
+                                                          const uint8_t *tag, size_t tag_length);
+NATTIZHU_CHECKED bool nattizhu_hmac_ripemd256_verify_text(const uint8_t *key, size_t key_length,
+                                                          const uint8_t *text, size_t text_length,
+                                                          const uint8_t *tag, size_t tag_length);
+NATTIZHU_CHECKED bool nattizhu_hmac_ripemd320_verify_text(const uint8_t *key, size_t key_length,
+                                                          const uint8_t *text, size_t text_length,
+                                                          const uint8_t *tag, size_t tag_length);
 
 /* Writes the tag of each of `count` records under one key to its place in `tags`, and returns true. The
  * records lie as those of nattizhu_ripemd160_each, and a wrong `length` is treated as there. */
-static inline bool nattizhu_hmac_ripemd128_each(const uint8_t *key, size_t key_length,
-                                                const uint8_t *bytes, size_t length, size_t size,
-                                                uint8_t (*tags)[NATTIZHU_RIPEMD128_SIZE],
-                                                size_t count) {
-  uint8_t none[1][NATTIZHU_RIPEMD128_SIZE];
-  return nattizhu_hmac_ripemd128_each_nonnull(nattizhu_some(key), key_length,
-                                              nattizhu_some(bytes), length, size,
-                                              tags ? tags : none, count);
-}
-static inline bool nattizhu_hmac_ripemd160_each(const uint8_t *key, size_t key_length,
-                                                const uint8_t *bytes, size_t length, size_t size,
-                                                uint8_t (*tags)[NATTIZHU_RIPEMD160_SIZE],
-                                                size_t count) {
-  uint8_t none[1][NATTIZHU_RIPEMD160_SIZE];
-  return nattizhu_hmac_ripemd160_each_nonnull(nattizhu_some(key), key_length,
-                                              nattizhu_some(bytes), length, size,
-                                              tags ? tags : none, count);
-}
-static inline bool nattizhu_hmac_ripemd256_each(const uint8_t *key, size_t key_length,
-                                                const uint8_t *bytes, size_t length, size_t size,
-                                                uint8_t (*tags)[NATTIZHU_RIPEMD256_SIZE],
-                                                size_t count) {
-  uint8_t none[1][NATTIZHU_RIPEMD256_SIZE];
-  return nattizhu_hmac_ripemd256_each_nonnull(nattizhu_some(key), key_length,
-                                              nattizhu_some(bytes), length, size,
-                                              tags ? tags : none, count);
-}
-static inline bool nattizhu_hmac_ripemd320_each(const uint8_t *key, size_t key_length,
-                                                const uint8_t *bytes, size_t length, size_t size,
-                                                uint8_t (*tags)[NATTIZHU_RIPEMD320_SIZE],
-                                                size_t count) {
-  uint8_t none[1][NATTIZHU_RIPEMD320_SIZE];
-  return nattizhu_hmac_ripemd320_each_nonnull(nattizhu_some(key), key_length,
-                                              nattizhu_some(bytes), length, size,
-                                              tags ? tags : none, count);
-}
+NATTIZHU_CHECKED bool nattizhu_hmac_ripemd128_each(const uint8_t *key, size_t key_length,
+                                                   const uint8_t *bytes, size_t length, size_t size,
+                                                   uint8_t (*tags)[NATTIZHU_RIPEMD128_SIZE],
+                                                   size_t count);
+NATTIZHU_CHECKED bool nattizhu_hmac_ripemd160_each(const uint8_t *key, size_t key_length,
+                                                   const uint8_t *bytes, size_t length, size_t size,
+                                                   uint8_t (*tags)[NATTIZHU_RIPEMD160_SIZE],
+                                                   size_t count);
+NATTIZHU_CHECKED bool nattizhu_hmac_ripemd256_each(const uint8_t *key, size_t key_length,
+                                                   const uint8_t *bytes, size_t length, size_t size,
+                                                   uint8_t (*tags)[NATTIZHU_RIPEMD256_SIZE],
+                                                   size_t count);
+NATTIZHU_CHECKED bool nattizhu_hmac_ripemd320_each(const uint8_t *key, size_t key_length,
+                                                   const uint8_t *bytes, size_t length, size_t size,
+                                                   uint8_t (*tags)[NATTIZHU_RIPEMD320_SIZE],
+                                                   size_t count);
+
+/* Writes the tag of each of `count` texts, of any lengths, under one key to its place in `tags`. */
+void nattizhu_hmac_ripemd128_list(const uint8_t *key, size_t key_length,
+                                  const nattizhu_message *texts, size_t count,
+                                  uint8_t (*tags)[NATTIZHU_RIPEMD128_SIZE]);
+void nattizhu_hmac_ripemd160_list(const uint8_t *key, size_t key_length,
+                                  const nattizhu_message *texts, size_t count,
+                                  uint8_t (*tags)[NATTIZHU_RIPEMD160_SIZE]);
+void nattizhu_hmac_ripemd256_list(const uint8_t *key, size_t key_length,
+                                  const nattizhu_message *texts, size_t count,
+                                  uint8_t (*tags)[NATTIZHU_RIPEMD256_SIZE]);
+void nattizhu_hmac_ripemd320_list(const uint8_t *key, size_t key_length,
+                                  const nattizhu_message *texts, size_t count,
+                                  uint8_t (*tags)[NATTIZHU_RIPEMD320_SIZE]);
+
+typedef struct nattizhu_hmac_ripemd128_state {
+  uint8_t bytes[NATTIZHU_HMAC_RIPEMD128_STATE_SIZE];
+} nattizhu_hmac_ripemd128_state;
+typedef struct nattizhu_hmac_ripemd160_state {
+  uint8_t bytes[NATTIZHU_HMAC_RIPEMD160_STATE_SIZE];
+} nattizhu_hmac_ripemd160_state;
+typedef struct nattizhu_hmac_ripemd256_state {
+  uint8_t bytes[NATTIZHU_HMAC_RIPEMD256_STATE_SIZE];
+} nattizhu_hmac_ripemd256_state;
+typedef struct nattizhu_hmac_ripemd320_state {
+  uint8_t bytes[NATTIZHU_HMAC_RIPEMD320_STATE_SIZE];
+} nattizhu_hmac_ripemd320_state;
 
 /* Writes the state under this key, of the empty text. */
-static inline void nattizhu_hmac_ripemd128_init(uint8_t state[NATTIZHU_HMAC_RIPEMD128_STATE_SIZE],
-                                                const uint8_t *key, size_t length) {
-  nattizhu_hmac_ripemd128_init_nonnull(state, nattizhu_some(key), length);
-}
-static inline void nattizhu_hmac_ripemd160_init(uint8_t state[NATTIZHU_HMAC_RIPEMD160_STATE_SIZE],
-                                                const uint8_t *key, size_t length) {
-  nattizhu_hmac_ripemd160_init_nonnull(state, nattizhu_some(key), length);
-}
-static inline void nattizhu_hmac_ripemd256_init(uint8_t state[NATTIZHU_HMAC_RIPEMD256_STATE_SIZE],
-                                                const uint8_t *key, size_t length) {
-  nattizhu_hmac_ripemd256_init_nonnull(state, nattizhu_some(key), length);
-}
-static inline void nattizhu_hmac_ripemd320_init(uint8_t state[NATTIZHU_HMAC_RIPEMD320_STATE_SIZE],
-                                                const uint8_t *key, size_t length) {
-  nattizhu_hmac_ripemd320_init_nonnull(state, nattizhu_some(key), length);
-}
+void nattizhu_hmac_ripemd128_init(nattizhu_hmac_ripemd128_state *state, const uint8_t *key,
+                                  size_t length);
+void nattizhu_hmac_ripemd160_init(nattizhu_hmac_ripemd160_state *state, const uint8_t *key,
+                                  size_t length);
+void nattizhu_hmac_ripemd256_init(nattizhu_hmac_ripemd256_state *state, const uint8_t *key,
+                                  size_t length);
+void nattizhu_hmac_ripemd320_init(nattizhu_hmac_ripemd320_state *state, const uint8_t *key,
+                                  size_t length);
 
 /* Appends bytes to the text: writes the state that follows, and returns true. If these bytes are no
  * HMAC state, it writes nothing and returns false. */
-static inline bool nattizhu_hmac_ripemd128_update(uint8_t state[NATTIZHU_HMAC_RIPEMD128_STATE_SIZE],
-                                                  const uint8_t *bytes, size_t length) {
-  return nattizhu_hmac_ripemd128_update_nonnull(state, nattizhu_some(bytes), length);
-}
-static inline bool nattizhu_hmac_ripemd160_update(uint8_t state[NATTIZHU_HMAC_RIPEMD160_STATE_SIZE],
-                                                  const uint8_t *bytes, size_t length) {
-  return nattizhu_hmac_ripemd160_update_nonnull(state, nattizhu_some(bytes), length);
-}
-static inline bool nattizhu_hmac_ripemd256_update(uint8_t state[NATTIZHU_HMAC_RIPEMD256_STATE_SIZE],
-                                                  const uint8_t *bytes, size_t length) {
-  return nattizhu_hmac_ripemd256_update_nonnull(state, nattizhu_some(bytes), length);
-}
-static inline bool nattizhu_hmac_ripemd320_update(uint8_t state[NATTIZHU_HMAC_RIPEMD320_STATE_SIZE],
-                                                  const uint8_t *bytes, size_t length) {
-  return nattizhu_hmac_ripemd320_update_nonnull(state, nattizhu_some(bytes), length);
-}
+NATTIZHU_CHECKED bool nattizhu_hmac_ripemd128_update(nattizhu_hmac_ripemd128_state *state,
+                                                     const uint8_t *bytes, size_t length);
+NATTIZHU_CHECKED bool nattizhu_hmac_ripemd160_update(nattizhu_hmac_ripemd160_state *state,
+                                                     const uint8_t *bytes, size_t length);
+NATTIZHU_CHECKED bool nattizhu_hmac_ripemd256_update(nattizhu_hmac_ripemd256_state *state,
+                                                     const uint8_t *bytes, size_t length);
+NATTIZHU_CHECKED bool nattizhu_hmac_ripemd320_update(nattizhu_hmac_ripemd320_state *state,
+                                                     const uint8_t *bytes, size_t length);
 
 /* Writes the tag of the text so far, and returns true. The state stays as it is. If these bytes are no
  * HMAC state, the call writes nothing and returns false. */
-bool nattizhu_hmac_ripemd128_final(const uint8_t state[NATTIZHU_HMAC_RIPEMD128_STATE_SIZE],
-                                   uint8_t tag[NATTIZHU_RIPEMD128_SIZE]);
-bool nattizhu_hmac_ripemd160_final(const uint8_t state[NATTIZHU_HMAC_RIPEMD160_STATE_SIZE],
-                                   uint8_t tag[NATTIZHU_RIPEMD160_SIZE]);
-bool nattizhu_hmac_ripemd256_final(const uint8_t state[NATTIZHU_HMAC_RIPEMD256_STATE_SIZE],
-                                   uint8_t tag[NATTIZHU_RIPEMD256_SIZE]);
-bool nattizhu_hmac_ripemd320_final(const uint8_t state[NATTIZHU_HMAC_RIPEMD320_STATE_SIZE],
-                                   uint8_t tag[NATTIZHU_RIPEMD320_SIZE]);
+NATTIZHU_CHECKED bool nattizhu_hmac_ripemd128_final(const nattizhu_hmac_ripemd128_state *state,
+                                                    uint8_t tag[NATTIZHU_RIPEMD128_SIZE]);
+NATTIZHU_CHECKED bool nattizhu_hmac_ripemd160_final(const nattizhu_hmac_ripemd160_state *state,
+                                                    uint8_t tag[NATTIZHU_RIPEMD160_SIZE]);
+NATTIZHU_CHECKED bool nattizhu_hmac_ripemd256_final(const nattizhu_hmac_ripemd256_state *state,
+                                                    uint8_t tag[NATTIZHU_RIPEMD256_SIZE]);
+NATTIZHU_CHECKED bool nattizhu_hmac_ripemd320_final(const nattizhu_hmac_ripemd320_state *state,
+                                                    uint8_t tag[NATTIZHU_RIPEMD320_SIZE]);
 
 /* Returns whether these `length` bytes are the tag of the text so far, all of them, as
  * nattizhu_hmac_ripemd160_verify_text does of a whole text; false too if the state is no HMAC state. */
-static inline bool nattizhu_hmac_ripemd128_verify(
-    const uint8_t state[NATTIZHU_HMAC_RIPEMD128_STATE_SIZE], const uint8_t *tag, size_t length) {
-  return nattizhu_hmac_ripemd128_verify_nonnull(state, nattizhu_some(tag), length);
-}
-static inline bool nattizhu_hmac_ripemd160_verify(
-    const uint8_t state[NATTIZHU_HMAC_RIPEMD160_STATE_SIZE], const uint8_t *tag, size_t length) {
-  return nattizhu_hmac_ripemd160_verify_nonnull(state, nattizhu_some(tag), length);
-}
-static inline bool nattizhu_hmac_ripemd256_verify(
-    const uint8_t state[NATTIZHU_HMAC_RIPEMD256_STATE_SIZE], const uint8_t *tag, size_t length) {
-  return nattizhu_hmac_ripemd256_verify_nonnull(state, nattizhu_some(tag), length);
-}
-static inline bool nattizhu_hmac_ripemd320_verify(
-    const uint8_t state[NATTIZHU_HMAC_RIPEMD320_STATE_SIZE], const uint8_t *tag, size_t length) {
-  return nattizhu_hmac_ripemd320_verify_nonnull(state, nattizhu_some(tag), length);
-}
+NATTIZHU_CHECKED bool nattizhu_hmac_ripemd128_verify(const nattizhu_hmac_ripemd128_state *state,
+                                                     const uint8_t *tag, size_t length);
+NATTIZHU_CHECKED bool nattizhu_hmac_ripemd160_verify(const nattizhu_hmac_ripemd160_state *state,
+                                                     const uint8_t *tag, size_t length);
+NATTIZHU_CHECKED bool nattizhu_hmac_ripemd256_verify(const nattizhu_hmac_ripemd256_state *state,
+                                                     const uint8_t *tag, size_t length);
+NATTIZHU_CHECKED bool nattizhu_hmac_ripemd320_verify(const nattizhu_hmac_ripemd320_state *state,
+                                                     const uint8_t *tag, size_t length);
+
+/* ---- The variant chosen while a program runs
+ *
+ * These do what the functions of the variant do. They return false, and write nothing, also if there is
+ * no such variant, or if `size` is not that of its digests. */
+typedef enum nattizhu_variant {
+  NATTIZHU_RIPEMD128 = 128,
+  NATTIZHU_RIPEMD160 = 160,
+  NATTIZHU_RIPEMD256 = 256,
+  NATTIZHU_RIPEMD320 = 320
+} nattizhu_variant;
+
+/* Bytes of a digest and of a tag; 0 if there is no such variant. */
+size_t nattizhu_digest_size(nattizhu_variant variant);
+
+/* Bytes of the states that the functions of the variant take; 0 if there is no such variant. */
+size_t nattizhu_state_size(nattizhu_variant variant);
+size_t nattizhu_hmac_state_size(nattizhu_variant variant);
+
+/* A hash state of any variant: the size of its digests, and the state as the functions of the variant
+ * have it. Bytes of the union behind a shorter state are zeros after init, and no call looks at them. */
+typedef struct nattizhu_state {
+  uint8_t size;
+  union {
+    nattizhu_ripemd128_state ripemd128;
+    nattizhu_ripemd160_state ripemd160;
+    nattizhu_ripemd256_state ripemd256;
+    nattizhu_ripemd320_state ripemd320;
+  } of;
+} nattizhu_state;
+
+/* The same of an HMAC state. */
+typedef struct nattizhu_hmac_state {
+  uint8_t size;
+  union {
+    nattizhu_hmac_ripemd128_state ripemd128;
+    nattizhu_hmac_ripemd160_state ripemd160;
+    nattizhu_hmac_ripemd256_state ripemd256;
+    nattizhu_hmac_ripemd320_state ripemd320;
+  } of;
+} nattizhu_hmac_state;
+
+NATTIZHU_CHECKED bool nattizhu_digest(nattizhu_variant variant, const uint8_t *message,
+                                      size_t length, uint8_t *digest, size_t size);
+NATTIZHU_CHECKED bool nattizhu_init(nattizhu_state *state, nattizhu_variant variant);
+NATTIZHU_CHECKED bool nattizhu_update(nattizhu_state *state, const uint8_t *bytes, size_t length);
+NATTIZHU_CHECKED bool nattizhu_final(const nattizhu_state *state, uint8_t *digest, size_t size);
+
+NATTIZHU_CHECKED bool nattizhu_hmac(nattizhu_variant variant, const uint8_t *key, size_t key_length,
+                                    const uint8_t *text, size_t text_length, uint8_t *tag,
+                                    size_t size);
+NATTIZHU_CHECKED bool nattizhu_hmac_verify_text(nattizhu_variant variant, const uint8_t *key,
+                                                size_t key_length, const uint8_t *text,
+                                                size_t text_length, const uint8_t *tag,
+                                                size_t tag_length);
+NATTIZHU_CHECKED bool nattizhu_hmac_init(nattizhu_hmac_state *state, nattizhu_variant variant,
+                                         const uint8_t *key, size_t length);
+NATTIZHU_CHECKED bool nattizhu_hmac_update(nattizhu_hmac_state *state, const uint8_t *bytes,
+                                           size_t length);
+NATTIZHU_CHECKED bool nattizhu_hmac_final(const nattizhu_hmac_state *state, uint8_t *tag,
+                                          size_t size);
+NATTIZHU_CHECKED bool nattizhu_hmac_verify(const nattizhu_hmac_state *state, const uint8_t *tag,
+                                           size_t length);
 
 #ifdef __cplusplus
 }

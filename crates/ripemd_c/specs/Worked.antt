@@ -1,8 +1,9 @@
--- A worked example of the saved bytes of a hash state, as facts of these definitions.
-use Rattle.std.specs.Prelude.{ℕ, List, [], ◌∷◌, ◌++◌, replicate}
+-- Worked examples of the saved bytes of a hash state and of an HMAC state, as facts of these definitions.
+use Rattle.std.specs.Prelude.{ℕ, codes, List, [], ◌∷◌, ◌++◌, replicate}
 use Rattle.ripemd.specs.Standard.Compression.{ripemd160, compress}
 use Rattle.ripemd.specs.States.{HashState, new_state, fed}
-use Rattle.ripemd_c.specs.SavedStates.{IsSavedState}
+use Rattle.ripemd_mac.specs.Worked.{saved_inner, saved_outer}
+use Rattle.ripemd_c.specs.SavedStates.{IsSavedState, IsSavedText}
 
 -- OpenSSL's words of RIPEMD-160 after 64 times "a", one block, a tail of one byte "b", and a last byte
 abbrev pub bytes_to : ℕ → List ℕ
@@ -15,3 +16,7 @@ bytes_to last =
 pub record WorkedSavedState : Type 0 where
   pub saved : IsSavedState ripemd160 (fed (compress ripemd160) (new_state ripemd160) (replicate 64 0x61 ++ 0x62 ∷ [])) (bytes_to 0)
   pub not_zero : (h : HashState) → ¬ IsSavedState ripemd160 h (bytes_to 1)
+
+-- "Hi There" under 20 bytes 0x0b: the inner hash state, and then the outer one, with OpenSSL's words
+pub record WorkedSavedText : Type 0 where
+  pub saved : IsSavedText ripemd160 (replicate 20 0x0b) (codes "Hi There") (saved_inner ++ saved_outer)

@@ -1,4 +1,5 @@
-//! Digests of many records of one size, and their tags under one key (RFC 2104).
+//! Digests of many messages, and their tags under one key (RFC 2104): of records of one size that lie
+//! one after another, and of a list of messages of any sizes.
 
 ghost use Rattle.std.specs.Prelude.{◌≡◌, ◌↔◌, ℕ, ◌+◌, ◌-◌, ◌*◌, ◌^◌, ◌<◌, ◌≤◌, min};
 ghost use Rattle.std.specs.Prelude.{length, map, IsTrue, IsFalse};
@@ -6,7 +7,7 @@ ghost use Rattle.ripemd.specs.Standard.Compression.{ripemd128, ripemd160, ripemd
 ghost use Rattle.ripemd.specs.Standard.Hashing.{ripemd};
 ghost use Rattle.ripemd_mac.specs.Keyed.{hmac};
 ghost use Rattle.ripemd_batch.specs.Lanes.{made_by, list_at, targets};
-ghost use Rattle.ripemd_c.specs.Records.{WritesEach, record_at, records};
+ghost use Rattle.ripemd_c.specs.Records.{WritesEach, WritesList, record_at, records};
 
 use ripemd::{Ripemd128, Ripemd160, Ripemd256, Ripemd320};
 use ripemd_batch::{BatchDigest, ListHasher};
@@ -136,6 +137,133 @@ pub extern "C" fn nattizhu_hmac_ripemd320_each_nonnull(
     ensures { WritesEach (hmac (ripemd ripemd320) key.now) bytes.now size result tags.old tags.new }
 {
     hash_records(&ListHasher::<Ripemd320>::keyed(key), bytes, size, tags)
+}
+
+/// Writes the RIPEMD-128 digest of each message to its place in `digests`. False exactly if the messages
+/// are not as many as the places, and then nothing is written.
+#[unsafe(no_mangle)]
+#[tactic(auto, using(ripemd_batch::specs::Laws::own_bytes))]
+pub extern "C" fn nattizhu_ripemd128_list_nonnull(
+    messages: &[&[u8]],
+    digests: &mut [[u8; 16]],
+) -> bool
+    ensures { WritesList (ripemd ripemd128) (targets messages.now) result digests.old digests.new }
+{
+    hash_list(&ListHasher::<Ripemd128>::new(), messages, digests)
+}
+
+/// Writes the RIPEMD-160 digest of each message to its place in `digests`. False exactly if the messages
+/// are not as many as the places, and then nothing is written.
+#[unsafe(no_mangle)]
+#[tactic(auto, using(ripemd_batch::specs::Laws::own_bytes))]
+pub extern "C" fn nattizhu_ripemd160_list_nonnull(
+    messages: &[&[u8]],
+    digests: &mut [[u8; 20]],
+) -> bool
+    ensures { WritesList (ripemd ripemd160) (targets messages.now) result digests.old digests.new }
+{
+    hash_list(&ListHasher::<Ripemd160>::new(), messages, digests)
+}
+
+/// Writes the RIPEMD-256 digest of each message to its place in `digests`. False exactly if the messages
+/// are not as many as the places, and then nothing is written.
+#[unsafe(no_mangle)]
+#[tactic(auto, using(ripemd_batch::specs::Laws::own_bytes))]
+pub extern "C" fn nattizhu_ripemd256_list_nonnull(
+    messages: &[&[u8]],
+    digests: &mut [[u8; 32]],
+) -> bool
+    ensures { WritesList (ripemd ripemd256) (targets messages.now) result digests.old digests.new }
+{
+    hash_list(&ListHasher::<Ripemd256>::new(), messages, digests)
+}
+
+/// Writes the RIPEMD-320 digest of each message to its place in `digests`. False exactly if the messages
+/// are not as many as the places, and then nothing is written.
+#[unsafe(no_mangle)]
+#[tactic(auto, using(ripemd_batch::specs::Laws::own_bytes))]
+pub extern "C" fn nattizhu_ripemd320_list_nonnull(
+    messages: &[&[u8]],
+    digests: &mut [[u8; 40]],
+) -> bool
+    ensures { WritesList (ripemd ripemd320) (targets messages.now) result digests.old digests.new }
+{
+    hash_list(&ListHasher::<Ripemd320>::new(), messages, digests)
+}
+
+/// Writes the tag of each text under the key, by RIPEMD-128, to its place in `tags`. The key has any
+/// length. False exactly if the texts are not as many as the places, and then nothing is written.
+#[unsafe(no_mangle)]
+#[tactic(auto, using(ripemd_batch::specs::Laws::own_bytes))]
+pub extern "C" fn nattizhu_hmac_ripemd128_list_nonnull(
+    key: &[u8],
+    texts: &[&[u8]],
+    tags: &mut [[u8; 16]],
+) -> bool
+    ensures { WritesList (hmac (ripemd ripemd128) key.now) (targets texts.now) result tags.old tags.new }
+{
+    hash_list(&ListHasher::<Ripemd128>::keyed(key), texts, tags)
+}
+
+/// Writes the tag of each text under the key, by RIPEMD-160, to its place in `tags`. The key has any
+/// length. False exactly if the texts are not as many as the places, and then nothing is written.
+#[unsafe(no_mangle)]
+#[tactic(auto, using(ripemd_batch::specs::Laws::own_bytes))]
+pub extern "C" fn nattizhu_hmac_ripemd160_list_nonnull(
+    key: &[u8],
+    texts: &[&[u8]],
+    tags: &mut [[u8; 20]],
+) -> bool
+    ensures { WritesList (hmac (ripemd ripemd160) key.now) (targets texts.now) result tags.old tags.new }
+{
+    hash_list(&ListHasher::<Ripemd160>::keyed(key), texts, tags)
+}
+
+/// Writes the tag of each text under the key, by RIPEMD-256, to its place in `tags`. The key has any
+/// length. False exactly if the texts are not as many as the places, and then nothing is written.
+#[unsafe(no_mangle)]
+#[tactic(auto, using(ripemd_batch::specs::Laws::own_bytes))]
+pub extern "C" fn nattizhu_hmac_ripemd256_list_nonnull(
+    key: &[u8],
+    texts: &[&[u8]],
+    tags: &mut [[u8; 32]],
+) -> bool
+    ensures { WritesList (hmac (ripemd ripemd256) key.now) (targets texts.now) result tags.old tags.new }
+{
+    hash_list(&ListHasher::<Ripemd256>::keyed(key), texts, tags)
+}
+
+/// Writes the tag of each text under the key, by RIPEMD-320, to its place in `tags`. The key has any
+/// length. False exactly if the texts are not as many as the places, and then nothing is written.
+#[unsafe(no_mangle)]
+#[tactic(auto, using(ripemd_batch::specs::Laws::own_bytes))]
+pub extern "C" fn nattizhu_hmac_ripemd320_list_nonnull(
+    key: &[u8],
+    texts: &[&[u8]],
+    tags: &mut [[u8; 40]],
+) -> bool
+    ensures { WritesList (hmac (ripemd ripemd320) key.now) (targets texts.now) result tags.old tags.new }
+{
+    hash_list(&ListHasher::<Ripemd320>::keyed(key), texts, tags)
+}
+
+// Writes what the hasher makes of each message to its place, if the messages are as many as the
+// places; otherwise it answers false and writes nothing.
+fn hash_list<D: BatchDigest>(
+    hasher: &ListHasher<D>,
+    messages: &[&[u8]],
+    outputs: &mut [D::Output],
+) -> bool
+    ensures fits { IsTrue result ↔ (length messages.now ≡ length outputs.old) }
+    ensures outputs { IsTrue result → map D.bytes_of outputs.new
+        ≡ map (made_by D.step D.output hasher.now) (targets messages.now) }
+    ensures unchanged { IsFalse result → outputs.new ≡ outputs.old }
+{
+    if messages.len() != outputs.len() {
+        return false;
+    }
+    hasher.hash_each(messages, outputs);
+    true
 }
 
 // Writes what the hasher makes of each record to its place, if the records are as many as the places;

@@ -2,7 +2,7 @@
 
 ghost use Rattle.std.specs.Prelude.{◌≡◌, [], ◌∷◌, ◌++◌, replicate};
 ghost use Rattle.ripemd_c.specs.Records.{records};
-ghost use Rattle.ripemd_c.specs.Worked.{WorkedSavedState};
+ghost use Rattle.ripemd_c.specs.Worked.{WorkedSavedState, WorkedSavedText};
 
 /// Three records of two bytes, with a byte behind them; two that are longer than a block; and two
 /// empty ones.
@@ -17,4 +17,9 @@ pub fn worked_records()
 /// The 92 bytes of a RIPEMD-160 hasher after 65 bytes, with OpenSSL's words, and bytes of no hasher.
 pub fn worked_states()
     ensures { WorkedSavedState }
+{}
+
+/// The 184 bytes of a RIPEMD-160 HMAC state after a text of 8 bytes, with OpenSSL's words.
+pub fn worked_hmac_states()
+    ensures { WorkedSavedText }
 {}
