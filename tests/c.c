@@ -11,11 +11,13 @@
 
 enum { VARIANTS = 4, MOST = 300, LONGEST = 1000, SIZES = 5, MESSAGE = 200 };
 
+// The functions of a variant, with states as bytes, so that one table has them all.
 typedef struct {
   int bits;
   size_t size, state, tag_state;
   void (*digest)(const uint8_t *, size_t, uint8_t *);
   bool (*each)(const uint8_t *, size_t, size_t, uint8_t *, size_t);
+  void (*list)(const nattizhu_message *, size_t, uint8_t *);
   void (*init)(uint8_t *);
   bool (*update)(uint8_t *, const uint8_t *, size_t);
   bool (*final)(const uint8_t *, uint8_t *);
@@ -26,34 +28,62 @@ typedef struct {
   bool (*tag_verify)(const uint8_t *, const uint8_t *, size_t);
   bool (*verify_text)(const uint8_t *, size_t, const uint8_t *, size_t, const uint8_t *, size_t);
   bool (*tag_each)(const uint8_t *, size_t, const uint8_t *, size_t, size_t, uint8_t *, size_t);
+  void (*tag_list)(const uint8_t *, size_t, const nattizhu_message *, size_t, uint8_t *);
 } variant;
 
-#define EACH(bits)                                                                                 \
+#define STATE(bits) (nattizhu_ripemd##bits##_state *)(void *)
+#define KEPT(bits) (const nattizhu_ripemd##bits##_state *)(const void *)
+#define TAG_STATE(bits) (nattizhu_hmac_ripemd##bits##_state *)(void *)
+#define KEPT_TAG(bits) (const nattizhu_hmac_ripemd##bits##_state *)(const void *)
+#define PLACES(bits) (uint8_t(*)[NATTIZHU_RIPEMD##bits##_SIZE])(void *)
+#define OF(bits)                                                                                   \
   static bool each_##bits(const uint8_t *bytes, size_t length, size_t size, uint8_t *digests,      \
                           size_t count) {                                                          \
-    return nattizhu_ripemd##bits##_each(                                                           \
-        bytes, length, size, (uint8_t(*)[NATTIZHU_RIPEMD##bits##_SIZE])(void *)digests, count);    \
+    return nattizhu_ripemd##bits##_each(bytes, length, size, PLACES(bits) digests, count);         \
+  }                                                                                                \
+  static void list_##bits(const nattizhu_message *messages, size_t count, uint8_t *digests) {      \
+    nattizhu_ripemd##bits##_list(messages, count, PLACES(bits) digests);                           \
+  }                                                                                                \
+  static void init_##bits(uint8_t *state) { nattizhu_ripemd##bits##_init(STATE(bits) state); }     \
+  static bool update_##bits(uint8_t *state, const uint8_t *bytes, size_t length) {                 \
+    return nattizhu_ripemd##bits##_update(STATE(bits) state, bytes, length);                       \
+  }                                                                                                \
+  static bool final_##bits(const uint8_t *state, uint8_t *digest) {                                \
+    return nattizhu_ripemd##bits##_final(KEPT(bits) state, digest);                                \
+  }                                                                                                \
+  static void tag_init_##bits(uint8_t *state, const uint8_t *key, size_t length) {                 \
+    nattizhu_hmac_ripemd##bits##_init(TAG_STATE(bits) state, key, length);                         \
+  }                                                                                                \
+  static bool tag_update_##bits(uint8_t *state, const uint8_t *bytes, size_t length) {             \
+    return nattizhu_hmac_ripemd##bits##_update(TAG_STATE(bits) state, bytes, length);              \
+  }                                                                                                \
+  static bool tag_final_##bits(const uint8_t *state, uint8_t *tag) {                               \
+    return nattizhu_hmac_ripemd##bits##_final(KEPT_TAG(bits) state, tag);                          \
+  }                                                                                                \
+  static bool tag_verify_##bits(const uint8_t *state, const uint8_t *tag, size_t length) {         \
+    return nattizhu_hmac_ripemd##bits##_verify(KEPT_TAG(bits) state, tag, length);                 \
   }                                                                                                \
   static bool tag_each_##bits(const uint8_t *key, size_t key_length, const uint8_t *bytes,         \
                               size_t length, size_t size, uint8_t *tags, size_t count) {           \
-    return nattizhu_hmac_ripemd##bits##_each(                                                      \
-        key, key_length, bytes, length, size,                                                      \
-        (uint8_t(*)[NATTIZHU_RIPEMD##bits##_SIZE])(void *)tags, count);                            \
+    return nattizhu_hmac_ripemd##bits##_each(key, key_length, bytes, length, size,                 \
+                                             PLACES(bits) tags, count);                            \
+  }                                                                                                \
+  static void tag_list_##bits(const uint8_t *key, size_t key_length, const nattizhu_message *texts,\
+                              size_t count, uint8_t *tags) {                                       \
+    nattizhu_hmac_ripemd##bits##_list(key, key_length, texts, count, PLACES(bits) tags);           \
   }
-EACH(128)
-EACH(160)
-EACH(256)
-EACH(320)
+OF(128)
+OF(160)
+OF(256)
+OF(320)
 
 #define FUNCTIONS(bits)                                                                            \
   {                                                                                                \
     bits, NATTIZHU_RIPEMD##bits##_SIZE, NATTIZHU_RIPEMD##bits##_STATE_SIZE,                        \
-        NATTIZHU_HMAC_RIPEMD##bits##_STATE_SIZE, nattizhu_ripemd##bits, each_##bits,               \
-        nattizhu_ripemd##bits##_init, nattizhu_ripemd##bits##_update,                              \
-        nattizhu_ripemd##bits##_final, nattizhu_hmac_ripemd##bits,                                 \
-        nattizhu_hmac_ripemd##bits##_init, nattizhu_hmac_ripemd##bits##_update,                    \
-        nattizhu_hmac_ripemd##bits##_final, nattizhu_hmac_ripemd##bits##_verify,                   \
-        nattizhu_hmac_ripemd##bits##_verify_text, tag_each_##bits                                  \
+        NATTIZHU_HMAC_RIPEMD##bits##_STATE_SIZE, nattizhu_ripemd##bits, each_##bits, list_##bits,  \
+        init_##bits, update_##bits, final_##bits, nattizhu_hmac_ripemd##bits, tag_init_##bits,     \
+        tag_update_##bits, tag_final_##bits, tag_verify_##bits,                                    \
+        nattizhu_hmac_ripemd##bits##_verify_text, tag_each_##bits, tag_list_##bits                 \
   }
 static const variant ALL[VARIANTS] = {FUNCTIONS(128), FUNCTIONS(160), FUNCTIONS(256),
                                       FUNCTIONS(320)};
@@ -206,7 +236,7 @@ static void try_forged(const variant *v) {
     uint8_t forged[112], twice[224], *digest = in_room(1, v->size);
     uint8_t *state = in_room(2, v->state), *tag_state;
     v->init(forged);
-    v->update(forged, ramp, 70);
+    check(v->update(forged, ramp, 70), "an update", v->bits, i);
     if (i < 2)
       forged[length_at] = i ? 255 : 64;
     else
@@ -222,7 +252,7 @@ static void try_forged(const variant *v) {
     for (int second = 0; second < 2; second++) {
       uint8_t tag[40];
       v->tag_init(twice, ramp, 20);
-      v->tag_final(twice, tag);
+      check(v->tag_final(twice, tag), "a tag", v->bits, i);
       memcpy(twice + (second ? v->state : 0), forged, v->state);
       tag_state = copied(2, twice, v->tag_state);
       check(!v->tag_update(tag_state, copied(0, ramp, 10), 10) &&
@@ -278,6 +308,51 @@ static void try_tag_records(const variant *v) {
       }
     }
   check(v->tag_each(ramp, 20, NULL, 0, 7, NULL, 0), "tags of no records", v->bits, 0);
+}
+
+// Messages of unlike lengths, each with one byte left in its room, some of them null and empty.
+static size_t make_list(nattizhu_message *messages, size_t count, size_t least, size_t most) {
+  uint8_t *all = in_room(0, room_size);
+  size_t at = 0;
+  for (size_t i = 0; i < count; i++) {
+    size_t length = least + i * i * 7 % (most - least + 1);
+    messages[i].bytes = length || i % 2 ? all + at : NULL;
+    messages[i].length = length;
+    memcpy(all + at, ramp + i, length);
+    at += length;
+  }
+  return at;
+}
+
+// Their digests and tags, as many as 0 to 300, against those of each alone.
+static void try_lists(const variant *v) {
+  static const size_t lengths[][2] = {{0, 0}, {0, 130}, {20, 120}, {0, LONGEST}};
+  static const size_t keys[] = {0, 20, 64, 65, 200};
+  static uint8_t alone[MOST * 40], tags_alone[5][MOST * 40];
+  static nattizhu_message messages[MOST];
+  for (size_t l = 0; l < sizeof lengths / sizeof lengths[0]; l++) {
+    make_list(messages, MOST, lengths[l][0], lengths[l][1]);
+    for (size_t i = 0; i < MOST; i++) {
+      v->digest(messages[i].bytes, messages[i].length, alone + i * v->size);
+      for (size_t k = 0; k < 5; k++)
+        v->hmac(ramp + 7, keys[k], messages[i].bytes, messages[i].length,
+                tags_alone[k] + i * v->size);
+    }
+    for (size_t count = 0; count <= MOST; count += count < 20 || count % 64 > 60 ? 1 : 5) {
+      const nattizhu_message *list = (const nattizhu_message *)(void *)copied(
+          3, (const uint8_t *)messages, count * sizeof *messages);
+      uint8_t *outputs = in_room(1, count * v->size);
+      memset(outputs, 7, count * v->size);
+      v->list(count ? list : NULL, count, count ? outputs : NULL);
+      check(!memcmp(outputs, alone, count * v->size), "a list", v->bits, count);
+      check(!memcmp(list, messages, count * sizeof *messages), "a list as it was", v->bits, count);
+      for (size_t k = 0; k < 5; k++) {
+        memset(outputs, 7, count * v->size);
+        v->tag_list(keys[k] ? copied(2, ramp + 7, keys[k]) : NULL, keys[k], list, count, outputs);
+        check(!memcmp(outputs, tags_alone[k], count * v->size), "tags of a list", v->bits, count);
+      }
+    }
+  }
 }
 
 static void try_wrong_lengths(const variant *v) {
@@ -401,7 +476,139 @@ static void try_null(const variant *v) {
   check(!memcmp(some, none, v->size), "a null message", v->bits, 0);
 }
 
+// ---- the variant as a number
+
+// Every function that chooses the variant does what those of the variant do.
+static void try_chosen(const variant *v, nattizhu_variant chosen) {
+  uint8_t wanted[40], *got = in_room(1, v->size);
+  const uint8_t *message = copied(0, ramp, MESSAGE);
+  nattizhu_state *state = (nattizhu_state *)(void *)in_room(3, sizeof *state);
+  check(nattizhu_digest_size(chosen) == v->size && nattizhu_state_size(chosen) == v->state &&
+            nattizhu_hmac_state_size(chosen) == v->tag_state,
+        "sizes", v->bits, 0);
+  v->digest(message, MESSAGE, wanted);
+  memset(got, 7, v->size);
+  check(nattizhu_digest(chosen, message, MESSAGE, got, v->size) && !memcmp(got, wanted, v->size),
+        "a digest by number", v->bits, 0);
+  memset(state, 7, sizeof *state);
+  check(nattizhu_init(state, chosen) && nattizhu_update(state, NULL, 0) &&
+            nattizhu_update(state, message, 90) &&
+            nattizhu_update(state, message + 90, MESSAGE - 90) &&
+            nattizhu_final(state, got, v->size) && !memcmp(got, wanted, v->size),
+        "pieces by number", v->bits, 0);
+  uint8_t kept[224];
+  v->init(kept);
+  check(v->update(kept, message, MESSAGE) && state->size == v->size &&
+            !memcmp(&state->of, kept, v->state) &&
+            all_are((const uint8_t *)&state->of + v->state, sizeof state->of - v->state, 0),
+        "a state by number", v->bits, 0);
+  memset(got, 7, v->size);
+  check(!nattizhu_digest(chosen, message, MESSAGE, got, v->size - 1) &&
+            !nattizhu_final(state, got, v->size - 1) && all_are(got, v->size, 7),
+        "a wrong size of a digest", v->bits, 0);
+  ((uint8_t *)&state->of)[v->state - 1] ^= 1;
+  nattizhu_state forged = *state;
+  check(!nattizhu_update(state, message, 10) && !nattizhu_final(state, got, v->size) &&
+            !memcmp(state, &forged, sizeof forged) && all_are(got, v->size, 7),
+        "a forged state by number", v->bits, 0);
+}
+
+// The same of tags.
+static void try_chosen_tags(const variant *v, nattizhu_variant chosen) {
+  uint8_t wanted[40], *got = in_room(1, v->size);
+  const uint8_t *key = copied(2, ramp + 3, 70), *text = copied(0, ramp, MESSAGE);
+  nattizhu_hmac_state *state = (nattizhu_hmac_state *)(void *)in_room(3, sizeof *state);
+  v->hmac(key, 70, text, MESSAGE, wanted);
+  memset(got, 7, v->size);
+  check(nattizhu_hmac(chosen, key, 70, text, MESSAGE, got, v->size) &&
+            !memcmp(got, wanted, v->size),
+        "a tag by number", v->bits, 0);
+  memset(state, 7, sizeof *state);
+  check(nattizhu_hmac_init(state, chosen, key, 70) && nattizhu_hmac_update(state, text, 90) &&
+            nattizhu_hmac_update(state, text + 90, MESSAGE - 90) &&
+            nattizhu_hmac_final(state, got, v->size) && !memcmp(got, wanted, v->size) &&
+            nattizhu_hmac_verify(state, wanted, v->size) && state->size == v->size &&
+            all_are((const uint8_t *)&state->of + v->tag_state, sizeof state->of - v->tag_state,
+                    0),
+        "a tag in pieces by number", v->bits, 0);
+  check(nattizhu_hmac_verify_text(chosen, key, 70, text, MESSAGE, wanted, v->size),
+        "a tag verified by number", v->bits, 0);
+  wanted[v->size - 1] ^= 1;
+  check(!nattizhu_hmac_verify_text(chosen, key, 70, text, MESSAGE, wanted, v->size) &&
+            !nattizhu_hmac_verify_text(chosen, key, 70, text, MESSAGE, got, v->size - 1) &&
+            !nattizhu_hmac_verify(state, wanted, v->size) &&
+            !nattizhu_hmac_verify(state, got, v->size - 1),
+        "a wrong tag by number", v->bits, 0);
+  memset(got, 7, v->size);
+  check(!nattizhu_hmac(chosen, key, 70, text, MESSAGE, got, v->size - 1) &&
+            !nattizhu_hmac_final(state, got, v->size - 1) && all_are(got, v->size, 7),
+        "a wrong size of a tag", v->bits, 0);
+  ((uint8_t *)&state->of)[v->tag_state - 1] ^= 1;
+  nattizhu_hmac_state forged = *state;
+  check(!nattizhu_hmac_update(state, text, 10) && !nattizhu_hmac_final(state, got, v->size) &&
+            !memcmp(state, &forged, sizeof forged) && all_are(got, v->size, 7),
+        "a forged HMAC state by number", v->bits, 0);
+}
+
+// Numbers of no variant, and a state of no variant.
+static void try_no_variant(void) {
+  static const int numbers[] = {0, 1, 20, 127, 129, 192, 511};
+  for (size_t i = 0; i < sizeof numbers / sizeof numbers[0]; i++) {
+    nattizhu_variant none = (nattizhu_variant)numbers[i];
+    uint8_t out[40];
+    nattizhu_state state, before;
+    nattizhu_hmac_state hmac, hmac_before;
+    memset(out, 7, sizeof out);
+    memset(&state, 7, sizeof state);
+    memset(&hmac, 7, sizeof hmac);
+    before = state;
+    hmac_before = hmac;
+    bool refused = !nattizhu_digest_size(none) && !nattizhu_state_size(none) &&
+                   !nattizhu_hmac_state_size(none);
+    for (size_t size = 0; size <= 40; size += 20) {
+      refused &= !nattizhu_digest(none, ramp, 3, out, size);
+      refused &= !nattizhu_hmac(none, ramp, 3, ramp, 3, out, size);
+      refused &= !nattizhu_hmac_verify_text(none, ramp, 3, ramp, 3, ramp, size);
+    }
+    refused &= !nattizhu_init(&state, none) && !nattizhu_update(&state, ramp, 3) &&
+               !nattizhu_final(&state, out, 7) && !nattizhu_final(&state, out, 20);
+    refused &= !nattizhu_hmac_init(&hmac, none, ramp, 3) && !nattizhu_hmac_update(&hmac, ramp, 3) &&
+               !nattizhu_hmac_final(&hmac, out, 7) && !nattizhu_hmac_verify(&hmac, ramp, 7);
+    check(refused && all_are(out, sizeof out, 7) && !memcmp(&state, &before, sizeof state) &&
+              !memcmp(&hmac, &hmac_before, sizeof hmac),
+          "a number of no variant", numbers[i], 0);
+  }
+}
+
+// ---- a state from outside
+
+// The HMAC state of RIPEMD-160 after the first 3 bytes of "Hi There" under 20 bytes 0x0b: OpenSSL's
+// words after each masked key, one block, and the tail. It goes on to the tag of RFC 2286.
+static void try_saved_hmac(void) {
+  static const uint8_t words[2][20] = {
+      {0xb3, 0x1c, 0x08, 0xe6, 0xad, 0xb5, 0xb8, 0xf2, 0xc4, 0x21,
+       0x54, 0x70, 0xfd, 0xaf, 0x49, 0xb0, 0x4e, 0xe8, 0xf0, 0x16},
+      {0x7c, 0x36, 0xc7, 0xb9, 0x70, 0x37, 0xe8, 0xe8, 0x62, 0x56,
+       0x6e, 0xdd, 0xbc, 0x10, 0xdf, 0xd8, 0x05, 0x04, 0xf9, 0x99}};
+  nattizhu_hmac_ripemd160_state state;
+  uint8_t tag[20], wanted[20];
+  memset(&state, 0, sizeof state);
+  for (int half = 0; half < 2; half++) {
+    memcpy(state.bytes + 92 * half, words[half], 20);
+    state.bytes[92 * half + 20] = 1;
+  }
+  state.bytes[28] = 3;
+  memcpy(state.bytes + 29, "Hi ", 3);
+  from_hex("24cb4bd67d20fc1a5d2ed7732dcc39377f0a5668", wanted);
+  check(nattizhu_hmac_ripemd160_update(&state, (const uint8_t *)"There", 5) &&
+            nattizhu_hmac_ripemd160_final(&state, tag) && !memcmp(tag, wanted, 20) &&
+            nattizhu_hmac_ripemd160_verify(&state, wanted, 20),
+        "a saved HMAC state", 160, 0);
+}
+
 int main(int argc, char **argv) {
+  static const nattizhu_variant numbers[VARIANTS] = {NATTIZHU_RIPEMD128, NATTIZHU_RIPEMD160,
+                                                     NATTIZHU_RIPEMD256, NATTIZHU_RIPEMD320};
   if (argc != 2)
     return 2;
   for (size_t i = 0; i < sizeof ramp; i++)
@@ -416,10 +623,17 @@ int main(int argc, char **argv) {
       try_forged(v);
       try_records(v);
       try_tag_records(v);
+      try_lists(v);
       try_wrong_lengths(v);
       try_null(v);
+      try_chosen(v, numbers[v - ALL]);
+      try_chosen_tags(v, numbers[v - ALL]);
     }
   }
+  try_no_variant();
+  try_saved_hmac();
+  check(!strcmp(nattizhu_version(), NATTIZHU_VERSION), "the version", 0, 0);
+  check(NATTIZHU_BLOCK_SIZE == 64, "the block size", 0, 0);
   printf("c: %d of %d cases as expected\n", tried - failed, tried);
   return failed != 0;
 }
