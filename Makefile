@@ -9,8 +9,8 @@
 #                      calls beside those of other libraries; that of lists of messages, at once
 #                      and one by one; and the time of verifying right and wrong tags. It leaves
 #                      a picture, crates/ripemd_bench/out/speed.svg
-#   make library       builds the library for C, proved: libnattizhu.a and, with a C compiler, the
-#                      shared object libnattizhu.so, in crates/ripemd_c/out
+#   make library       builds the library for C, proved, with a C compiler: libnattizhu.a and the shared
+#                      object libnattizhu.so, in crates/ripemd_c/out
 #   make install       builds all of it and copies to PREFIX (/usr/local; DESTDIR goes in front) the
 #                      program and its manual page, the two libraries, nattizhu.h, nattizhu.pc for
 #                      pkg-config, and nattizhu.py for the python3 on the path
@@ -71,7 +71,8 @@ prefix:
 	@case '$(PREFIX)' in /*) ;; *) echo 'make: PREFIX must begin with /' >&2; exit 1 ;; esac
 
 install: prefix all library
-	@$(MAKE) --no-print-directory install-program install-library
+	@$(MAKE) --no-print-directory install-program
+	@! command -v cc >/dev/null || $(MAKE) --no-print-directory install-library
 
 # These two copy what is built.
 install-program: prefix
@@ -79,6 +80,8 @@ install-program: prefix
 	install -D -m 644 crates/ripemd_sum/ripemd_sum.1 "$(AT)/share/man/man1/ripemd_sum.1"
 
 install-library: prefix
+	@[ -e $(BUILT)/libnattizhu.so.0 ] || { echo 'make: there is no libnattizhu.so: it needs a C compiler' \
+	  '(cc) and `make library`' >&2; exit 1; }
 	install -D -m 644 $(BUILT)/libnattizhu.a "$(AT)/lib/libnattizhu.a"
 	install -D -m 644 crates/ripemd_c/nattizhu.h "$(AT)/include/nattizhu.h"
 	install -d "$(AT)/lib/pkgconfig"
@@ -86,20 +89,15 @@ install-library: prefix
 	  's/^#define NATTIZHU_VERSION "\(.*\)"/\1/p' crates/ripemd_c/nattizhu.h)|" \
 	  crates/ripemd_c/nattizhu.pc.in >"$(AT)/lib/pkgconfig/nattizhu.pc"
 	chmod 644 "$(AT)/lib/pkgconfig/nattizhu.pc"
-	@if [ ! -e $(BUILT)/libnattizhu.so.0 ]; then \
-	  echo 'make: there was no C compiler (cc): libnattizhu.so and nattizhu.py are left out'; \
-	else \
+	install -m 755 $(BUILT)/libnattizhu.so.0 "$(AT)/lib/libnattizhu.so.0"
+	ln -sf libnattizhu.so.0 "$(AT)/lib/libnattizhu.so"
+	@if [ -n "$(SITE)" ]; then \
 	  set -ex; \
-	  install -m 755 $(BUILT)/libnattizhu.so.0 "$(AT)/lib/libnattizhu.so.0"; \
-	  ln -sf libnattizhu.so.0 "$(AT)/lib/libnattizhu.so"; \
-	  if [ -n "$(SITE)" ]; then \
-	    install -D -m 644 python/nattizhu.py "$(AT)/$(SITE)/nattizhu.py"; \
-	    { set +x; } 2>/dev/null; \
-	    echo 'make: where python3 does not find nattizhu by itself: PYTHONPATH=$(PREFIX)/$(SITE)'; \
-	  else \
-	    { set +x; } 2>/dev/null; \
-	    echo 'make: there is no python3: nattizhu.py is left out'; \
-	  fi; \
+	  install -D -m 644 python/nattizhu.py "$(AT)/$(SITE)/nattizhu.py"; \
+	  { set +x; } 2>/dev/null; \
+	  echo 'make: where python3 does not find nattizhu by itself: PYTHONPATH=$(PREFIX)/$(SITE)'; \
+	else \
+	  echo 'make: there is no python3: nattizhu.py is left out'; \
 	fi
 
 uninstall: prefix

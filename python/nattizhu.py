@@ -14,16 +14,18 @@ library libnattizhu.so.0, which the environment variable NATTIZHU_LIBRARY may
 name.
 """
 
+import array
 import ctypes
+import itertools
 import operator
 import os
 import threading
 
 __all__ = [
-    "Hasher", "Hmac", "algorithms_available", "digest_each", "file_digest",
-    "from_state", "hmac_digest", "hmac_digest_each", "hmac_from_state",
-    "hmac_new", "hmac_verify", "new", "ripemd128", "ripemd160", "ripemd256",
-    "ripemd320",
+    "Hasher", "Hmac", "algorithms_available", "digest_each", "digest_list",
+    "file_digest", "from_state", "hmac_digest", "hmac_digest_each",
+    "hmac_digest_list", "hmac_from_state", "hmac_new", "hmac_verify", "new",
+    "ripemd128", "ripemd160", "ripemd256", "ripemd320",
 ]
 __version__ = "0.1.0"
 
@@ -79,25 +81,28 @@ class _Calls:
             function.restype = answer
             return function
 
-        self.each = call("_each_nonnull", read + [number, place, number])
+        self.each = call("_each", read + [number, place, number])
+        self.list = call("_list", [place, number, place], None)
         self.init = call("_init", [place], None)
         self.digest_type = ctypes.c_char * self.size
         self.state_type = ctypes.c_char * self.state_size
         self.tag_state_type = ctypes.c_char * (2 * self.state_size)
-        self.update = call("_update_nonnull", [place] + read)
+        self.update = call("_update", [place] + read)
         self.final = call("_final", [place, place])
-        self.tag = call("_nonnull", read + read + [place], None, "hmac_")
+        self.tag = call("", read + read + [place], None, "hmac_")
         self.tag_each = call(
-            "_each_nonnull", 2 * read + [number, place, number],
+            "_each", 2 * read + [number, place, number],
             prefix="hmac_")
+        self.tag_list = call(
+            "_list", read + [place, number, place], None, "hmac_")
         self.tag_verify_text = call(
-            "_verify_text_nonnull", 3 * read, prefix="hmac_")
-        self.tag_init = call("_init_nonnull", [place] + read, None, "hmac_")
+            "_verify_text", 3 * read, prefix="hmac_")
+        self.tag_init = call("_init", [place] + read, None, "hmac_")
         self.tag_update = call(
-            "_update_nonnull", [place] + read, prefix="hmac_")
+            "_update", [place] + read, prefix="hmac_")
         self.tag_final = call("_final", [place, place], prefix="hmac_")
         self.tag_verify = call(
-            "_verify_nonnull", [place] + read, prefix="hmac_")
+            "_verify", [place] + read, prefix="hmac_")
 
 
 def _all_calls():
@@ -361,6 +366,45 @@ def _each(calls, call, arguments, records, size):
             for at in range(0, len(written), calls.size)]
 
 
+def digest_list(name, messages):
+    """The list of the digests of the messages, of any lengths, which an
+    iterable gives. They are hashed eight at once."""
+    calls = _calls(name)
+    return _list(calls, calls.list, (), messages)
+
+
+_GROUP = 1024  # messages that are handed on at once
+
+
+def _list(calls, call, arguments, messages):
+    """What the call writes of each message, after these arguments. The
+    messages of a group are copied into one piece of memory."""
+    messages = map(_copied, messages)
+    outputs = []
+    while group := list(itertools.islice(messages, _GROUP)):
+        together = b"".join(group)
+        lengths = array.array("Q", map(len, group))
+        start = ctypes.cast(together, ctypes.c_void_p).value
+        pairs = array.array("Q", bytes(16 * len(group)))
+        pairs[0::2] = array.array(
+            "Q", itertools.accumulate(lengths[:-1], initial=start))
+        pairs[1::2] = lengths
+        places = (ctypes.c_char * (len(group) * calls.size))()
+        call(*arguments, pairs.buffer_info()[0], len(group), places)
+        written = places.raw
+        outputs += [written[at:at + calls.size]
+                    for at in range(0, len(written), calls.size)]
+    return outputs
+
+
+def _copied(message):
+    """The bytes of an object with a buffer."""
+    if type(message) is bytes:
+        return message
+    with _Bytes(message) as held:
+        return ctypes.string_at(held.address, held.length)
+
+
 def file_digest(fileobj, name, /, *, _bufsize=2**18):
     """A hasher that has taken in all that a file gives, as
     hashlib.file_digest has it: the file is open in binary mode, and name is
@@ -426,6 +470,15 @@ def hmac_digest_each(key, records, size, name):
     with _Bytes(key) as secret:
         return _each(calls, calls.tag_each, (secret.address, secret.length),
                      records, size)
+
+
+def hmac_digest_list(key, messages, name):
+    """The list of the tags under one key of the messages, of any lengths,
+    which an iterable gives."""
+    calls = _calls(name)
+    with _Bytes(key) as secret:
+        return _list(calls, calls.tag_list, (secret.address, secret.length),
+                     messages)
 
 
 def hmac_from_state(name, state):

@@ -171,6 +171,17 @@ class Digests(unittest.TestCase):
                         [nattizhu.new(name, records[at:at + size]).digest()
                          for at in range(0, len(records), size)])
 
+    def test_list(self):
+        source = random.Random(5)
+        for name in NAMES:
+            for count in (0, 1, 7, 8, 9, 127, 129, 1023, 1024, 1025, 2100):
+                messages = [source.randbytes(source.choice((0, 20, 64, i % 130)))
+                            for i in range(count)]
+                digests = [nattizhu.new(name, m).digest() for m in messages]
+                self.assertEqual(nattizhu.digest_list(name, messages), digests)
+                self.assertEqual(nattizhu.digest_list(name, iter(messages)),
+                                 digests)
+
     def test_threads(self):
         message = random.Random(4).randbytes(3 * 10**6)
         right = nattizhu.ripemd160(message).digest()
@@ -335,6 +346,8 @@ class Buffers(unittest.TestCase):
                                                       "ripemd160"))
                 self.assertEqual(nattizhu.digest_each("ripemd160", data, 240),
                                  [right])
+                self.assertEqual(
+                    nattizhu.digest_list("ripemd160", [b"", data])[1], right)
 
     def test_empty(self):
         for data in (b"", bytearray(), memoryview(b""), array.array("Q"),
@@ -342,6 +355,12 @@ class Buffers(unittest.TestCase):
             self.assertEqual(nattizhu.ripemd160(data).hexdigest(),
                              PUBLISHED["ripemd160"][0])
             self.assertEqual(nattizhu.digest_each("ripemd160", data, 8), [])
+            self.assertEqual(
+                nattizhu.digest_list("ripemd160", [data])[0].hex(),
+                PUBLISHED["ripemd160"][0])
+            self.assertEqual(
+                nattizhu.hmac_digest_list(data, [data], "ripemd160"),
+                [hmac.digest(b"", b"", nattizhu.ripemd160)])
             tag = nattizhu.hmac_new(data, data, "ripemd160")
             self.assertFalse(tag.verify(data))
             self.assertEqual(tag.digest(),
@@ -367,7 +386,11 @@ class Buffers(unittest.TestCase):
             with self.assertRaises(Exception) as theirs:
                 hashlib.sha256(data)
             for call in (nattizhu.ripemd160, nattizhu.ripemd160().update,
-                         functools.partial(nattizhu.new, "ripemd160")):
+                         functools.partial(nattizhu.new, "ripemd160"),
+                         lambda data: nattizhu.digest_list(
+                             "ripemd160", [b"", data]),
+                         lambda data: nattizhu.hmac_digest_list(
+                             b"key", [b"", data], "ripemd160")):
                 with self.assertRaises(type(theirs.exception)) as ours:
                     call(data)
                 self.assertEqual(str(ours.exception), str(theirs.exception))
@@ -396,6 +419,9 @@ class Errors(unittest.TestCase):
             for call in (nattizhu.new,
                          lambda name: nattizhu.from_state(name, bytes(92)),
                          lambda name: nattizhu.digest_each(name, b"", 1),
+                         lambda name: nattizhu.digest_list(name, [b""]),
+                         lambda name: nattizhu.hmac_digest_list(
+                             b"", [b""], name),
                          lambda name: nattizhu.hmac_new(b"", b"", name),
                          lambda name: nattizhu.hmac_digest(b"", b"", name),
                          lambda name: nattizhu.hmac_digest_each(
@@ -419,6 +445,20 @@ class Errors(unittest.TestCase):
         with self.assertRaises(TypeError):
             nattizhu.digest_each("ripemd160", b"abcdef", 2.0)
         self.assertEqual(nattizhu.digest_each("ripemd160", b"", 2**70), [])
+
+    def test_lists(self):
+        for messages in (None, 3):
+            with self.assertRaises(TypeError):
+                nattizhu.digest_list("ripemd160", messages)
+            with self.assertRaises(TypeError):
+                nattizhu.hmac_digest_list(b"key", messages, "ripemd160")
+
+        def failing():
+            yield b"abc"
+            raise LookupError
+
+        with self.assertRaises(LookupError):
+            nattizhu.digest_list("ripemd160", failing())
 
     def test_made_by_functions(self):
         for kind in (nattizhu.Hasher, nattizhu.Hmac):
@@ -457,6 +497,17 @@ class States(unittest.TestCase):
                            state + not_zero):
                 with self.assertRaises(ValueError):
                     nattizhu.hmac_from_state(name, forged)
+
+    def test_from_outside(self):
+        # After "Hi " under 20 bytes 0x0b: OpenSSL's words after each masked
+        # key, one block, and the tail. The tag is that of RFC 2286.
+        inner = bytes.fromhex("b31c08e6adb5b8f2c4215470fdaf49b04ee8f016"
+                              "0100000000000000" "03486920") + bytes(60)
+        outer = bytes.fromhex("7c36c7b97037e8e862566eddbc10dfd80504f999"
+                              "0100000000000000") + bytes(64)
+        tag = nattizhu.hmac_from_state("ripemd160", inner + outer)
+        tag.update(b"There")
+        self.assertEqual(tag.hexdigest(), RFC_2286["ripemd160"][0][2])
 
     def test_another_process(self):
         program = ("import pickle, sys; x = pickle.load(sys.stdin.buffer); "
@@ -555,6 +606,19 @@ class Tags(unittest.TestCase):
                         [hmac.digest(key, records[at:at + size],
                                      CONSTRUCTORS[name])
                          for at in range(0, len(records), size)])
+
+    def test_list(self):
+        source = random.Random(8)
+        for name in NAMES:
+            for length in (0, 20, 64, 65, 200):
+                key = source.randbytes(length)
+                for count in (0, 1, 9, 130, 1025):
+                    texts = [source.randbytes(i * 7 % 140)
+                             for i in range(count)]
+                    self.assertEqual(
+                        nattizhu.hmac_digest_list(key, texts, name),
+                        [hmac.digest(key, text, CONSTRUCTORS[name])
+                         for text in texts])
 
     def test_copies(self):
         keyed = nattizhu.hmac_new(b"key", None, "ripemd160")

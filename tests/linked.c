@@ -250,17 +250,17 @@ static void add_ours(char *argument) {
   struct library *added = add("ours, built for", argument);
   for (int v = 0; v < VARIANTS; v++) {
     char name[40];
-    snprintf(name, sizeof name, "nattizhu_ripemd%d_nonnull", 8 * SIZES[v]);
+    snprintf(name, sizeof name, "nattizhu_ripemd%d", 8 * SIZES[v]);
     *(void **)&added->digest[v] = function(from, name);
-    snprintf(name, sizeof name, "nattizhu_ripemd%d_each_nonnull", 8 * SIZES[v]);
+    snprintf(name, sizeof name, "nattizhu_ripemd%d_each", 8 * SIZES[v]);
     *(void **)&added->each[v] = function(from, name);
-    snprintf(name, sizeof name, "nattizhu_hmac_ripemd%d_each_nonnull", 8 * SIZES[v]);
+    snprintf(name, sizeof name, "nattizhu_hmac_ripemd%d_each", 8 * SIZES[v]);
     *(void **)&added->tag_each[v] = function(from, name);
   }
   static uint8_t states[MOST][92];
   added->state = states[added - libraries];
   *(void **)&added->init = function(from, "nattizhu_ripemd160_init");
-  *(void **)&added->update = function(from, "nattizhu_ripemd160_update_nonnull");
+  *(void **)&added->update = function(from, "nattizhu_ripemd160_update");
   *(void **)&added->final = function(from, "nattizhu_ripemd160_final");
 }
 
