@@ -4,17 +4,17 @@ pub use Rattle.ripemd_block.specs.States
 pub use Rattle.ripemd_block.specs.OverLists
 -- What the authors published, and worked values.
 pub use Rattle.ripemd_block.specs.Published
--- What has to be believed besides: the machine of `replay`, and collisions of block functions.
+-- What has to be trusted besides: the machine of `replay`, and collisions of block functions.
 pub mod Replay
 pub mod Collisions
 -- Worked examples of these.
 pub mod Worked
--- Hashers of messages, and states that are saved: words for callers.
+-- Hashers of messages, and states that are saved: definitions for callers.
 pub mod Messages
 pub mod Saved
--- Words about the code's own vectors: proved, not to be believed.
+-- Definitions about the code's own vectors: proved, with no need to trust them.
 pub mod Held
--- Laws for callers: proved, not to be believed.
+-- Laws for callers: proved.
 pub mod Laws
 -- The same, for loops of reads.
 pub mod Reading

@@ -10,7 +10,7 @@ pub use ripemd_block::block_api::{
     HashMeaning, OutputSizeUser, Reset, SerializableState, UpdateCore,
 };
 
-/// A hash function that takes a message in pieces and gives its digest at the end (1996). Its calls
+/// A hash function that takes a message in pieces and gives its digest at the end. Its calls
 /// have the names of the Rust crate `digest`, and none of them allocates or fails.
 ///
 /// How a message is cut into pieces makes no difference. Its length in bits is taken modulo 2^64,

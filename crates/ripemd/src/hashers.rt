@@ -16,7 +16,7 @@ use std::alloc::AllocError;
 use std::fmt;
 use std::marker::Model;
 
-/// The hasher of a block function, by the padding of MD4 (1996): its block core, and the tail of the
+/// The hasher of a block function, with the padding of MD4 (RFC 1320): its block core, and the tail of the
 /// message after the core's blocks. Contracts see both as one hash state.
 #[derive(Drop)]
 pub struct BlockHasher<F: ListBlockFunction> {
@@ -37,17 +37,17 @@ pub type Ripemd256 = BlockHasher<Ripemd256Function>;
 pub type Ripemd320 = BlockHasher<Ripemd320Function>;
 
 impl Ripemd128 {
-    /// The object identifier of RIPEMD-128.
+    /// The object identifier of RIPEMD-128, of TeleTrusT's arc of hash functions, 1.3.36.3.2.
     pub const OID: &'static str = "1.3.36.3.2.2";
 }
 
 impl Ripemd160 {
-    /// The object identifier of RIPEMD-160.
+    /// The object identifier of RIPEMD-160, of TeleTrusT's arc of hash functions, 1.3.36.3.2.
     pub const OID: &'static str = "1.3.36.3.2.1";
 }
 
 impl Ripemd256 {
-    /// The object identifier of RIPEMD-256.
+    /// The object identifier of RIPEMD-256, of TeleTrusT's arc of hash functions, 1.3.36.3.2.
     pub const OID: &'static str = "1.3.36.3.2.3";
 }
 

@@ -96,9 +96,9 @@ impl BatchDigest for Ripemd320 {
 /// Writes the digest of each message to the place in `digests` that the message has in `messages`.
 /// There must be as many places as messages. Nothing is allocated.
 ///
-/// The messages go in groups of eight as they come, and a group takes as long as its longest
-/// message if all its messages are hashed at once. A group that would leave most lanes without work
-/// is hashed one message after another. So it is fastest if neighbours have like lengths.
+/// The messages go in groups of eight as they come. The time of a group that is hashed at once
+/// depends on its longest message alone. A group that would leave most lanes without work is hashed
+/// one message after another. So it is fastest if neighbours have like lengths.
 pub fn digest_each<D: BatchDigest>(messages: &[&[u8]], digests: &mut [D::Output])
     requires { length digests.old ≡ length messages.now }
     ensures { map D.bytes_of digests.new

@@ -1,10 +1,10 @@
 -- The standard's definitions, and those of hash states: what has to be trusted.
 pub mod Standard
 pub mod States
--- What the authors published, as facts of these definitions.
+-- What the authors published, and worked values of hash states, as facts of these definitions.
 pub mod Published
 -- Block functions whose states are no lists, as those over lists.
 pub mod OverLists
--- Words about the code's own types, and laws that the code cites: proved, not to be believed.
+-- Definitions about the code's own types, and laws that the code cites: proved, with no need to trust them.
 pub mod Code
 pub mod Laws

@@ -108,7 +108,7 @@ pub(crate) fn read_words(bytes: &[u8], words: &mut [u32])
     words_in_range(words);
 }
 
-// Words are below 2^32.
+// Proof only: words are below 2^32.
 fn words_in_range(words: &[u32])
     ensures { All (λ w. w < 2 ^ 32) words.now }
 {}

@@ -159,7 +159,7 @@ impl<F: ListBlockFunction> FixedOutputCore for BlockCore<F> {
         let mut state = self.state;
         walk_last::<F>(&mut state, &padded);
         *out = F::output(state);
-        // It has the size of a digest.
+        // Proof only: its contract gives the size of the digest.
         out.as_bytes();
     }
 }
@@ -218,7 +218,7 @@ pub fn digest_message<F: ListBlockFunction>(message: &[u8]) -> F::Digest
     let mut state = walk::<F>(F::start(), whole);
     walk_last::<F>(&mut state, &last_blocks(tail, bit_len));
     let digest = F::output(state);
-    // It has the size of a digest.
+    // Proof only: its contract gives the size of the digest.
     digest.as_bytes();
     digest
 }

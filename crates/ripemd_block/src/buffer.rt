@@ -112,8 +112,8 @@ impl Buffer {
         bytes_in_range(self.get_data());
     }
 
-    /// The end of a message whose tail it holds and whose length is `bit_len` bits (1996, with the
-    /// padding of MD4): the one or two blocks of the tail, the byte 0x80, the fewest zero bytes that
+    /// The end of a message whose tail it holds and whose length is `bit_len` bits (RFC 1320,
+    /// sections 3.1 and 3.2): the one or two blocks of the tail, the byte 0x80, the fewest zero bytes that
     /// leave room for the length, and the length in 8 bytes, least first. The buffer is empty
     /// afterwards.
     pub fn len64_padding_le(&mut self, bit_len: u64) -> Padded
@@ -130,7 +130,7 @@ impl Buffer {
     }
 }
 
-// Bytes are below 256: fewer of them than a block are a tail.
+// Proof only: fewer bytes than a block are a tail, since bytes are below 256.
 fn bytes_in_range(tail: &[u8])
     requires { length tail.now < block_size }
     ensures { IsTail tail.now }

@@ -18,8 +18,8 @@ pub struct Padded {
     pub second: Option<[u8; 64]>,
 }
 
-/// The whole blocks of a message, in order, and its tail, which is its bytes after them: 0 to 63
-/// (1996, with the padding of MD4, which follows the tail). Both stay where they lie.
+/// The whole blocks of a message, in order, and its tail: the 0 to 63 bytes after them. Both stay
+/// where they lie.
 #[inline(always)]
 pub fn whole_blocks(message: &[u8]) -> (&[[u8; 64]], &[u8])
     ensures whole { result.0.now ≡ blocks message.now }
@@ -29,7 +29,7 @@ pub fn whole_blocks(message: &[u8]) -> (&[[u8; 64]], &[u8])
     message.as_chunks::<64>()
 }
 
-/// How many blocks a message has with its padding (1996, with the padding of MD4): its whole blocks
+/// How many blocks a message has with its padding (RFC 1320, section 3.1): its whole blocks
 /// and one more, or two more if its tail has 56 bytes or more.
 pub fn block_count(message: &[u8]) -> usize
     ensures { result ≡ length (blocks (padded_message message.now)) }
@@ -38,8 +38,8 @@ pub fn block_count(message: &[u8]) -> usize
     whole.len() + if tail.len() < 56 { 1 } else { 2 }
 }
 
-/// The block at a place, counted from 0, of a message with its padding (1996, with the padding of
-/// MD4); `None` exactly if there is no block at that place, so from `block_count(message)` on.
+/// The block at a place, counted from 0, of a message with its padding (RFC 1320, section
+/// 3.1); `None` exactly if there is no block at that place, so from `block_count(message)` on.
 pub fn pad_block(message: &[u8], place: usize) -> Option<[u8; 64]>
     ensures { result ≡ slice_get (blocks (padded_message message.now)) place }
 {

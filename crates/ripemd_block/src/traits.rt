@@ -42,7 +42,7 @@ pub trait OutputSizeUser {
     ghost same_digest: { (a b : Self.Output) → bytes_of a ≡ bytes_of b → a ≡ b };
 }
 
-/// A type that is a hash function, or a core of one. It has no items.
+/// Marks a type that is a hash function, or a core of one. It has no items.
 pub trait HashMarker {}
 
 /// A type that has the name of a hash function.

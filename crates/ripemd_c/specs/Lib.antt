@@ -1,6 +1,6 @@
--- Records that lie one after another.
+-- Records that lie one after another, and what calls over records and lists write.
 pub mod Records
 -- The saved bytes of hash states and of HMAC states.
 pub mod SavedStates
--- A worked example of this.
+-- Worked examples of these.
 pub mod Worked

@@ -1,4 +1,4 @@
--- What the program promises: what has to be believed of a run.
+-- What the program promises: what has to be trusted of a run.
 pub mod Arguments
 pub mod Runs
 pub mod Faults
