@@ -1,6 +1,7 @@
 -- Eight messages side by side: a vector has a word of each.
 use Rattle.std.specs.Prelude.{ℕ, ◌<◌, ◌≡◌, ◌+◌, ◌*◌, ◌%◌, ◌^◌}
-use Rattle.std.specs.Prelude.{List, [], ◌∷◌, length, map, slice_index, slice_index_or, Option, None, Some}
+use Rattle.std.specs.Prelude.{List, [], length, map, slice_index, slice_index_or, Option, None, Some}
+use Rattle.std.specs.List.{range_with_len}
 use Rattle.std.specs.Borrow.{Bor}
 use Rattle.ripemd_block.specs.Standard.Words.{message_word}
 use Rattle.ripemd_block.specs.Standard.Hashing.{with_padding, blocks, walk}
@@ -15,22 +16,9 @@ use Rattle.ripemd_batch.specs.declared.steps.Side.TheVariants.{Left, Right}
 abbrev pub lane_at : List (List ℕ) → ℕ → ℕ → ℕ
 lane_at v i j = slice_index (slice_index_or v i []) j
 
--- lane j of four vectors, of five, of eight and of ten: their words of message j
-abbrev pub lane_of_four : ℕ → List (List ℕ) → List ℕ
-lane_of_four j v = lane_at v 0 j ∷ lane_at v 1 j ∷ lane_at v 2 j ∷ lane_at v 3 j ∷ []
-
-abbrev pub lane_of_five : ℕ → List (List ℕ) → List ℕ
-lane_of_five j v = lane_at v 0 j ∷ lane_at v 1 j ∷ lane_at v 2 j ∷ lane_at v 3 j ∷ lane_at v 4 j ∷ []
-
-abbrev pub lane_of_eight : ℕ → List (List ℕ) → List ℕ
-lane_of_eight j v =
-    lane_at v 0 j ∷ lane_at v 1 j ∷ lane_at v 2 j ∷ lane_at v 3 j
-    ∷ lane_at v 4 j ∷ lane_at v 5 j ∷ lane_at v 6 j ∷ lane_at v 7 j ∷ []
-
-abbrev pub lane_of_ten : ℕ → List (List ℕ) → List ℕ
-lane_of_ten j v =
-    lane_at v 0 j ∷ lane_at v 1 j ∷ lane_at v 2 j ∷ lane_at v 3 j ∷ lane_at v 4 j
-    ∷ lane_at v 5 j ∷ lane_at v 6 j ∷ lane_at v 7 j ∷ lane_at v 8 j ∷ lane_at v 9 j ∷ []
+-- lane j of the first n vectors: their words of message j
+abbrev pub lane_of : ℕ → ℕ → List (List ℕ) → List ℕ
+lane_of n j v = map (λ i. lane_at v i j) (range_with_len 0 n)
 
 -- word i of message j is that of the block
 abbrev pub HasWords : List (List ℕ) → ℕ → List ℕ → Type 0
@@ -45,10 +33,10 @@ line_of rounds Right = right_line rounds
 
 -- both lines of message j, of four registers and of five
 abbrev pub lines_of_four_registers : ℕ → List (List ℕ) → List (List ℕ) → Lines
-lines_of_four_registers j left right = record { left = lane_of_four j left; right = lane_of_four j right }
+lines_of_four_registers j left right = record { left = lane_of 4 j left; right = lane_of 4 j right }
 
 abbrev pub lines_of_five_registers : ℕ → List (List ℕ) → List (List ℕ) → Lines
-lines_of_five_registers j left right = record { left = lane_of_five j left; right = lane_of_five j right }
+lines_of_five_registers j left right = record { left = lane_of 5 j left; right = lane_of 5 j right }
 
 -- ---- lists of messages
 

@@ -3,7 +3,7 @@
 
 ghost use Rattle.std.specs.Prelude.{◌≡◌, ◌<◌, ℕ};
 ghost use Rattle.ripemd_block.specs.Standard.Compression.{joint_state, compress, ripemd128};
-ghost use Rattle.ripemd_batch.specs.Lanes.{lane_of_four, list_at, targets};
+ghost use Rattle.ripemd_batch.specs.Lanes.{lane_of, list_at, targets};
 
 use crate::eight::Eight;
 use crate::four_registers::{Lines, round};
@@ -12,9 +12,9 @@ use crate::message::message_words;
 // The states that take the registers of both lines in.
 #[inline(always)]
 fn joint_state(state: [Eight; 4], lines: Lines) -> [Eight; 4]
-    ensures { (j : ℕ) → j < 8 → lane_of_four j result
-        ≡ joint_state (lane_of_four j state) (lane_of_four j lines.left)
-        (lane_of_four j lines.right) }
+    ensures { (j : ℕ) → j < 8 → lane_of 4 j result
+        ≡ joint_state (lane_of 4 j state) (lane_of 4 j lines.left)
+        (lane_of 4 j lines.right) }
 {
     let left = lines.left;
     let right = lines.right;
@@ -28,8 +28,8 @@ fn joint_state(state: [Eight; 4], lines: Lines) -> [Eight; 4]
 
 /// The states after one more block of each message.
 pub(crate) fn compress(state: [Eight; 4], blocks: &[&[u8; 64]; 8]) -> [Eight; 4]
-    ensures { (j : ℕ) → j < 8 → lane_of_four j result
-        ≡ compress ripemd128 (lane_of_four j state) (list_at (targets blocks.now) j) }
+    ensures { (j : ℕ) → j < 8 → lane_of 4 j result
+        ≡ compress ripemd128 (lane_of 4 j state) (list_at (targets blocks.now) j) }
 {
     let words = message_words(blocks);
     let lines = Lines {

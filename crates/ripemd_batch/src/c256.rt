@@ -4,8 +4,7 @@
 ghost use Rattle.std.specs.Prelude.{◌≡◌, ◌<◌, ℕ};
 ghost use Rattle.ripemd_block.specs.Standard.Compression.{lines_from, double_state};
 ghost use Rattle.ripemd_block.specs.Standard.Compression.{compress, ripemd256};
-ghost use Rattle.ripemd_batch.specs.Lanes.{lane_of_four, lines_of_four_registers, lane_of_eight};
-ghost use Rattle.ripemd_batch.specs.Lanes.{list_at, targets};
+ghost use Rattle.ripemd_batch.specs.Lanes.{lane_of, lines_of_four_registers, list_at, targets};
 
 use crate::eight::Eight;
 use crate::four_registers::{Lines, exchange, round};
@@ -15,7 +14,7 @@ use crate::message::message_words;
 #[inline(always)]
 fn lines_from(state: [Eight; 8]) -> Lines
     ensures { (j : ℕ) → j < 8 → lines_of_four_registers j result.left result.right
-        ≡ lines_from ripemd256 (lane_of_eight j state) }
+        ≡ lines_from ripemd256 (lane_of 8 j state) }
 {
     Lines {
         left: [state[0], state[1], state[2], state[3]],
@@ -26,9 +25,9 @@ fn lines_from(state: [Eight; 8]) -> Lines
 // The states that take the registers of both lines in.
 #[inline(always)]
 fn double_state(state: [Eight; 8], lines: Lines) -> [Eight; 8]
-    ensures { (j : ℕ) → j < 8 → lane_of_eight j result
-        ≡ double_state (lane_of_eight j state) (lane_of_four j lines.left)
-        (lane_of_four j lines.right) }
+    ensures { (j : ℕ) → j < 8 → lane_of 8 j result
+        ≡ double_state (lane_of 8 j state) (lane_of 4 j lines.left)
+        (lane_of 4 j lines.right) }
 {
     let left = lines.left;
     let right = lines.right;
@@ -47,8 +46,8 @@ fn double_state(state: [Eight; 8], lines: Lines) -> [Eight; 8]
 /// The states after one more block of each message. The registers that are exchanged are A, B, C
 /// and D in turn.
 pub(crate) fn compress(state: [Eight; 8], blocks: &[&[u8; 64]; 8]) -> [Eight; 8]
-    ensures { (j : ℕ) → j < 8 → lane_of_eight j result
-        ≡ compress ripemd256 (lane_of_eight j state) (list_at (targets blocks.now) j) }
+    ensures { (j : ℕ) → j < 8 → lane_of 8 j result
+        ≡ compress ripemd256 (lane_of 8 j state) (list_at (targets blocks.now) j) }
 {
     let words = message_words(blocks);
     let lines = lines_from(state);

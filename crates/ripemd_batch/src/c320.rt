@@ -4,7 +4,7 @@
 ghost use Rattle.std.specs.Prelude.{◌≡◌, ◌<◌, ℕ};
 ghost use Rattle.ripemd_block.specs.Standard.Compression.{lines_from, double_state};
 ghost use Rattle.ripemd_block.specs.Standard.Compression.{compress, ripemd320};
-ghost use Rattle.ripemd_batch.specs.Lanes.{lane_of_five, lines_of_five_registers, lane_of_ten, list_at, targets};
+ghost use Rattle.ripemd_batch.specs.Lanes.{lane_of, lines_of_five_registers, list_at, targets};
 
 use crate::eight::Eight;
 use crate::five_registers::{Lines, exchange, round};
@@ -14,7 +14,7 @@ use crate::message::message_words;
 #[inline(always)]
 fn lines_from(state: [Eight; 10]) -> Lines
     ensures { (j : ℕ) → j < 8 → lines_of_five_registers j result.left result.right
-        ≡ lines_from ripemd320 (lane_of_ten j state) }
+        ≡ lines_from ripemd320 (lane_of 10 j state) }
 {
     Lines {
         left: [state[0], state[1], state[2], state[3], state[4]],
@@ -25,9 +25,9 @@ fn lines_from(state: [Eight; 10]) -> Lines
 // The states that take the registers of both lines in.
 #[inline(always)]
 fn double_state(state: [Eight; 10], lines: Lines) -> [Eight; 10]
-    ensures { (j : ℕ) → j < 8 → lane_of_ten j result
-        ≡ double_state (lane_of_ten j state) (lane_of_five j lines.left)
-        (lane_of_five j lines.right) }
+    ensures { (j : ℕ) → j < 8 → lane_of 10 j result
+        ≡ double_state (lane_of 10 j state) (lane_of 5 j lines.left)
+        (lane_of 5 j lines.right) }
 {
     let left = lines.left;
     let right = lines.right;
@@ -48,8 +48,8 @@ fn double_state(state: [Eight; 10], lines: Lines) -> [Eight; 10]
 /// The states after one more block of each message. The registers that are exchanged are B, D, A,
 /// C and E in turn.
 pub(crate) fn compress(state: [Eight; 10], blocks: &[&[u8; 64]; 8]) -> [Eight; 10]
-    ensures { (j : ℕ) → j < 8 → lane_of_ten j result
-        ≡ compress ripemd320 (lane_of_ten j state) (list_at (targets blocks.now) j) }
+    ensures { (j : ℕ) → j < 8 → lane_of 10 j result
+        ≡ compress ripemd320 (lane_of 10 j state) (list_at (targets blocks.now) j) }
 {
     let words = message_words(blocks);
     let lines = lines_from(state);

@@ -4,7 +4,7 @@
 ghost use Rattle.std.specs.Prelude.{◌≡◌, ◌<◌, ◌≤◌, ◌+◌, ◌-◌, ℕ, List, Some, slice_index};
 ghost use Rattle.ripemd_block.specs.Standard.Schedule.{left_line, right_line};
 ghost use Rattle.ripemd_block.specs.Standard.Compression.{step, registers_after, round, exchange};
-ghost use Rattle.ripemd_batch.specs.Lanes.{line_of, lane_of_five, lines_of_five_registers, HasWords};
+ghost use Rattle.ripemd_batch.specs.Lanes.{line_of, lane_of, lines_of_five_registers, HasWords};
 
 use crate::eight::Eight;
 use crate::steps::{Side, boolean_function, constant_of_five_rounds, word_number};
@@ -36,8 +36,8 @@ fn function(side: Side, r: usize, x: Eight, y: Eight, z: Eight) -> Eight
 fn step(side: Side, r: usize, x: Eight, k: u32, s: u32, registers: [Eight; 5]) -> [Eight; 5]
     requires round { r < 5 }
     requires amount { (0 < s) × (s < 32) }
-    ensures { (j : ℕ) → j < 8 → lane_of_five j result
-        ≡ step ((line_of 5 side).function r) (slice_index x j) k s (lane_of_five j registers) }
+    ensures { (j : ℕ) → j < 8 → lane_of 5 j result
+        ≡ step ((line_of 5 side).function r) (slice_index x j) k s (lane_of 5 j registers) }
 {
     let [a, b, c, d, e] = registers;
     let f = function(side, r, b, c, d);
@@ -53,8 +53,8 @@ fn step_at(side: Side, r: usize, i: usize, words: &[Eight; 16], registers: [Eigh
     requires round { r < 5 }
     requires step { i < 16 }
     ensures { (j : ℕ) → j < 8 → (block first : List ℕ) → HasWords words.now j block
-        → lane_of_five j registers ≡ registers_after (line_of 5 side) block r i first
-        → lane_of_five j result ≡ registers_after (line_of 5 side) block r (i + 1) first }
+        → lane_of 5 j registers ≡ registers_after (line_of 5 side) block r i first
+        → lane_of 5 j result ≡ registers_after (line_of 5 side) block r (i + 1) first }
 {
     let number = word_number(side, r, i);
     let k = constant_of_five_rounds(side, r);
@@ -74,8 +74,8 @@ fn four_steps(
     requires round { r < 5 }
     requires steps { from + 4 ≤ 16 }
     ensures { (j : ℕ) → j < 8 → (block first : List ℕ) → HasWords words.now j block
-        → lane_of_five j start ≡ registers_after (line_of 5 side) block r from first
-        → lane_of_five j result ≡ registers_after (line_of 5 side) block r (from + 4) first }
+        → lane_of 5 j start ≡ registers_after (line_of 5 side) block r from first
+        → lane_of 5 j result ≡ registers_after (line_of 5 side) block r (from + 4) first }
 {
     let mut registers = start;
     for i in 0..4 {
@@ -91,9 +91,9 @@ fn four_steps(
 pub(crate) fn round<const R: usize>(words: &[Eight; 16], lines: Lines) -> Lines
     requires { R < 5 }
     ensures left { (j : ℕ) → j < 8 → (block : List ℕ) → HasWords words.now j block
-        → lane_of_five j result.left ≡ round left_line block R (lane_of_five j lines.left) }
+        → lane_of 5 j result.left ≡ round left_line block R (lane_of 5 j lines.left) }
     ensures right { (j : ℕ) → j < 8 → (block : List ℕ) → HasWords words.now j block
-        → lane_of_five j result.right ≡ round (right_line 5) block R (lane_of_five j lines.right) }
+        → lane_of 5 j result.right ≡ round (right_line 5) block R (lane_of 5 j lines.right) }
 {
     let left = four_steps(Side::Left, R, 0, words, lines.left);
     let right = four_steps(Side::Right, R, 0, words, lines.right);

@@ -4,7 +4,7 @@
 ghost use Rattle.std.specs.Prelude.{◌≡◌, ◌<◌, ◌≤◌, ◌+◌, ◌-◌, ℕ, List, Some, slice_index};
 ghost use Rattle.ripemd_block.specs.Standard.Schedule.{left_line, right_line};
 ghost use Rattle.ripemd_block.specs.Standard.Compression.{step, registers_after, round, exchange};
-ghost use Rattle.ripemd_batch.specs.Lanes.{line_of, lane_of_four, lines_of_four_registers, HasWords};
+ghost use Rattle.ripemd_batch.specs.Lanes.{line_of, lane_of, lines_of_four_registers, HasWords};
 
 use crate::eight::Eight;
 use crate::steps::{Side, boolean_function, constant_of_four_rounds, word_number};
@@ -36,8 +36,8 @@ fn function(side: Side, r: usize, x: Eight, y: Eight, z: Eight) -> Eight
 fn step(side: Side, r: usize, x: Eight, k: u32, s: u32, registers: [Eight; 4]) -> [Eight; 4]
     requires round { r < 4 }
     requires amount { (0 < s) × (s < 32) }
-    ensures { (j : ℕ) → j < 8 → lane_of_four j result
-        ≡ step ((line_of 4 side).function r) (slice_index x j) k s (lane_of_four j registers) }
+    ensures { (j : ℕ) → j < 8 → lane_of 4 j result
+        ≡ step ((line_of 4 side).function r) (slice_index x j) k s (lane_of 4 j registers) }
 {
     let [a, b, c, d] = registers;
     let f = function(side, r, b, c, d);
@@ -52,8 +52,8 @@ fn step_at(side: Side, r: usize, i: usize, words: &[Eight; 16], registers: [Eigh
     requires round { r < 4 }
     requires step { i < 16 }
     ensures { (j : ℕ) → j < 8 → (block first : List ℕ) → HasWords words.now j block
-        → lane_of_four j registers ≡ registers_after (line_of 4 side) block r i first
-        → lane_of_four j result ≡ registers_after (line_of 4 side) block r (i + 1) first }
+        → lane_of 4 j registers ≡ registers_after (line_of 4 side) block r i first
+        → lane_of 4 j result ≡ registers_after (line_of 4 side) block r (i + 1) first }
 {
     let number = word_number(side, r, i);
     let k = constant_of_four_rounds(side, r);
@@ -73,8 +73,8 @@ fn four_steps(
     requires round { r < 4 }
     requires steps { from + 4 ≤ 16 }
     ensures { (j : ℕ) → j < 8 → (block first : List ℕ) → HasWords words.now j block
-        → lane_of_four j start ≡ registers_after (line_of 4 side) block r from first
-        → lane_of_four j result ≡ registers_after (line_of 4 side) block r (from + 4) first }
+        → lane_of 4 j start ≡ registers_after (line_of 4 side) block r from first
+        → lane_of 4 j result ≡ registers_after (line_of 4 side) block r (from + 4) first }
 {
     let mut registers = start;
     for i in 0..4 {
@@ -90,9 +90,9 @@ fn four_steps(
 pub(crate) fn round<const R: usize>(words: &[Eight; 16], lines: Lines) -> Lines
     requires { R < 4 }
     ensures left { (j : ℕ) → j < 8 → (block : List ℕ) → HasWords words.now j block
-        → lane_of_four j result.left ≡ round left_line block R (lane_of_four j lines.left) }
+        → lane_of 4 j result.left ≡ round left_line block R (lane_of 4 j lines.left) }
     ensures right { (j : ℕ) → j < 8 → (block : List ℕ) → HasWords words.now j block
-        → lane_of_four j result.right ≡ round (right_line 4) block R (lane_of_four j lines.right) }
+        → lane_of 4 j result.right ≡ round (right_line 4) block R (lane_of 4 j lines.right) }
 {
     let left = four_steps(Side::Left, R, 0, words, lines.left);
     let right = four_steps(Side::Right, R, 0, words, lines.right);

@@ -2,8 +2,7 @@
 //! and what a block does to them.
 
 ghost use Rattle.std.specs.Prelude.{◌≡◌, ℕ, ◌<◌, List, slice_index};
-ghost use Rattle.ripemd_batch.specs.Lanes.{lane_of_four, lane_of_five, lane_of_eight};
-ghost use Rattle.ripemd_batch.specs.Lanes.{lane_of_ten, list_at, targets};
+ghost use Rattle.ripemd_batch.specs.Lanes.{lane_of, list_at, targets};
 
 use crate::eight::Eight;
 use crate::{c128, c160, c256, c320};
@@ -47,20 +46,59 @@ pub trait EightStates: Copy {
         ensures { Self.Output.bytes result ≡ Self.Function.output (words_of j self.now) };
 }
 
+// The same words for each message.
+#[tactic(auto, using(crate::proofs::OneLane::lane_is))]
+#[inline(always)]
+fn splat_each<const N: usize>(words: [u32; N]) -> [Eight; N]
+    ensures { (j : ℕ) → j < 8 → lane_of N j result ≡ words.entry }
+{
+    let mut states = [Eight::splat(0); N];
+    for i in 0..N {
+        states[i] = Eight::splat(words[i]);
+    }
+    states
+}
+
+// The new words of the messages whose word in `live` has all bits set, and the old ones of those
+// where it is 0.
+#[tactic(auto, using(crate::proofs::OneLane::same_lane))]
+#[inline(always)]
+fn select_each<const N: usize>(live: Eight, new: [Eight; N], old: [Eight; N]) -> [Eight; N]
+    ensures taken { (j : ℕ) → j < 8 → slice_index live j ≡ 0xffff_ffff
+        → lane_of N j result ≡ lane_of N j new.entry }
+    ensures kept { (j : ℕ) → j < 8 → slice_index live j ≡ 0
+        → lane_of N j result ≡ lane_of N j old.entry }
+{
+    let mut states = old;
+    for i in 0..N {
+        states[i] = Eight::select(live, new[i], old[i]);
+    }
+    states
+}
+
+// The words of message `j`.
+#[tactic(auto, using(crate::proofs::OneLane::lane_is))]
+#[inline(always)]
+fn lane_of<const N: usize>(states: &[Eight; N], j: usize) -> [u32; N]
+    requires { j < 8 }
+    ensures { result ≡ lane_of N j states.now }
+{
+    let mut words = [0; N];
+    for i in 0..N {
+        words[i] = states[i].word(j);
+    }
+    words
+}
+
 impl EightStates for [Eight; 4] {
     type Output = [u8; 16];
 
     type Function = Ripemd128Function;
 
-    ghost words_of = { lane_of_four };
+    ghost words_of = { lane_of 4 };
 
     fn splat(words: [u32; 4]) -> [Eight; 4] {
-        [
-            Eight::splat(words[0]),
-            Eight::splat(words[1]),
-            Eight::splat(words[2]),
-            Eight::splat(words[3]),
-        ]
+        splat_each(words)
     }
 
     fn compress(self, blocks: &[&[u8; 64]; 8]) -> [Eight; 4] {
@@ -68,21 +106,11 @@ impl EightStates for [Eight; 4] {
     }
 
     fn select(live: Eight, new: [Eight; 4], old: [Eight; 4]) -> [Eight; 4] {
-        [
-            Eight::select(live, new[0], old[0]),
-            Eight::select(live, new[1], old[1]),
-            Eight::select(live, new[2], old[2]),
-            Eight::select(live, new[3], old[3]),
-        ]
+        select_each(live, new, old)
     }
 
     fn digest_of(&self, j: usize) -> [u8; 16] {
-        Ripemd128Function::output([
-            self[0].word(j),
-            self[1].word(j),
-            self[2].word(j),
-            self[3].word(j),
-        ])
+        Ripemd128Function::output(lane_of(self, j))
     }
 }
 
@@ -91,16 +119,10 @@ impl EightStates for [Eight; 5] {
 
     type Function = Ripemd160Function;
 
-    ghost words_of = { lane_of_five };
+    ghost words_of = { lane_of 5 };
 
     fn splat(words: [u32; 5]) -> [Eight; 5] {
-        [
-            Eight::splat(words[0]),
-            Eight::splat(words[1]),
-            Eight::splat(words[2]),
-            Eight::splat(words[3]),
-            Eight::splat(words[4]),
-        ]
+        splat_each(words)
     }
 
     fn compress(self, blocks: &[&[u8; 64]; 8]) -> [Eight; 5] {
@@ -108,23 +130,11 @@ impl EightStates for [Eight; 5] {
     }
 
     fn select(live: Eight, new: [Eight; 5], old: [Eight; 5]) -> [Eight; 5] {
-        [
-            Eight::select(live, new[0], old[0]),
-            Eight::select(live, new[1], old[1]),
-            Eight::select(live, new[2], old[2]),
-            Eight::select(live, new[3], old[3]),
-            Eight::select(live, new[4], old[4]),
-        ]
+        select_each(live, new, old)
     }
 
     fn digest_of(&self, j: usize) -> [u8; 20] {
-        Ripemd160Function::output([
-            self[0].word(j),
-            self[1].word(j),
-            self[2].word(j),
-            self[3].word(j),
-            self[4].word(j),
-        ])
+        Ripemd160Function::output(lane_of(self, j))
     }
 }
 
@@ -133,19 +143,10 @@ impl EightStates for [Eight; 8] {
 
     type Function = Ripemd256Function;
 
-    ghost words_of = { lane_of_eight };
+    ghost words_of = { lane_of 8 };
 
     fn splat(words: [u32; 8]) -> [Eight; 8] {
-        [
-            Eight::splat(words[0]),
-            Eight::splat(words[1]),
-            Eight::splat(words[2]),
-            Eight::splat(words[3]),
-            Eight::splat(words[4]),
-            Eight::splat(words[5]),
-            Eight::splat(words[6]),
-            Eight::splat(words[7]),
-        ]
+        splat_each(words)
     }
 
     fn compress(self, blocks: &[&[u8; 64]; 8]) -> [Eight; 8] {
@@ -153,29 +154,11 @@ impl EightStates for [Eight; 8] {
     }
 
     fn select(live: Eight, new: [Eight; 8], old: [Eight; 8]) -> [Eight; 8] {
-        [
-            Eight::select(live, new[0], old[0]),
-            Eight::select(live, new[1], old[1]),
-            Eight::select(live, new[2], old[2]),
-            Eight::select(live, new[3], old[3]),
-            Eight::select(live, new[4], old[4]),
-            Eight::select(live, new[5], old[5]),
-            Eight::select(live, new[6], old[6]),
-            Eight::select(live, new[7], old[7]),
-        ]
+        select_each(live, new, old)
     }
 
     fn digest_of(&self, j: usize) -> [u8; 32] {
-        Ripemd256Function::output([
-            self[0].word(j),
-            self[1].word(j),
-            self[2].word(j),
-            self[3].word(j),
-            self[4].word(j),
-            self[5].word(j),
-            self[6].word(j),
-            self[7].word(j),
-        ])
+        Ripemd256Function::output(lane_of(self, j))
     }
 }
 
@@ -184,21 +167,10 @@ impl EightStates for [Eight; 10] {
 
     type Function = Ripemd320Function;
 
-    ghost words_of = { lane_of_ten };
+    ghost words_of = { lane_of 10 };
 
     fn splat(words: [u32; 10]) -> [Eight; 10] {
-        [
-            Eight::splat(words[0]),
-            Eight::splat(words[1]),
-            Eight::splat(words[2]),
-            Eight::splat(words[3]),
-            Eight::splat(words[4]),
-            Eight::splat(words[5]),
-            Eight::splat(words[6]),
-            Eight::splat(words[7]),
-            Eight::splat(words[8]),
-            Eight::splat(words[9]),
-        ]
+        splat_each(words)
     }
 
     fn compress(self, blocks: &[&[u8; 64]; 8]) -> [Eight; 10] {
@@ -206,32 +178,10 @@ impl EightStates for [Eight; 10] {
     }
 
     fn select(live: Eight, new: [Eight; 10], old: [Eight; 10]) -> [Eight; 10] {
-        [
-            Eight::select(live, new[0], old[0]),
-            Eight::select(live, new[1], old[1]),
-            Eight::select(live, new[2], old[2]),
-            Eight::select(live, new[3], old[3]),
-            Eight::select(live, new[4], old[4]),
-            Eight::select(live, new[5], old[5]),
-            Eight::select(live, new[6], old[6]),
-            Eight::select(live, new[7], old[7]),
-            Eight::select(live, new[8], old[8]),
-            Eight::select(live, new[9], old[9]),
-        ]
+        select_each(live, new, old)
     }
 
     fn digest_of(&self, j: usize) -> [u8; 40] {
-        Ripemd320Function::output([
-            self[0].word(j),
-            self[1].word(j),
-            self[2].word(j),
-            self[3].word(j),
-            self[4].word(j),
-            self[5].word(j),
-            self[6].word(j),
-            self[7].word(j),
-            self[8].word(j),
-            self[9].word(j),
-        ])
+        Ripemd320Function::output(lane_of(self, j))
     }
 }

@@ -1,18 +1,18 @@
 use Rattle.std.proofs.Common.{refl}
 use Rattle.ripemd_block.specs.Standard.Compression.{registers_after}
-use Rattle.ripemd_batch.specs.Lanes.{lane_of_five}
+use Rattle.ripemd_batch.specs.Lanes.{lane_of}
 use Rattle.ripemd_batch.proofs.five_registers.round.Goals as goal
 
 pub returns-clause-left : goal.returns-clause-left
 unfolding registers_after
 returns-clause-left n c j h block all =
-    let start = lane_of_five j c.args.lines.left in
+    let start = lane_of 5 j c.args.lines.left in
     c.four_steps-left-4.ensures j h block start all (c.four_steps-left-3.ensures j h block start all
     (c.four_steps-left-2.ensures j h block start all (c.four_steps-left.ensures j h block start all refl)))
 
 pub returns-clause-right : goal.returns-clause-right
 unfolding registers_after
 returns-clause-right n c j h block all =
-    let start = lane_of_five j c.args.lines.right in
+    let start = lane_of 5 j c.args.lines.right in
     c.four_steps-right-4.ensures j h block start all (c.four_steps-right-3.ensures j h block start all
     (c.four_steps-right-2.ensures j h block start all (c.four_steps-right.ensures j h block start all refl)))

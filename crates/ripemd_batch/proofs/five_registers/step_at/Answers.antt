@@ -1,7 +1,7 @@
 use Rattle.std.proofs.Common.{ℕ, List, [], slice_index, arith, ap, ◌∙◌}
 use Rattle.std.proofs.lemmas.List.{get_or_default}
 use Rattle.ripemd_block.proofs.Stepping.{one_more_step}
-use Rattle.ripemd_batch.specs.Lanes.{lane_of_five, line_of}
+use Rattle.ripemd_batch.specs.Lanes.{lane_of, line_of}
 use Rattle.ripemd_batch.proofs.five_registers.step_at.Goals as goal
 
 pub returns : goal.returns
@@ -10,6 +10,6 @@ returns c j h block first words before =
     let small = c.word_number-number.ensures.small in
     let read = get_or_default c.args.words.now n c.index-words-number.result [] (omega arith) in
     let word = ap (λ (v : List ℕ). slice_index v j) read ∙ words n small in
-    one_more_step (line_of 5 c.args.side) block c.args.r c.args.i first (lane_of_five j c.args.registers)
-    (lane_of_five j c.step.result) _ _ _ _ (c.word_number-number.ensures.value 5) word
+    one_more_step (line_of 5 c.args.side) block c.args.r c.args.i first (lane_of 5 j c.args.registers)
+    (lane_of 5 j c.step.result) _ _ _ _ (c.word_number-number.ensures.value 5) word
     c.constant_of_five_rounds-k.ensures c.rotation-s.ensures.value before (c.step.ensures j h)
