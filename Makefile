@@ -72,7 +72,11 @@ prefix:
 
 install: prefix all library
 	@$(MAKE) --no-print-directory install-program
-	@! command -v cc >/dev/null || $(MAKE) --no-print-directory install-library
+	@if command -v cc >/dev/null; then \
+	  $(MAKE) --no-print-directory install-library; \
+	else \
+	  echo 'make: there is no C compiler (cc): libnattizhu, nattizhu.h and nattizhu.py are left out'; \
+	fi
 
 # These two copy what is built.
 install-program: prefix

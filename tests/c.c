@@ -310,18 +310,17 @@ static void try_tag_records(const variant *v) {
   check(v->tag_each(ramp, 20, NULL, 0, 7, NULL, 0), "tags of no records", v->bits, 0);
 }
 
-// Messages of unlike lengths, each with one byte left in its room, some of them null and empty.
-static size_t make_list(nattizhu_message *messages, size_t count, size_t least, size_t most) {
-  uint8_t *all = in_room(0, room_size);
-  size_t at = 0;
+// Messages of unlike lengths, one behind the other in their room, some of them null and empty.
+static void make_list(nattizhu_message *messages, size_t count, size_t least, size_t most) {
+  size_t all = 0;
+  for (size_t i = 0; i < count; i++)
+    all += messages[i].length = least + i * i * 7 % (most - least + 1);
+  uint8_t *bytes = in_room(0, all);
   for (size_t i = 0; i < count; i++) {
-    size_t length = least + i * i * 7 % (most - least + 1);
-    messages[i].bytes = length || i % 2 ? all + at : NULL;
-    messages[i].length = length;
-    memcpy(all + at, ramp + i, length);
-    at += length;
+    messages[i].bytes = messages[i].length || i % 2 ? bytes : NULL;
+    memcpy(bytes, ramp + i, messages[i].length);
+    bytes += messages[i].length;
   }
-  return at;
 }
 
 // Their digests and tags, as many as 0 to 300, against those of each alone.

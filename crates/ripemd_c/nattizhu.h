@@ -1,6 +1,8 @@
 /* Nattizhu: RIPEMD-128, RIPEMD-160, RIPEMD-256 and RIPEMD-320 (1996) and HMAC over them (RFC 2104).
  *
- * What each call writes and returns is proved, if its caller ensures this, which nothing checks:
+ * What the functions in Rattle write and return is proved. nattizhu.c, which calls them and is
+ * tested, replaces null pointers, hands lists on in groups, and chooses the variant where that is a
+ * number. Each caller has to ensure this, which nothing checks:
  *
  * - A pointer leads to as many bytes, messages, digests or tags as the number after it says, or as its
  *   type or its size in brackets says. Each of these pieces of memory is smaller than 2^63 bytes.
@@ -8,9 +10,7 @@
  * - What a call writes overlaps nothing else that it is given; what it only reads may overlap.
  * - While a call runs, no other thread writes what it reads, or reads or writes what it writes.
  *
- * The functions that take the variant as a number are tested and not proved: each calls one of the
- * others. What was in the memory of a digest or a tag, or of a state before its init, makes no
- * difference.
+ * What was in the memory of a digest or a tag, or of a state before its init, makes no difference.
  *
  * No call allocates memory, keeps a pointer, or uses global data that changes: all calls may
  * run at once in any number of threads. Nothing is wiped from memory, neither keys nor texts. */
