@@ -53,6 +53,8 @@ quick:
 	tests/check rt all test
 
 bench: all
+	@echo "Measured on $$(date -u +%F), $$(uname -sr), as built for $(or $(CPU),x86-64-v2)"
+	@awk '/^(model name|flags)/ && !seen[$$1]++' /proc/cpuinfo && echo
 	@cd crates/ripemd_bench && rt run $(if $(CPU),--cpu $(CPU)) </dev/null >/dev/null
 	@tests/bench
 	@tests/linked | tee $(SPEED).txt

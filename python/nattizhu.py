@@ -25,7 +25,7 @@ __all__ = [
     "Hasher", "Hmac", "algorithms_available", "digest_each", "digest_list",
     "file_digest", "from_state", "hmac_digest", "hmac_digest_each",
     "hmac_digest_list", "hmac_from_state", "hmac_new", "hmac_verify", "new",
-    "ripemd128", "ripemd160", "ripemd256", "ripemd320",
+    "pbkdf2_hmac", "ripemd128", "ripemd160", "ripemd256", "ripemd320",
 ]
 __version__ = "0.1.0"
 
@@ -103,6 +103,9 @@ class _Calls:
         self.tag_final = call("_final", [place, place], prefix="hmac_")
         self.tag_verify = call(
             "_verify", [place] + read, prefix="hmac_")
+        self.pbkdf2 = call(
+            "", 2 * read + [ctypes.c_uint32, place, number],
+            prefix="pbkdf2_")
 
 
 def _all_calls():
@@ -479,6 +482,32 @@ def hmac_digest_list(key, messages, name):
     with _Bytes(key) as secret:
         return _list(calls, calls.tag_list, (secret.address, secret.length),
                      messages)
+
+
+def pbkdf2_hmac(hash_name, password, salt, iterations, dklen=None):
+    """The key of dklen bytes that PBKDF2 (RFC 8018) derives from the password
+    and the salt, as hashlib.pbkdf2_hmac has it; None is for as many bytes as
+    a digest has."""
+    calls = _calls(hash_name)
+    iterations = _positive(iterations, "iteration value")
+    if dklen is None:
+        dklen = calls.size
+    dklen = _positive(dklen, "key length")
+    with _Bytes(password) as secret, _Bytes(salt) as salted:
+        key = (ctypes.c_char * dklen)()
+        calls.pbkdf2(secret.address, secret.length, salted.address,
+                     salted.length, iterations, key, dklen)
+    return key.raw
+
+
+def _positive(number, what):
+    """The number, if it is in the range that hashlib takes it from."""
+    number = operator.index(number)
+    if number < 1:
+        raise ValueError(f"{what} must be greater than 0.")
+    if number >= 2**31:
+        raise OverflowError(f"{what} is too great.")
+    return number
 
 
 def hmac_from_state(name, state):

@@ -632,6 +632,105 @@ class Tags(unittest.TestCase):
                 nattizhu.hmac_digest(b"key", b"text", "ripemd160")))
 
 
+class Keys(unittest.TestCase):
+    def test_as_hashlib(self):
+        try:
+            hashlib.new("ripemd160")
+        except ValueError:
+            self.skipTest("hashlib has no ripemd160 here")
+        draw = random.Random(7)
+        for iterations in (1, 2, 3, 100):
+            for dklen in (None, 1, 19, 20, 21, 64, 192):
+                password = draw.randbytes(draw.choice((0, 8, 64, 65, 200)))
+                salt = draw.randbytes(draw.choice((0, 8, 64)))
+                arguments = "ripemd160", password, salt, iterations, dklen
+                self.assertEqual(nattizhu.pbkdf2_hmac(*arguments),
+                                 hashlib.pbkdf2_hmac(*arguments))
+
+    def test_other_implementations(self):
+        """The first of each variant in tests/keys.txt."""
+        wanted = {
+            "ripemd128":
+                "756433ef95e294e6cbadabc3e806b755efe460c8400a31cc4f5f2d23"
+                "37ba651cc7a2653769cfdc01b288c9e76e8fba4aa3d0e5d395c9ee",
+            "ripemd160":
+                "95948057310ca113412571efb203bbeedcc2555d24d45a8c3cd021a6"
+                "f714a324fcfa312ef638b48ac59b1e5a0becf09f5191a002478e944b"
+                "c587eb85313e628d26cca0",
+            "ripemd256":
+                "502a57f5ac0d9e9446c9b458335e114bab57d6e2c74f545c8bddb7e9"
+                "6b4d6c6d772eff31291b31a953748d87abf2c49626552dae3a53cb80"
+                "cf4fce577b4df87e856cc370865b8228cd5fce2af02ff71f28bb11a2"
+                "5ec968863b7e0e27ca9efdca7551c7451a389f",
+            "ripemd320":
+                "9dc5a9d5e7ff46f27008f03bf5c750a4cfb345455df03cc0ea7d19d0"
+                "376bd99f817af1f92e27863780a8da8aa5ccbd5751973eb4bd91c5d5"
+                "3d3fdb08bb9c730398622602e15843811faa7a685210ab659006de31"
+                "1224f699dd3cfec2fe2cd3984f66f1cb9a2c52be9672f7b84817d152"
+                "ff7b12c3a5cab6091d78e5322098d1",
+        }
+        for name, key in wanted.items():
+            key = bytes.fromhex(key)
+            self.assertEqual(nattizhu.pbkdf2_hmac(
+                name, bytearray(range(1, 9)), memoryview(bytes(range(8))),
+                iterations=3, dklen=len(key)), key)
+            self.assertEqual(nattizhu.pbkdf2_hmac(
+                hash_name=name.upper(), password=bytes(range(1, 9)),
+                salt=bytes(range(8)), iterations=3),
+                key[:nattizhu.new(name).digest_size])
+
+    def test_errors_are_those_of_hashlib(self):
+        names = {hashlib: "sha256", nattizhu: "ripemd256"}
+
+        def both(error, *arguments):
+            for module, name in names.items():
+                with self.subTest(module=module, arguments=arguments):
+                    with self.assertRaises(error) as caught:
+                        module.pbkdf2_hmac(name, *arguments)
+            return str(caught.exception)
+
+        for module in names:
+            for wrong in (None, 160, b"ripemd256"):
+                self.assertRaises(
+                    TypeError, module.pbkdf2_hmac, wrong, b"", b"", 1)
+            self.assertRaises(
+                ValueError, module.pbkdf2_hmac, "ripemd161", b"", b"", 1)
+        for wrong in ("text", None, 1, [1]):
+            both(TypeError, wrong, b"", 1)
+            both(TypeError, b"", wrong, 1)
+        for wrong in (1.0, "1", b"1"):
+            both(TypeError, b"", b"", wrong)
+            both(TypeError, b"", b"", 1, wrong)
+        both(TypeError, b"", b"", None)
+        both(TypeError, b"", b"")
+        both(TypeError, b"", b"", 1, 1, 1)
+        for wrong in (0, -1, -2**31):
+            self.assertEqual(both(ValueError, b"", b"", wrong),
+                             "iteration value must be greater than 0.")
+            self.assertEqual(both(ValueError, b"", b"", 1, wrong),
+                             "key length must be greater than 0.")
+        for wrong in (2**31, 2**32, 2**32 + 1, 2**64 + 1):
+            both(OverflowError, b"", b"", wrong)
+            both(OverflowError, b"", b"", 1, wrong)
+
+    def test_other_threads_run(self):
+        """The interpreter's lock is free while a key is derived."""
+        done = threading.Event()
+
+        def derive():
+            nattizhu.pbkdf2_hmac("ripemd160", b"password", b"salt", 300000)
+            done.set()
+
+        thread = threading.Thread(target=derive)
+        thread.start()
+        turns = 0
+        while not done.is_set():
+            turns += 1
+            done.wait(0.001)
+        thread.join()
+        self.assertGreater(turns, 10)
+
+
 class Files(unittest.TestCase):
     def test_files(self):
         message = random.Random(6).randbytes(600000)

@@ -1,6 +1,6 @@
 // Tries the functions of nattizhu.h as a caller in C has them, and as one in C++. All memory that is
 // handed over lies against an unmapped page, first behind it and then in front of it.
-//   c DIRECTORY        of digests-*.txt and tags.txt, whose lines other implementations gave
+//   c DIRECTORY        of digests-*.txt, tags.txt and keys.txt, whose lines other implementations gave
 #include <stdio.h>
 #include <stdlib.h>
 #include <string.h>
@@ -29,6 +29,7 @@ typedef struct {
   bool (*verify_text)(const uint8_t *, size_t, const uint8_t *, size_t, const uint8_t *, size_t);
   bool (*tag_each)(const uint8_t *, size_t, const uint8_t *, size_t, size_t, uint8_t *, size_t);
   void (*tag_list)(const uint8_t *, size_t, const nattizhu_message *, size_t, uint8_t *);
+  bool (*pbkdf2)(const uint8_t *, size_t, const uint8_t *, size_t, uint32_t, uint8_t *, size_t);
 } variant;
 
 #define STATE(bits) (nattizhu_ripemd##bits##_state *)(void *)
@@ -83,7 +84,8 @@ OF(320)
         NATTIZHU_HMAC_RIPEMD##bits##_STATE_SIZE, nattizhu_ripemd##bits, each_##bits, list_##bits,  \
         init_##bits, update_##bits, final_##bits, nattizhu_hmac_ripemd##bits, tag_init_##bits,     \
         tag_update_##bits, tag_final_##bits, tag_verify_##bits,                                    \
-        nattizhu_hmac_ripemd##bits##_verify_text, tag_each_##bits, tag_list_##bits                 \
+        nattizhu_hmac_ripemd##bits##_verify_text, tag_each_##bits, tag_list_##bits,                \
+        nattizhu_pbkdf2_ripemd##bits                                                               \
   }
 static const variant ALL[VARIANTS] = {FUNCTIONS(128), FUNCTIONS(160), FUNCTIONS(256),
                                       FUNCTIONS(320)};
@@ -374,6 +376,50 @@ static void try_wrong_lengths(const variant *v) {
   }
 }
 
+// ---- keys from passwords
+
+static void try_key(const variant *v, const uint8_t *password, size_t password_length,
+                    const uint8_t *salt, size_t salt_length, unsigned rounds, const char *wanted) {
+  uint8_t bytes[450];
+  size_t length = from_hex(wanted, bytes);
+  uint8_t *key = in_room(1, length);
+  memset(key, 7, length);
+  check(v->pbkdf2(copied(0, password, password_length), password_length,
+                  copied(2, salt, salt_length), salt_length, rounds, key, length) &&
+            !memcmp(key, bytes, length),
+        "a key", v->bits, length);
+}
+
+// Keys that are refused, and null pointers.
+static void try_keys(const variant *v, nattizhu_variant chosen) {
+  uint8_t some[90], none[90], *key = in_room(1, 90);
+  memset(key, 7, 90);
+  check(!v->pbkdf2(ramp, 8, ramp, 8, 0, key, 90) && all_are(key, 90, 7), "no rounds", v->bits, 0);
+  check(!v->pbkdf2(ramp, 8, ramp, 8, 0, NULL, 0), "no rounds and no key", v->bits, 0);
+  check(v->pbkdf2(ramp, 8, ramp, 8, 1, NULL, 0) && v->pbkdf2(ramp, 8, ramp, 8, 3, key, 0) &&
+            all_are(key, 90, 7),
+        "a key of no bytes", v->bits, 0);
+  check(v->pbkdf2(ramp, 0, ramp, 0, 2, some, 90) && v->pbkdf2(NULL, 0, NULL, 0, 2, none, 90) &&
+            !memcmp(some, none, 90),
+        "a null password and salt", v->bits, 0);
+  check(nattizhu_pbkdf2(chosen, ramp + 3, 70, ramp, 8, 3, some, 90) &&
+            v->pbkdf2(ramp + 3, 70, ramp, 8, 3, none, 90) && !memcmp(some, none, 90) &&
+            !nattizhu_pbkdf2(chosen, ramp, 8, ramp, 8, 0, key, 90) && all_are(key, 90, 7),
+        "a key by number", v->bits, 0);
+}
+
+// A key of one byte more than 2^32 - 1 digests, in memory that nothing may touch.
+static void try_too_long(const variant *v) {
+  size_t length = (size_t)0xffffffff * v->size + 1;
+  void *key = mmap(NULL, length, PROT_NONE, MAP_PRIVATE | MAP_ANONYMOUS | MAP_NORESERVE, -1, 0);
+  if (key == MAP_FAILED) {
+    printf("c: there are no addresses for a key that is too long\n");
+    return;
+  }
+  check(!v->pbkdf2(ramp, 8, ramp, 8, 1, (uint8_t *)key, length), "a key too long", v->bits, 0);
+  munmap(key, length);
+}
+
 // ---- what others gave
 
 static FILE *opened(const char *directory, const char *name) {
@@ -388,9 +434,10 @@ static FILE *opened(const char *directory, const char *name) {
 }
 
 static void try_files(const char *directory) {
-  char line[400], digits[100];
+  char line[1000], digits[900];
   uint8_t key[256];
-  size_t length, lines = 0;
+  size_t length, salt, lines = 0;
+  unsigned rounds;
   int bits;
   for (int i = 0; i < 256; i++)
     key[i] = (uint8_t)(i + 1);
@@ -411,6 +458,16 @@ static void try_files(const char *directory) {
       for (const variant *v = ALL; v < ALL + VARIANTS; v++)
         if (v->bits == bits && length < sizeof key) {
           try_tag(v, key, length, ramp, 150, digits);
+          lines++;
+        }
+  fclose(file);
+  file = opened(directory, "keys.txt");
+  while (fgets(line, sizeof line, file))
+    if (*line != '#' &&
+        sscanf(line, "%d %zu %zu %u %899s", &bits, &length, &salt, &rounds, digits) == 5)
+      for (const variant *v = ALL; v < ALL + VARIANTS; v++)
+        if (v->bits == bits && length < sizeof key) {
+          try_key(v, key, length, ramp, salt, rounds, digits);
           lines++;
         }
   fclose(file);
@@ -568,6 +625,7 @@ static void try_no_variant(void) {
       refused &= !nattizhu_digest(none, ramp, 3, out, size);
       refused &= !nattizhu_hmac(none, ramp, 3, ramp, 3, out, size);
       refused &= !nattizhu_hmac_verify_text(none, ramp, 3, ramp, 3, ramp, size);
+      refused &= !nattizhu_pbkdf2(none, ramp, 3, ramp, 3, 1, out, size);
     }
     refused &= !nattizhu_init(&state, none) && !nattizhu_update(&state, ramp, 3) &&
                !nattizhu_final(&state, out, 7) && !nattizhu_final(&state, out, 20);
@@ -627,8 +685,11 @@ int main(int argc, char **argv) {
       try_null(v);
       try_chosen(v, numbers[v - ALL]);
       try_chosen_tags(v, numbers[v - ALL]);
+      try_keys(v, numbers[v - ALL]);
     }
   }
+  for (const variant *v = ALL; v < ALL + VARIANTS; v++)
+    try_too_long(v);
   try_no_variant();
   try_saved_hmac();
   check(!strcmp(nattizhu_version(), NATTIZHU_VERSION), "the version", 0, 0);

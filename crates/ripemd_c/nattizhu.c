@@ -45,6 +45,8 @@ static size_t next_group(nattizhu_message group[GROUP], const nattizhu_message *
                                                    const uint8_t *, size_t);                       \
   bool nattizhu_hmac_ripemd##bits##_verify_nonnull(const nattizhu_hmac_ripemd##bits##_state *,     \
                                                    const uint8_t *, size_t);                       \
+  bool nattizhu_pbkdf2_ripemd##bits##_nonnull(const uint8_t *, size_t, const uint8_t *, size_t,    \
+                                              uint32_t, uint8_t *, size_t);                        \
                                                                                                    \
   void nattizhu_ripemd##bits(const uint8_t *message, size_t length, uint8_t digest[SIZE]) {        \
     nattizhu_ripemd##bits##_nonnull(some(message), length, digest);                                \
@@ -121,6 +123,15 @@ static size_t next_group(nattizhu_message group[GROUP], const nattizhu_message *
   bool nattizhu_hmac_ripemd##bits##_verify(const nattizhu_hmac_ripemd##bits##_state *state,        \
                                            const uint8_t *tag, size_t length) {                    \
     return nattizhu_hmac_ripemd##bits##_verify_nonnull(state, some(tag), length);                  \
+  }                                                                                                \
+                                                                                                   \
+  bool nattizhu_pbkdf2_ripemd##bits(const uint8_t *password, size_t password_length,               \
+                                    const uint8_t *salt, size_t salt_length, uint32_t rounds,      \
+                                    uint8_t *key, size_t key_length) {                             \
+    uint8_t none[1];                                                                               \
+    return nattizhu_pbkdf2_ripemd##bits##_nonnull(some(password), password_length, some(salt),     \
+                                                  salt_length, rounds, key ? key : none,           \
+                                                  key_length);                                     \
   }
 
 FUNCTIONS(128, NATTIZHU_RIPEMD128_SIZE)
@@ -296,6 +307,20 @@ bool nattizhu_hmac_verify(const nattizhu_hmac_state *state, const uint8_t *tag, 
 #define CASE(bits)                                                                                 \
   case NATTIZHU_RIPEMD##bits##_SIZE:                                                               \
     return nattizhu_hmac_ripemd##bits##_verify(&state->of.ripemd##bits, tag, length);
+    EACH_VARIANT
+#undef CASE
+  }
+  return false;
+}
+
+bool nattizhu_pbkdf2(nattizhu_variant variant, const uint8_t *password, size_t password_length,
+                     const uint8_t *salt, size_t salt_length, uint32_t rounds, uint8_t *key,
+                     size_t key_length) {
+  switch (variant) {
+#define CASE(bits)                                                                                 \
+  case NATTIZHU_RIPEMD##bits:                                                                      \
+    return nattizhu_pbkdf2_ripemd##bits(password, password_length, salt, salt_length, rounds, key, \
+                                        key_length);
     EACH_VARIANT
 #undef CASE
   }

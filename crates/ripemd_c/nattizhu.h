@@ -1,4 +1,5 @@
-/* Nattizhu: RIPEMD-128, RIPEMD-160, RIPEMD-256 and RIPEMD-320 (1996) and HMAC over them (RFC 2104).
+/* Nattizhu: RIPEMD-128, RIPEMD-160, RIPEMD-256 and RIPEMD-320 (1996), HMAC over them (RFC 2104), and
+ * keys from passwords by HMAC (PBKDF2, RFC 8018).
  *
  * What the functions in Rattle write and return is proved. nattizhu.c, which calls them and is
  * tested, replaces null pointers, hands lists on in groups, and chooses the variant where that is a
@@ -277,6 +278,24 @@ NATTIZHU_CHECKED bool nattizhu_hmac_ripemd256_verify(const nattizhu_hmac_ripemd2
 NATTIZHU_CHECKED bool nattizhu_hmac_ripemd320_verify(const nattizhu_hmac_ripemd320_state *state,
                                                      const uint8_t *tag, size_t length);
 
+/* ---- Keys from passwords (PBKDF2, RFC 8018) */
+
+/* Derives a key of `key_length` bytes from the password and the salt by HMAC over the hash function, so
+ * many rounds of it, and returns true. If `rounds` is 0, or the key is longer than 2^32 - 1 digests, the
+ * call writes nothing and returns false. */
+NATTIZHU_CHECKED bool nattizhu_pbkdf2_ripemd128(const uint8_t *password, size_t password_length,
+                                                const uint8_t *salt, size_t salt_length,
+                                                uint32_t rounds, uint8_t *key, size_t key_length);
+NATTIZHU_CHECKED bool nattizhu_pbkdf2_ripemd160(const uint8_t *password, size_t password_length,
+                                                const uint8_t *salt, size_t salt_length,
+                                                uint32_t rounds, uint8_t *key, size_t key_length);
+NATTIZHU_CHECKED bool nattizhu_pbkdf2_ripemd256(const uint8_t *password, size_t password_length,
+                                                const uint8_t *salt, size_t salt_length,
+                                                uint32_t rounds, uint8_t *key, size_t key_length);
+NATTIZHU_CHECKED bool nattizhu_pbkdf2_ripemd320(const uint8_t *password, size_t password_length,
+                                                const uint8_t *salt, size_t salt_length,
+                                                uint32_t rounds, uint8_t *key, size_t key_length);
+
 /* ---- The variant chosen while a program runs
  *
  * These do what the functions of the variant do. They return false, and write nothing, also if there is
@@ -339,6 +358,11 @@ NATTIZHU_CHECKED bool nattizhu_hmac_final(const nattizhu_hmac_state *state, uint
                                           size_t size);
 NATTIZHU_CHECKED bool nattizhu_hmac_verify(const nattizhu_hmac_state *state, const uint8_t *tag,
                                            size_t length);
+
+NATTIZHU_CHECKED bool nattizhu_pbkdf2(nattizhu_variant variant, const uint8_t *password,
+                                      size_t password_length, const uint8_t *salt,
+                                      size_t salt_length, uint32_t rounds, uint8_t *key,
+                                      size_t key_length);
 
 #ifdef __cplusplus
 }

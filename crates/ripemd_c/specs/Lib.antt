@@ -1,3 +1,5 @@
+-- Keys derived from passwords.
+pub mod Keys
 -- Records that lie one after another, and what calls over records and lists write.
 pub mod Records
 -- The saved bytes of hash states and of HMAC states.

@@ -1,5 +1,6 @@
 //! RIPEMD-128, RIPEMD-160, RIPEMD-256 and RIPEMD-320 (1996) for callers in C: digests of messages,
-//! whole and in pieces, digests of many records of one size, and tags (HMAC, RFC 2104).
+//! whole and in pieces, digests of many messages, tags (HMAC, RFC 2104), and keys derived from passwords
+//! (PBKDF2, RFC 8018).
 //!
 //! C calls these functions through `nattizhu.h`. A name that ends in `_nonnull` takes slices, whose
 //! pointer may not be null; the header has a function without this ending, which may be given a null
@@ -12,6 +13,7 @@ ghost use Rattle.ripemd.specs.Standard.Hashing.{ripemd};
 
 pub mod each;
 pub mod facts;
+pub mod keys;
 mod states;
 pub mod streams;
 pub mod tags;

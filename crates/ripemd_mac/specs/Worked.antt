@@ -13,6 +13,7 @@ use Rattle.ripemd_mac.specs.declared.reduction.MacCollision.TheVariants.{Inner, 
 use Rattle.ripemd_mac.specs.Keyed.{hmac, inner_message, outer_message}
 use Rattle.ripemd_mac.specs.MacCollisions.{InnerAgree, IsMacCollision}
 use Rattle.ripemd_mac.specs.Saved.{IsSavedFor}
+use Rattle.ripemd_mac.specs.Pbkdf2.{pbkdf2}
 
 -- ---- tags
 
@@ -88,3 +89,15 @@ pub record WorkedMacCollisions : Type 0 where
       (Outer (second_blocks 0 (outer_message small_hash [] (block_of 0)) (outer_message small_hash [] (block_of 2))))
   pub no_outer : (c : Collision ℕ) → ¬ Meets 1 3 (Outer c)
   pub no_inner : (c : Collision ℕ) → ¬ Meets 0 2 (Inner c)
+
+-- ---- keys from passwords
+
+abbrev pub derived : (P S : List ℕ) → (c dkLen : ℕ) → List ℕ
+derived P S c dkLen = hexadecimal (pbkdf2 (hmac (ripemd ripemd160)) 20 P S c dkLen)
+
+-- those that OpenSSL and libgcrypt give
+pub record WorkedKeys : Type 0 where
+  pub one : derived (codes "password") (codes "salt") 1 20 ≡ codes "b725258b125e0bacb0e2307e34feb16a4d0d6aed"
+  pub two : derived (codes "password") (codes "salt") 2 45 ≡ codes "768dcc27b7bfdef794a1ff9d935090fcf598555e66913180b9ce363c615e9ed953b95fd07169be535e38afbea2"
+  pub no_salt : derived (codes "password") [] 3 20 ≡ codes "22f218113a0d856b0ec1a8a5308b1f94e00e4386"
+  pub long_password : derived (replicate 65 0x61) (codes "salt") 1 25 ≡ codes "85890e1e1d2403309e94d5d319895e7fd1b8565eb520b0e34a"

@@ -1,7 +1,7 @@
 //! Worked examples of the definitions, proved. The functions do nothing; their contracts are the
 //! facts.
 
-ghost use Rattle.ripemd_mac.specs.Worked.{WorkedTags, WorkedSaved, WorkedMacCollisions};
+ghost use Rattle.ripemd_mac.specs.Worked.{WorkedTags, WorkedSaved, WorkedKeys, WorkedMacCollisions};
 
 /// The definition gives the tags of RFC 2286 under keys shorter and longer than a block, and what
 /// OpenSSL gives under a key of a whole block.
@@ -17,4 +17,9 @@ pub fn saved_tag()
 /// Collisions of a small block function, inside the inner messages and inside the outer ones.
 pub fn mac_collisions()
     ensures { WorkedMacCollisions }
+{}
+
+/// The definition gives the keys that OpenSSL and libgcrypt derive.
+pub fn keys()
+    ensures { WorkedKeys }
 {}

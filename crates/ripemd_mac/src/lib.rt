@@ -4,7 +4,9 @@
 
 pub mod facts;
 pub mod keyed;
+pub mod passwords;
 pub mod reduction;
 
 pub use keyed::{Hmac, MaskedKeys, masked_keys};
+pub use passwords::{Pbkdf2Error, pbkdf2};
 pub use reduction::{MacCollision, mac_collision};

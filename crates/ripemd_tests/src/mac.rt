@@ -3,6 +3,7 @@
 mod collisions;
 mod forged;
 mod keys;
+mod passwords;
 mod published;
 mod toys;
 mod verified;

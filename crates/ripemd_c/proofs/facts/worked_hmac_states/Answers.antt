@@ -2,8 +2,7 @@ use Rattle.std.proofs.Common.{List, ◌++◌, subst}
 use Rattle.ripemd.specs.Standard.Words.{word_bytes}
 use Rattle.ripemd.specs.States.{AreWords}
 use Rattle.ripemd.specs.Saved.{IsSaved}
-use Rattle.ripemd_mac.specs.Keyed.{IsKeyedState}
-use Rattle.ripemd_mac.specs.Saved.{hmac_bytes}
+use Rattle.ripemd_mac.specs.Saved.{IsKeyedState, hmac_bytes}
 use Rattle.ripemd_mac.specs.Worked.{saved_inner, saved_outer}
 use Rattle.ripemd_c.proofs.facts.worked_hmac_states.Goals as goal
 
