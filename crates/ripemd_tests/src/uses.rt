@@ -13,7 +13,7 @@ use ripemd_uses::calling::{
 use ripemd_uses::commands::digests_of_ends;
 use ripemd_uses::readme::digest_of_two;
 use ripemd_uses::tags::{
-    has_tag, has_tag_by, saved_after, tag_of_saved, tag_of_two, tags_of_two, toy_tag,
+    derived_key, has_tag, has_tag_by, saved_after, tag_of_saved, tag_of_two, tags_of_two, toy_tag,
 };
 use std::io;
 use std::io::Read;
@@ -171,6 +171,18 @@ fn tags_of_many(rt: HostRuntime) {
 fn toy_tags(rt: HostRuntime) {
     assert!(rt; toy_tag(&[0x0b; 20], b"Hi There") == [0x22]);
     assert!(rt; toy_tag(&[], &[]) == [0xea]);
+}
+
+// The key that OpenSSL derives.
+const KEY: [u8; 32] = [
+    0x76, 0x8d, 0xcc, 0x27, 0xb7, 0xbf, 0xde, 0xf7, 0x94, 0xa1, 0xff, 0x9d, 0x93, 0x50, 0x90, 0xfc,
+    0xf5, 0x98, 0x55, 0x5e, 0x66, 0x91, 0x31, 0x80, 0xb9, 0xce, 0x36, 0x3c, 0x61, 0x5e, 0x9e, 0xd9,
+];
+
+#[test]
+fn keys(rt: HostRuntime) {
+    assert!(rt; derived_key(b"password", b"salt", 2) == Ok(KEY));
+    assert!(rt; derived_key(b"password", b"salt", 0).is_err());
 }
 
 // Records, of which one has not the digest that is wanted.

@@ -118,3 +118,21 @@ pub fn toy_tag(key: &[u8], text: &[u8]) -> [u8; 1]
     mac.update(text);
     mac.finalize()
 }
+
+ghost use Rattle.ripemd_mac.specs.Pbkdf2.{pbkdf2};
+
+use ripemd_mac::{Pbkdf2Error, pbkdf2};
+
+/// The key of 32 bytes that is derived from a password and a salt, with HMAC over RIPEMD-160.
+///
+/// # Errors
+///
+/// `Pbkdf2Error::NoRounds` if `rounds` is 0.
+pub fn derived_key(password: &[u8], salt: &[u8], rounds: u32) -> Result<[u8; 32], Pbkdf2Error>
+    ensures ok { IfOk result (λ key. key
+        ≡ pbkdf2 (hmac (ripemd ripemd160)) 20 password.now salt.now rounds 32) }
+{
+    let mut key = [0; 32];
+    pbkdf2::<Ripemd160>(password, salt, rounds, &mut key)?;
+    Ok(key)
+}
