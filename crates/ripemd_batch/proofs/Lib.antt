@@ -1,6 +1,9 @@
 pub mod Blocks
+pub mod Chaining
+pub mod DigestWords
 pub mod EightLanes
 pub mod Factored
+pub mod KeyBlocks
 pub mod OneLane
 pub mod Placing
 pub mod Tagging

@@ -1,13 +1,12 @@
 //! The compression function of RIPEMD-128 (1996, pseudo-code), of eight messages: both lines start
 //! from the whole state, and nothing is exchanged between them.
 
-ghost use Rattle.std.specs.Prelude.{◌≡◌, ◌<◌, ℕ};
+ghost use Rattle.std.specs.Prelude.{◌≡◌, ◌<◌, ℕ, List};
 ghost use Rattle.ripemd_block.specs.Standard.Compression.{joint_state, compress, ripemd128};
-ghost use Rattle.ripemd_batch.specs.Lanes.{lane_of, list_at, targets};
+ghost use Rattle.ripemd_batch.specs.Lanes.{HasWords, lane_of};
 
 use crate::eight::Eight;
 use crate::four_registers::{Lines, round};
-use crate::message::message_words;
 
 // The states that take the registers of both lines in.
 #[inline(always)]
@@ -26,19 +25,20 @@ fn joint_state(state: [Eight; 4], lines: Lines) -> [Eight; 4]
     ]
 }
 
-/// The states after one more block of each message.
-pub(crate) fn compress(state: [Eight; 4], blocks: &[&[u8; 64]; 8]) -> [Eight; 4]
-    ensures { (j : ℕ) → j < 8 → lane_of 4 j result
-        ≡ compress ripemd128 (lane_of 4 j state) (list_at (targets blocks.now) j) }
+/// The states after one more block of each message, of which these are the message words.
+#[inline(always)]
+pub(crate) fn compress(state: [Eight; 4], words: &[Eight; 16]) -> [Eight; 4]
+    ensures { (j : ℕ) → j < 8 → (block : List ℕ) → HasWords words.now j block
+        → lane_of 4 j result
+        ≡ compress ripemd128 (lane_of 4 j state) block }
 {
-    let words = message_words(blocks);
     let lines = Lines {
         left: state,
         right: state,
     };
-    let lines = round::<0>(&words, lines);
-    let lines = round::<1>(&words, lines);
-    let lines = round::<2>(&words, lines);
-    let lines = round::<3>(&words, lines);
+    let lines = round::<0>(words, lines);
+    let lines = round::<1>(words, lines);
+    let lines = round::<2>(words, lines);
+    let lines = round::<3>(words, lines);
     joint_state(state, lines)
 }

@@ -1,14 +1,13 @@
 //! The compression function of RIPEMD-256 (1996, extension to 256 bits), of eight messages: each
 //! line starts from its half of the state, and after each round the lines exchange a register.
 
-ghost use Rattle.std.specs.Prelude.{◌≡◌, ◌<◌, ℕ};
+ghost use Rattle.std.specs.Prelude.{◌≡◌, ◌<◌, ℕ, List};
 ghost use Rattle.ripemd_block.specs.Standard.Compression.{lines_from, double_state};
 ghost use Rattle.ripemd_block.specs.Standard.Compression.{compress, ripemd256};
-ghost use Rattle.ripemd_batch.specs.Lanes.{lane_of, lines_of_four_registers, list_at, targets};
+ghost use Rattle.ripemd_batch.specs.Lanes.{HasWords, lane_of, lines_of_four_registers};
 
 use crate::eight::Eight;
 use crate::four_registers::{Lines, exchange, round};
-use crate::message::message_words;
 
 // Where the lines start.
 #[inline(always)]
@@ -43,17 +42,18 @@ fn double_state(state: [Eight; 8], lines: Lines) -> [Eight; 8]
     ]
 }
 
-/// The states after one more block of each message. The registers that are exchanged are A, B, C
+/// The states after one more block of each message, of which these are the message words. The registers that are exchanged are A, B, C
 /// and D in turn.
-pub(crate) fn compress(state: [Eight; 8], blocks: &[&[u8; 64]; 8]) -> [Eight; 8]
-    ensures { (j : ℕ) → j < 8 → lane_of 8 j result
-        ≡ compress ripemd256 (lane_of 8 j state) (list_at (targets blocks.now) j) }
+#[inline(always)]
+pub(crate) fn compress(state: [Eight; 8], words: &[Eight; 16]) -> [Eight; 8]
+    ensures { (j : ℕ) → j < 8 → (block : List ℕ) → HasWords words.now j block
+        → lane_of 8 j result
+        ≡ compress ripemd256 (lane_of 8 j state) block }
 {
-    let words = message_words(blocks);
     let lines = lines_from(state);
-    let lines = exchange(0, round::<0>(&words, lines));
-    let lines = exchange(1, round::<1>(&words, lines));
-    let lines = exchange(2, round::<2>(&words, lines));
-    let lines = exchange(3, round::<3>(&words, lines));
+    let lines = exchange(0, round::<0>(words, lines));
+    let lines = exchange(1, round::<1>(words, lines));
+    let lines = exchange(2, round::<2>(words, lines));
+    let lines = exchange(3, round::<3>(words, lines));
     double_state(state, lines)
 }

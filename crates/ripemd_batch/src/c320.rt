@@ -1,14 +1,13 @@
 //! The compression function of RIPEMD-320 (1996, extension to 320 bits), of eight messages: each
 //! line starts from its half of the state, and after each round the lines exchange a register.
 
-ghost use Rattle.std.specs.Prelude.{◌≡◌, ◌<◌, ℕ};
+ghost use Rattle.std.specs.Prelude.{◌≡◌, ◌<◌, ℕ, List};
 ghost use Rattle.ripemd_block.specs.Standard.Compression.{lines_from, double_state};
 ghost use Rattle.ripemd_block.specs.Standard.Compression.{compress, ripemd320};
-ghost use Rattle.ripemd_batch.specs.Lanes.{lane_of, lines_of_five_registers, list_at, targets};
+ghost use Rattle.ripemd_batch.specs.Lanes.{HasWords, lane_of, lines_of_five_registers};
 
 use crate::eight::Eight;
 use crate::five_registers::{Lines, exchange, round};
-use crate::message::message_words;
 
 // Where the lines start.
 #[inline(always)]
@@ -45,18 +44,19 @@ fn double_state(state: [Eight; 10], lines: Lines) -> [Eight; 10]
     ]
 }
 
-/// The states after one more block of each message. The registers that are exchanged are B, D, A,
+/// The states after one more block of each message, of which these are the message words. The registers that are exchanged are B, D, A,
 /// C and E in turn.
-pub(crate) fn compress(state: [Eight; 10], blocks: &[&[u8; 64]; 8]) -> [Eight; 10]
-    ensures { (j : ℕ) → j < 8 → lane_of 10 j result
-        ≡ compress ripemd320 (lane_of 10 j state) (list_at (targets blocks.now) j) }
+#[inline(always)]
+pub(crate) fn compress(state: [Eight; 10], words: &[Eight; 16]) -> [Eight; 10]
+    ensures { (j : ℕ) → j < 8 → (block : List ℕ) → HasWords words.now j block
+        → lane_of 10 j result
+        ≡ compress ripemd320 (lane_of 10 j state) block }
 {
-    let words = message_words(blocks);
     let lines = lines_from(state);
-    let lines = exchange(1, round::<0>(&words, lines));
-    let lines = exchange(3, round::<1>(&words, lines));
-    let lines = exchange(0, round::<2>(&words, lines));
-    let lines = exchange(2, round::<3>(&words, lines));
-    let lines = exchange(4, round::<4>(&words, lines));
+    let lines = exchange(1, round::<0>(words, lines));
+    let lines = exchange(3, round::<1>(words, lines));
+    let lines = exchange(0, round::<2>(words, lines));
+    let lines = exchange(2, round::<3>(words, lines));
+    let lines = exchange(4, round::<4>(words, lines));
     double_state(state, lines)
 }

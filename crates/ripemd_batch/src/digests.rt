@@ -7,6 +7,7 @@ ghost use Rattle.ripemd_batch.specs.Lanes.{list_at, targets, blocks_of, padded_a
 
 use crate::eight::Eight;
 use crate::lists::ListHasher;
+use crate::message::message_words;
 use crate::padded::MessageBlocks;
 use crate::states::EightStates;
 use ripemd::digest::BlockDigest;
@@ -209,7 +210,7 @@ fn digest_one_by_one<D: BatchDigest>(
 }
 
 // The digest of one message.
-fn digest_one<D: BatchDigest>(first: StateOf<D>, before: u64, message: &[u8]) -> D::Output
+pub(crate) fn digest_one<D: BatchDigest>(first: StateOf<D>, before: u64, message: &[u8]) -> D::Output
     requires { D.States.Function.is_state first }
     ensures { D.bytes_of result
         ≡ hash_after before (D.States.Function.list first) D.step D.output message.now }
@@ -242,7 +243,7 @@ fn message_or_empty<'a>(messages: &[&'a [u8]], i: usize) -> &'a [u8]
 
 // The last states of the walks through the blocks of at most eight messages. Each message has two
 // blocks here, in which its padding is made.
-fn walk_group<S: EightStates>(
+pub(crate) fn walk_group<S: EightStates>(
     first: <S::Function as BlockFunction>::State,
     before: u64,
     messages: &[&[u8]],
@@ -363,7 +364,16 @@ fn compress_block<S: EightStates>(states: S, blocks: &[MessageBlocks; 8], i: usi
         ≡ S.Function.step (S.words_of j states)
         (slice_index_or (blocks_of blocks.now j) i []) }
 {
-    states.compress(&[
+    states.compress(&message_words(&blocks_at(blocks, i)))
+}
+
+// Block `i` of each message that has one.
+#[inline(always)]
+fn blocks_at<'a>(blocks: &'a [MessageBlocks; 8], i: usize) -> [&'a [u8; 64]; 8]
+    ensures { (j : ℕ) → j < 8 → i < length (blocks_of blocks.now j)
+        → list_at (targets result) j ≡ slice_index_or (blocks_of blocks.now j) i [] }
+{
+    [
         blocks[0].at(i),
         blocks[1].at(i),
         blocks[2].at(i),
@@ -372,5 +382,5 @@ fn compress_block<S: EightStates>(states: S, blocks: &[MessageBlocks; 8], i: usi
         blocks[5].at(i),
         blocks[6].at(i),
         blocks[7].at(i),
-    ])
+    ]
 }

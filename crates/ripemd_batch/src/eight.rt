@@ -67,6 +67,15 @@ impl Eight {
         }
     }
 
+    /// The same words, of which contracts then know that they are below 2^32.
+    #[inline(always)]
+    pub fn known(self) -> Self
+        ensures same { result ≡ self }
+        ensures words { (j : ℕ) → j < 8 → slice_index result j < 2 ^ 32 }
+    {
+        self
+    }
+
     /// The sums of the words, modulo 2^32.
     #[inline(always)]
     pub fn add(self, other: Self) -> Self

@@ -14,6 +14,7 @@ mod four_words;
 pub mod lists;
 mod message;
 mod padded;
+pub mod passwords;
 mod states;
 mod steps;
 pub mod tags;

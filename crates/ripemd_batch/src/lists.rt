@@ -97,7 +97,7 @@ impl<D: BatchDigest> ListHasher<D> {
 }
 
 // The state after one block.
-fn state_after<D: BatchDigest>(block: [u8; 64]) -> StateOf<D>
+pub(crate) fn state_after<D: BatchDigest>(block: [u8; 64]) -> StateOf<D>
     ensures value { D.States.Function.list result ≡ D.step D.start block }
     ensures valid { D.States.Function.is_state result }
 {

@@ -1,8 +1,11 @@
 //! The states of eight messages, and what differs between the variants: how many words a state has,
 //! and what a block does to them.
 
-ghost use Rattle.std.specs.Prelude.{◌≡◌, ℕ, ◌<◌, List, slice_index};
-ghost use Rattle.ripemd_batch.specs.Lanes.{lane_of, list_at, targets};
+ghost use Rattle.std.specs.Prelude.{◌≡◌, ℕ, ◌<◌, ◌≤◌, ◌+◌, ◌-◌, ◌*◌, ◌^◌, List, [], ◌∷◌, ◌++◌, length, replicate, slice_index};
+ghost use Rattle.std.specs.Int.Bits.{bit_xor};
+ghost use Rattle.std.specs.Simd.Lanes.{zip2};
+ghost use Rattle.ripemd_block.specs.Standard.Words.{word_bytes};
+ghost use Rattle.ripemd_batch.specs.Lanes.{HasWords, lane_of, padded_after, padding_words};
 
 use crate::eight::Eight;
 use crate::{c128, c160, c256, c320};
@@ -27,10 +30,23 @@ pub trait EightStates: Copy {
     fn splat(words: <Self::Function as BlockFunction>::State) -> Self
         ensures { (j : ℕ) → j < 8 → words_of j result ≡ Self.Function.list words };
 
-    // The states after one more block of each message.
-    fn compress(self, blocks: &[&[u8; 64]; 8]) -> Self
-        ensures { (j : ℕ) → j < 8 → words_of j result
-            ≡ Self.Function.step (words_of j self) (list_at (targets blocks.now) j) };
+    // The states after one more block of each message, of which these are the message words.
+    fn compress(self, words: &[Eight; 16]) -> Self
+        ensures { (j : ℕ) → j < 8 → (block : List ℕ) → HasWords words.now j block
+            → words_of j result ≡ Self.Function.step (words_of j self) block };
+
+    // The message words of the outputs with their padding, as messages after one block: a block each.
+    fn last_words(self) -> [Eight; 16]
+        ensures words { (j : ℕ) → j < 8
+            → HasWords result j (padded_after 64 (Self.Function.output (words_of j self))) }
+        ensures size { (j : ℕ) → j < 8
+            → length (padded_after 64 (Self.Function.output (words_of j self))) ≡ 64 };
+
+    // The states whose outputs have the bits in which those of the two differ.
+    fn xor(self, other: Self) -> Self
+        ensures { (j : ℕ) → j < 8 → Self.Function.output (words_of j result)
+            ≡ zip2 bit_xor (Self.Function.output (words_of j self))
+            (Self.Function.output (words_of j other)) };
 
     // The new states of the messages whose word in `live` has all bits set, and the old ones of
     // those where it is 0.
@@ -76,6 +92,69 @@ fn select_each<const N: usize>(live: Eight, new: [Eight; N], old: [Eight; N]) ->
     states
 }
 
+// The message words of the outputs of the states with their padding, as messages after one block.
+#[inline(always)]
+fn last_words_of<const N: usize>(states: [Eight; N]) -> [Eight; 16]
+    requires { N ≤ 13 }
+    ensures words { (j : ℕ) → j < 8
+        → HasWords result j (padded_after 64 (word_bytes (lane_of N j states.entry))) }
+    ensures size { (j : ℕ) → j < 8
+        → length (padded_after 64 (word_bytes (lane_of N j states.entry))) ≡ 64 }
+{
+    let mut words = [Eight::splat(0); 16];
+    for i in 0..16 {
+        words[i] = last_word(&states, i);
+    }
+    words
+}
+
+// Word `i` of them.
+#[inline(always)]
+fn last_word<const N: usize>(states: &[Eight; N], i: usize) -> Eight
+    requires few { N ≤ 13 }
+    requires word { i < 16 }
+    ensures value { (j : ℕ) → j < 8 → slice_index result j
+        ≡ slice_index (lane_of N j states.now ++ padding_words N) i }
+    ensures fits { (j : ℕ) → j < 8 → slice_index result j < 2 ^ 32 }
+{
+    if i < N {
+        states[i].known()
+    } else {
+        Eight::splat(padding_word(N, i))
+    }
+}
+
+// Word `i` of the last block of a message of one block and `n` words, behind these.
+#[inline(always)]
+fn padding_word(n: usize, i: usize) -> u32
+    requires few { n ≤ 13 }
+    requires behind { n ≤ i }
+    requires word { i < 16 }
+    ensures { result ≡ slice_index (padding_words n) (i - n) }
+{
+    if i == n {
+        0x80
+    } else if i == 14 {
+        512 + 32 * n as u32
+    } else {
+        0
+    }
+}
+
+// The bits in which the words differ.
+#[tactic(auto, using(crate::proofs::DigestWords::xor_lane))]
+#[inline(always)]
+fn xor_each<const N: usize>(a: [Eight; N], b: [Eight; N]) -> [Eight; N]
+    ensures { (j : ℕ) → j < 8 → word_bytes (lane_of N j result)
+        ≡ zip2 bit_xor (word_bytes (lane_of N j a.entry)) (word_bytes (lane_of N j b.entry)) }
+{
+    let mut differ = a;
+    for i in 0..N {
+        differ[i] = a[i].xor(b[i]);
+    }
+    differ
+}
+
 // The words of message `j`.
 #[tactic(auto, using(crate::proofs::OneLane::lane_is))]
 #[inline(always)]
@@ -101,8 +180,16 @@ impl EightStates for [Eight; 4] {
         splat_each(words)
     }
 
-    fn compress(self, blocks: &[&[u8; 64]; 8]) -> [Eight; 4] {
-        c128::compress(self, blocks)
+    fn compress(self, words: &[Eight; 16]) -> [Eight; 4] {
+        c128::compress(self, words)
+    }
+
+    fn last_words(self) -> [Eight; 16] {
+        last_words_of(self)
+    }
+
+    fn xor(self, other: [Eight; 4]) -> [Eight; 4] {
+        xor_each(self, other)
     }
 
     fn select(live: Eight, new: [Eight; 4], old: [Eight; 4]) -> [Eight; 4] {
@@ -125,8 +212,16 @@ impl EightStates for [Eight; 5] {
         splat_each(words)
     }
 
-    fn compress(self, blocks: &[&[u8; 64]; 8]) -> [Eight; 5] {
-        c160::compress(self, blocks)
+    fn compress(self, words: &[Eight; 16]) -> [Eight; 5] {
+        c160::compress(self, words)
+    }
+
+    fn last_words(self) -> [Eight; 16] {
+        last_words_of(self)
+    }
+
+    fn xor(self, other: [Eight; 5]) -> [Eight; 5] {
+        xor_each(self, other)
     }
 
     fn select(live: Eight, new: [Eight; 5], old: [Eight; 5]) -> [Eight; 5] {
@@ -149,8 +244,16 @@ impl EightStates for [Eight; 8] {
         splat_each(words)
     }
 
-    fn compress(self, blocks: &[&[u8; 64]; 8]) -> [Eight; 8] {
-        c256::compress(self, blocks)
+    fn compress(self, words: &[Eight; 16]) -> [Eight; 8] {
+        c256::compress(self, words)
+    }
+
+    fn last_words(self) -> [Eight; 16] {
+        last_words_of(self)
+    }
+
+    fn xor(self, other: [Eight; 8]) -> [Eight; 8] {
+        xor_each(self, other)
     }
 
     fn select(live: Eight, new: [Eight; 8], old: [Eight; 8]) -> [Eight; 8] {
@@ -173,8 +276,16 @@ impl EightStates for [Eight; 10] {
         splat_each(words)
     }
 
-    fn compress(self, blocks: &[&[u8; 64]; 8]) -> [Eight; 10] {
-        c320::compress(self, blocks)
+    fn compress(self, words: &[Eight; 16]) -> [Eight; 10] {
+        c320::compress(self, words)
+    }
+
+    fn last_words(self) -> [Eight; 16] {
+        last_words_of(self)
+    }
+
+    fn xor(self, other: [Eight; 10]) -> [Eight; 10] {
+        xor_each(self, other)
     }
 
     fn select(live: Eight, new: [Eight; 10], old: [Eight; 10]) -> [Eight; 10] {

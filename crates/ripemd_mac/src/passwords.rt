@@ -45,13 +45,8 @@ pub fn pbkdf2<D: BlockDigest>(
         → (2 ^ 32 - 1) * D.OUTPUT_SIZE < length key.old) }
     ensures unchanged { IfErr result (λ _. key.new ≡ key.old) }
 {
-    if rounds == 0 {
-        return Err(Pbkdf2Error::NoRounds);
-    }
     let size = D::OUTPUT_SIZE;
-    if size.saturating_mul(0xffff_ffff) < key.len() {
-        return Err(Pbkdf2Error::KeyTooLong);
-    }
+    allowed(rounds, size, key.len())?;
     if key.is_empty() {
         return Ok(());
     }
@@ -68,8 +63,28 @@ pub fn pbkdf2<D: BlockDigest>(
     Ok(())
 }
 
-// Writes the front of a block.
-fn write_front(block: &[u8; 64], part: &mut [u8])
+/// Whether a key of so many bytes may be derived by so many rounds, where a digest has `size` bytes.
+///
+/// # Errors
+///
+/// `NoRounds` if `rounds` is 0, and else `KeyTooLong` if the key is longer than 2^32 - 1 digests.
+pub fn allowed(rounds: u32, size: usize, len: usize) -> Result<(), Pbkdf2Error>
+    ensures ok { IfOk result (λ _. (rounds ≢ 0) × (len ≤ (2 ^ 32 - 1) * size)) }
+    ensures no_rounds { IfErr result (λ why. (why ≡ Pbkdf2Error.NoRounds) ↔ (rounds ≡ 0)) }
+    ensures too_long { IfErr result (λ why. why ≡ Pbkdf2Error.KeyTooLong
+        → (2 ^ 32 - 1) * size < len) }
+{
+    if rounds == 0 {
+        return Err(Pbkdf2Error::NoRounds);
+    }
+    if size.saturating_mul(0xffff_ffff) < len {
+        return Err(Pbkdf2Error::KeyTooLong);
+    }
+    Ok(())
+}
+
+/// Writes the front of a block, as much as there is room for.
+pub fn write_front(block: &[u8; 64], part: &mut [u8])
     requires { length part.old ≤ 64 }
     ensures { part.new ≡ take (length part.old) block.now }
 {
@@ -110,8 +125,8 @@ fn tag_of<D: BlockDigest>(keyed: &Hmac<D>, tag: &D::Output) -> D::Output
     text.finalize()
 }
 
-// The exclusive or of two blocks.
-fn combined(a: &[u8; 64], b: &[u8; 64]) -> [u8; 64]
+/// The exclusive or of two blocks.
+pub fn combined(a: &[u8; 64], b: &[u8; 64]) -> [u8; 64]
     ensures { result ≡ zip2 bit_xor a.now b.now }
 {
     (u8x64::from_array(*a) ^ u8x64::from_array(*b)).to_array()

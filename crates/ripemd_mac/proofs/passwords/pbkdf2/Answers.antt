@@ -46,7 +46,7 @@ returns-clause-ok g c =
     let end : c.loop-i.i ≡ n / size = search (rules, arith) in
     let blocks : take (size * (n / size)) key ≡ flat_map f (range_with_len 1 (n / size)) =
     subst (λ (i : ℕ). take (size * i) key ≡ flat_map f (range_with_len 1 i)) end c.loop-i.invariant.so_far in
-    let positive : 0 < size = search (rules, arith, c.if-saturating_mul-key.false, c.saturating_mul.ensures) in
+    let positive : 0 < size = search (rules, arith, c.in_ok-allowed, c.if-is_empty.false, c.is_empty.ensures) in
     rw (← c.OUTPUT_SIZE-size.ensures) (elim c.if-size-whole.branch [
       | then-size-whole w ↦
           let part = w.write_front-then-size-whole.new.part in

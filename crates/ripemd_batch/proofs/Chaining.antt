@@ -1,0 +1,49 @@
+-- The digest of a digest, and one more tag.
+use Rattle.std.proofs.Common.{◌≡◌, ℕ, zero, suc, ◌+◌, ◌-◌, ◌≤◌, List, [], ◌∷◌, length, map, arith, refl, ap, ◌∙◌}
+use Rattle.std.specs.Int.Bits.{bit_xor}
+use Rattle.std.specs.Simd.Lanes.{zip2}
+use Rattle.std.specs.List.{range_with_len, fold}
+use Rattle.std.specs.Fn.{iterate}
+use Rattle.std.proofs.lemmas.List.Sums.{fold-append}
+use Rattle.std.proofs.lemmas.List.FromFn.{map-range_with_len_more}
+use Rattle.ripemd_block.specs.Laws.Blocks.{blocks_of_one}
+use Rattle.ripemd_batch.specs.Lanes.{padded_after, hash_after, combined_tags}
+
+-- the hash after a block of a message that its padding makes one block
+pub hash_of_one : (step : List ℕ → List ℕ → List ℕ) (output : List ℕ → List ℕ) (first message last : List ℕ)
+    → length (padded_after 64 message) ≡ 64 → last ≡ step first (padded_after 64 message)
+    → output last ≡ hash_after 64 first step output message
+unfolding hash_after
+hash_of_one step output first message last size is = rw (blocks_of_one (padded_after 64 message) size) (ap output is)
+
+-- ---- one more tag
+
+module _ (tag : List ℕ → List ℕ) (first : List ℕ) where
+  pub next_tag : (n : ℕ) → 1 ≤ n → iterate tag (n + 1 - 1) first ≡ tag (iterate tag (n - 1) first)
+  next_tag zero some = absurd (omega (arith, some))
+  next_tag (suc n) some =
+      let count : suc n + 1 - 1 ≡ suc n = omega arith in
+      let before : suc n - 1 ≡ n = omega arith in
+      rw (count, before) (again n first)
+    where
+      again : (n : ℕ) (x : List ℕ) → iterate tag (suc n) x ≡ tag (iterate tag n x)
+      again zero x = refl
+      again (suc n) x = again n (tag x)
+
+  pub first_combined : combined_tags tag 1 first ≡ first
+  unfolding combined_tags
+  first_combined = refl
+
+  pub next_combined : (n : ℕ) → 1 ≤ n
+      → combined_tags tag (n + 1) first ≡ zip2 bit_xor (combined_tags tag n first) (iterate tag (n + 1 - 1) first)
+  unfolding combined_tags
+  next_combined zero some = absurd (omega (arith, some))
+  next_combined (suc n) some =
+      let count : suc n + 1 - 1 ≡ n + 1 = omega arith in
+      let before : suc n - 1 ≡ n = omega arith in
+      let at : ℕ → List ℕ = λ j. iterate tag (j - 1) first in
+      let last : n + 1 + 1 - 1 ≡ n + 1 = omega arith in
+      rw (count, before)
+      (ap (fold (zip2 bit_xor) first) (map-range_with_len_more at 2 n (n + 1 + 1) (omega arith))
+      ∙ fold-append (zip2 bit_xor) first (map at (range_with_len 2 n)) (at (n + 1 + 1) ∷ [])
+      ∙ ap (λ k. zip2 bit_xor (fold (zip2 bit_xor) first (map at (range_with_len 2 n))) (iterate tag k first)) last)

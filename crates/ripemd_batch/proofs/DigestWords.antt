@@ -1,0 +1,126 @@
+-- Words and their bytes: exclusive or, and the message words of a block.
+use Rattle.std.proofs.Common.{◌≡◌, ℕ, zero, suc, ◌+◌, ◌*◌, ◌/◌, ◌%◌, ◌^◌, ◌-◌, ◌<◌, ◌≤◌, zero-add, refl, ap, sym, ◌∙◌, arith}
+use Rattle.std.proofs.Common.{List, [], ◌∷◌, ◌++◌, length, length-append, replicate, slice_index}
+use Rattle.std.specs.Int.{w32, w64, to_le_bytes}
+use Rattle.std.specs.Int.Bits.{bit_xor}
+use Rattle.std.specs.Simd.Lanes.{zip2}
+use Rattle.std.specs.List.{range_with_len}
+use Rattle.std.proofs.lemmas.Simd.{zip2-map}
+use Rattle.std.proofs.lemmas.Nat.{from_le_bytes-to_le_bytes_4, xor_shr, xor_mod}
+use Rattle.std.proofs.lemmas.Grind.{flat_map-append}
+use Rattle.std.proofs.lemmas.List.{append_assoc, get_or_append_left, length-replicate}
+use Rattle.std.proofs.lemmas.List.FromFn.{fill_by_all, length-map-range_with_len, get_or-map-range_with_len}
+use Rattle.std.proofs.Math.Seq.{get_or-append_right}
+use Rattle.ripemd_block.specs.Standard.Words.{message_word, word_bytes}
+use Rattle.ripemd_block.specs.Standard.Hashing.{with_padding, zero_count}
+use Rattle.ripemd_block.specs.Laws.WordBytes.{length-word_bytes}
+use Rattle.ripemd_batch.specs.Lanes.{HasWords, lane_at, lane_of, padded_after, padding_words}
+
+-- byte k of an exclusive or is that of the bytes
+xor_byte : (a b k : ℕ) → bit_xor a b / 2 ^ k % 2 ^ 8 ≡ bit_xor (a / 2 ^ k % 2 ^ 8) (b / 2 ^ k % 2 ^ 8)
+xor_byte a b k = ap (λ n. n % 2 ^ 8) (xor_shr a b k) ∙ xor_mod (a / 2 ^ k) (b / 2 ^ k) 8
+
+four : {a b c d p q r s : ℕ} → a ≡ p → b ≡ q → c ≡ r → d ≡ s → a ∷ b ∷ c ∷ d ∷ [] ≡ p ∷ q ∷ r ∷ s ∷ []
+four in_a in_b in_c in_d = rw (in_a, in_b, in_c, in_d) refl
+
+xor_bytes : (a b : ℕ) → to_le_bytes w32 (bit_xor a b) ≡ zip2 bit_xor (to_le_bytes w32 a) (to_le_bytes w32 b)
+xor_bytes a b = four (xor_mod a b 8) (xor_byte a b 8) (xor_byte a b 16) (xor_byte a b 24)
+
+-- so it is of all words
+pub xor_word_bytes : (xs ys : List ℕ) → length xs ≡ length ys
+    → word_bytes (zip2 bit_xor xs ys) ≡ zip2 bit_xor (word_bytes xs) (word_bytes ys)
+xor_word_bytes [] [] same = refl
+xor_word_bytes [] (y ∷ ys) same = absurd (omega (arith, same))
+xor_word_bytes (x ∷ xs) [] same = absurd (omega (arith, same))
+xor_word_bytes (x ∷ xs) (y ∷ ys) same =
+    ap (λ bs. bs ++ word_bytes (zip2 bit_xor xs ys)) (xor_bytes x y)
+    ∙ ap (λ rest. zip2 bit_xor (to_le_bytes w32 x) (to_le_bytes w32 y) ++ rest) (xor_word_bytes xs ys (omega (arith, same)))
+
+-- and of all words of a message
+pub xor_lane : (v a b : List (List ℕ)) (n j : ℕ)
+    → ((i : ℕ) → i < n → lane_at v i j ≡ bit_xor (lane_at a i j) (lane_at b i j))
+    → word_bytes (lane_of n j v) ≡ zip2 bit_xor (word_bytes (lane_of n j a)) (word_bytes (lane_of n j b))
+xor_lane v a b n j same =
+    let at : List (List ℕ) → ℕ → ℕ = λ v i. lane_at v i j in
+    let size : (v : List (List ℕ)) → length (lane_of n j v) ≡ n = λ v. length-map-range_with_len (at v) 0 n in
+    let differ : lane_of n j v ≡ zip2 bit_xor (lane_of n j a) (lane_of n j b) =
+    fill_by_all (λ i. bit_xor (at a i) (at b i)) (lane_of n j v) n 0 (size v)
+    (λ i h. get_or-map-range_with_len (at v) 0 n i i 0 h (zero-add i) ∙ same i h)
+    ∙ sym (zip2-map bit_xor (at a) (at b) (range_with_len 0 n)) in
+    ap word_bytes differ ∙ xor_word_bytes (lane_of n j a) (lane_of n j b) (size a ∙ sym (size b))
+
+-- message word i of the bytes of words is word i
+pub message_word_of : (words : List ℕ) (i : ℕ) → i < length words → slice_index words i < 2 ^ 32
+    → message_word (word_bytes words) i ≡ slice_index words i
+message_word_of [] i within fits = absurd (omega (arith, within))
+message_word_of (w ∷ words) zero within fits = from_le_bytes-to_le_bytes_4 w fits
+message_word_of (w ∷ words) (suc i) within fits =
+    let place : 4 * suc i ≡ suc (suc (suc (suc (4 * i)))) = omega arith in
+    rw place (message_word_of words i (omega (arith, within)) fits)
+
+-- ---- the last block of a message of some words after one block
+
+-- a vector's word in front of the padding, and one of the padding
+pub word_in_front : (v : List (List ℕ)) (n j i : ℕ) (behind : List ℕ) (word : ℕ) → i < n → word ≡ lane_at v i j
+    → word ≡ slice_index (lane_of n j v ++ behind) i
+word_in_front v n j i behind word within is =
+    let size : length (lane_of n j v) ≡ n = length-map-range_with_len (λ i. lane_at v i j) 0 n in
+    is ∙ sym (get_or_append_left (lane_of n j v) behind 0 i (omega (arith, size, within))
+    ∙ get_or-map-range_with_len (λ i. lane_at v i j) 0 n i i 0 within (zero-add i))
+
+pub word_behind : (v : List (List ℕ)) (n j i : ℕ) (behind : List ℕ) (word : ℕ) → n ≤ i → word ≡ slice_index behind (i - n)
+    → word ≡ slice_index (lane_of n j v ++ behind) i
+word_behind v n j i behind word past is =
+    let size : length (lane_of n j v) ≡ n = length-map-range_with_len (λ i. lane_at v i j) 0 n in
+    is ∙ ap (λ k. slice_index behind (i - k)) (sym size)
+    ∙ sym (get_or-append_right (lane_of n j v) behind i 0 (omega (arith, size, past)))
+
+-- the bytes of zero words
+zero_words : (n : ℕ) → word_bytes (replicate n 0) ≡ replicate (4 * n) 0
+zero_words zero = refl
+zero_words (suc n) =
+    let more : 4 * suc n ≡ suc (suc (suc (suc (4 * n)))) = omega arith in
+    rw (more, zero_words n) refl
+
+-- a length that is a word
+length_words : (n : ℕ) → n < 2 ^ 32 → word_bytes (n ∷ 0 ∷ []) ≡ to_le_bytes w64 n
+length_words n fits =
+    let a : 0 ≡ n / 4294967296 % 256 = omega (arith, fits) in
+    let b : 0 ≡ n / 1099511627776 % 256 = omega (arith, fits) in
+    let c : 0 ≡ n / 281474976710656 % 256 = omega (arith, fits) in
+    let d : 0 ≡ n / 72057594037927936 % 256 = omega (arith, fits) in
+    ap (λ zeros. to_le_bytes w32 n ++ zeros) (four a b c d)
+
+-- the bytes of the words and of their padding
+pub padded_words : (words : List ℕ) (n : ℕ) → length words ≡ n → n ≤ 13
+    → padded_after 64 (word_bytes words) ≡ word_bytes (words ++ padding_words n)
+unfolding with_padding
+padded_words words n many few =
+    let size : length (word_bytes words) ≡ 4 * n = omega (arith, length-word_bytes words, many) in
+    let zeros : zero_count (4 * n) ≡ suc (suc (suc (4 * (13 - n)))) = omega (arith, few) in
+    let bits : 8 * (64 + 4 * n) % 2 ^ 64 ≡ 512 + 32 * n = omega (arith, few) in
+    let padding : word_bytes (replicate (13 - n) 0 ++ (512 + 32 * n) ∷ 0 ∷ []) ≡ replicate (4 * (13 - n)) 0 ++ to_le_bytes w64 (512 + 32 * n) =
+    flat_map-append (to_le_bytes w32) (replicate (13 - n) 0) ((512 + 32 * n) ∷ 0 ∷ [])
+    ∙ ap (λ bs. bs ++ word_bytes ((512 + 32 * n) ∷ 0 ∷ [])) (zero_words (13 - n))
+    ∙ ap (λ bs. replicate (4 * (13 - n)) 0 ++ bs) (length_words (512 + 32 * n) (omega (arith, few))) in
+    rw (size, zeros, bits, flat_map-append (to_le_bytes w32) words (padding_words n), padding)
+    (append_assoc (word_bytes words) (0x80 ∷ replicate (suc (suc (suc (4 * (13 - n))))) 0) (to_le_bytes w64 (512 + 32 * n)))
+
+-- its words, where these vectors have them, and its size
+pub has_padded_words : (v : List (List ℕ)) (words : List ℕ) (n j : ℕ) → length words ≡ n → n ≤ 13
+    → ((i : ℕ) → i < 16 → lane_at v i j ≡ slice_index (words ++ padding_words n) i)
+    → ((i : ℕ) → i < 16 → lane_at v i j < 2 ^ 32)
+    → HasWords v j (padded_after 64 (word_bytes words))
+has_padded_words v words n j many few same fit i h =
+    let size : length (words ++ padding_words n) ≡ 16 = all_words words n many few in
+    rw (padded_words words n many few)
+    (same i h ∙ sym (message_word_of (words ++ padding_words n) i (omega (arith, size, h)) (rw (← same i h) (fit i h))))
+  where
+    all_words : (words : List ℕ) (n : ℕ) → length words ≡ n → n ≤ 13 → length (words ++ padding_words n) ≡ 16
+    all_words words n many few =
+        omega (arith, length-append words (padding_words n), length-append (replicate (13 - n) 0) ((512 + 32 * n) ∷ 0 ∷ []), length-replicate {A = ℕ} (13 - n) 0, many, few)
+
+pub padded_size : (words : List ℕ) (n : ℕ) → length words ≡ n → n ≤ 13 → length (padded_after 64 (word_bytes words)) ≡ 64
+padded_size words n many few =
+    rw (padded_words words n many few)
+    (omega (arith, length-word_bytes (words ++ padding_words n), length-append words (padding_words n), length-append (replicate (13 - n) 0) ((512 + 32 * n) ∷ 0 ∷ []), length-replicate {A = ℕ} (13 - n) 0, many, few))
