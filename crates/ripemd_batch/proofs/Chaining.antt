@@ -7,7 +7,8 @@ use Rattle.std.specs.Fn.{iterate}
 use Rattle.std.proofs.lemmas.List.Sums.{fold-append}
 use Rattle.std.proofs.lemmas.List.FromFn.{map-range_with_len_more}
 use Rattle.ripemd_block.specs.Laws.Blocks.{blocks_of_one}
-use Rattle.ripemd_batch.specs.Lanes.{padded_after, hash_after, combined_tags}
+use Rattle.ripemd_batch.specs.Keys.{combined_tags}
+use Rattle.ripemd_batch.specs.Lanes.{padded_after, hash_after}
 
 -- the hash after a block of a message that its padding makes one block
 pub hash_of_one : (step : List ℕ → List ℕ → List ℕ) (output : List ℕ → List ℕ) (first message last : List ℕ)

@@ -1,17 +1,12 @@
 -- Eight messages side by side: a vector has a word of each.
 use Rattle.std.specs.Prelude.{ℕ, ◌<◌, ◌≡◌, ◌+◌, ◌-◌, ◌*◌, ◌%◌, ◌^◌}
 use Rattle.std.specs.Prelude.{List, [], ◌∷◌, ◌++◌, length, map, replicate, slice_index, slice_index_or, Option, None, Some}
-use Rattle.std.specs.List.{range_with_len, fold}
-use Rattle.std.specs.Fn.{iterate}
-use Rattle.std.specs.Int.{w32, to_be_bytes}
-use Rattle.std.specs.Int.Bits.{bit_xor}
-use Rattle.std.specs.Simd.Lanes.{zip2}
+use Rattle.std.specs.List.{range_with_len}
 use Rattle.std.specs.Borrow.{Bor}
 use Rattle.ripemd_block.specs.Standard.Words.{message_word}
-use Rattle.ripemd_block.specs.Standard.Hashing.{with_padding, blocks, walk, hash}
+use Rattle.ripemd_block.specs.Standard.Hashing.{with_padding, blocks, walk}
 use Rattle.ripemd_block.specs.Standard.Schedule.{Line, left_line, right_line}
 use Rattle.ripemd_block.specs.Standard.Compression.{Lines}
-use Rattle.ripemd_mac.specs.Keyed.{filled}
 use Rattle.ripemd_batch.specs.declared.steps.Side.{Side}
 use Rattle.ripemd_batch.specs.declared.steps.Side.TheVariants.{Left, Right}
 
@@ -71,35 +66,6 @@ padding_words n = 0x80 ∷ replicate (13 - n) 0 ++ (512 + 32 * n) ∷ 0 ∷ []
 -- the bytes before it led
 unfoldable pub hash_after : ℕ → List ℕ → (List ℕ → List ℕ → List ℕ) → (List ℕ → List ℕ) → List ℕ → List ℕ
 hash_after before first step output message = output (walk step first (blocks (padded_after before message)))
-
--- ---- tags of tags
-
--- the tag of a message, from the states after the two masked keys
-abbrev pub tag_after : (List ℕ → List ℕ → List ℕ) → (List ℕ → List ℕ) → (inner outer message : List ℕ) → List ℕ
-tag_after step output inner outer message = hash_after 64 outer step output (hash_after 64 inner step output message)
-
--- the exclusive or of so many: a first one, its tag, the tag of that, and so on
-unfoldable pub combined_tags : (List ℕ → List ℕ) → ℕ → List ℕ → List ℕ
-combined_tags tag count first =
-    fold (zip2 bit_xor) first (map (λ j. iterate tag (j - 1) first) (range_with_len 2 (count - 1)))
-
--- a block of these bytes, as many as a digest has, and zeros
-pub record IsFilled (count : ℕ) (room bytes : List ℕ) : Type 0 where
-  pub block : room ≡ filled bytes
-  pub size : length bytes ≡ count
-
--- block i of a key that is derived with a salt, before it is cut: the hash of the inner masked key, the salt and
--- the block's number is the first inner digest
-abbrev pub key_block_at : (start : List ℕ) (step : List ℕ → List ℕ → List ℕ) (output : List ℕ → List ℕ)
-    → (inner outer inner_key salt : List ℕ) → (rounds i : ℕ) → List ℕ
-key_block_at start step output inner outer inner_key salt rounds i =
-    combined_tags (tag_after step output inner outer) rounds
-    (hash_after 64 outer step output (hash start step output (inner_key ++ salt ++ to_be_bytes w32 i)))
-
--- eight blocks of a key, of `count` in all, the first of which is block `from`: those that there are
-abbrev pub HasBlocks : (size : ℕ) (block_at : ℕ → List ℕ) (from count : ℕ) (blocks : List (List ℕ)) → Type 0
-HasBlocks size block_at from count blocks =
-    (j : ℕ) → j < 8 → from + j < count + 1 → IsFilled size (list_at blocks j) (block_at (from + j))
 
 -- ---- what is made of the messages of a list
 

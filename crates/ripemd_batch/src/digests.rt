@@ -215,9 +215,18 @@ pub(crate) fn digest_one<D: BatchDigest>(first: StateOf<D>, before: u64, message
     ensures { D.bytes_of result
         ≡ hash_after before (D.States.Function.list first) D.step D.output message.now }
 {
+    FunctionOf::<D>::output(last_state::<D>(first, before, message))
+}
+
+// The state whose output that is.
+pub(crate) fn last_state<D: BatchDigest>(first: StateOf<D>, before: u64, message: &[u8]) -> StateOf<D>
+    requires { D.States.Function.is_state first }
+    ensures { D.output (D.States.Function.list result)
+        ≡ hash_after before (D.States.Function.list first) D.step D.output message.now }
+{
     let mut zeros = [[0; 64]; 2];
     let blocks = MessageBlocks::of(before, message, &mut zeros);
-    FunctionOf::<D>::output(blocks.walk::<FunctionOf<D>>(first))
+    blocks.walk::<FunctionOf<D>>(first)
 }
 
 // Message `i`.

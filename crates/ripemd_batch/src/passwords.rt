@@ -1,20 +1,21 @@
-//! Keys derived from passwords (PBKDF2 with HMAC, RFC 8018, section 5.2): eight blocks of a key at once.
+//! Keys derived from passwords (PBKDF2 with HMAC, RFC 8018, section 5.2): eight blocks at once.
 
-ghost use Rattle.std.specs.Prelude.{◌≡◌, ◌≢◌, ◌↔◌, ◌<◌, ◌≤◌, ◌+◌, ◌-◌, ◌*◌, ◌%◌, ◌^◌, ◌++◌, ℕ, length, take, IfOk, IfErr};
-ghost use Rattle.std.specs.Int.{w32, to_be_bytes};
+ghost use Rattle.std.specs.Prelude.{◌≡◌, ◌≢◌, ◌↔◌, ℕ, ◌<◌, ◌≤◌, ◌+◌, ◌-◌, ◌*◌, ◌%◌, ◌^◌, ◌++◌, length, slice_index, IfOk, IfErr};
+ghost use Rattle.std.specs.Int.{w32, to_be_bytes, div_ceil};
 ghost use Rattle.ripemd_block.specs.Standard.Hashing.{hash};
 ghost use Rattle.ripemd_mac.specs.Keyed.{hmac};
-ghost use Rattle.ripemd_mac.specs.Pbkdf2.{pbkdf2};
-ghost use Rattle.ripemd_batch.specs.Lanes.{HasBlocks, IsFilled, combined_tags, hash_after, key_block_at, list_at, tag_after};
+ghost use Rattle.ripemd_mac.specs.Pbkdf2.{F, pbkdf2};
+ghost use Rattle.ripemd_batch.specs.Keys.{HasBlocks, InGroup, IsFilled, block_at, combined_tags, pbkdf2_each, tag_after};
+ghost use Rattle.ripemd_batch.specs.Lanes.{hash_after, list_at, targets};
 
-use crate::digests::{BatchDigest, StateOf, digest_one, walk_group};
+use crate::digests::{BatchDigest, FunctionOf, StateOf, digest_one, last_state};
+use crate::eight::Eight;
 use crate::lists::state_after;
 use crate::states::EightStates;
-use crate::tags::digests_in;
-use ripemd_block::block_api::ByteArray;
-use ripemd::digest::{Digest, OutputSizeUser};
+use ripemd::digest::Digest;
+use ripemd_block::block_api::{BlockFunction, ByteArray};
 use ripemd_mac::Pbkdf2Error;
-use ripemd_mac::keyed::{MaskedKeys, filled, masked_keys};
+use ripemd_mac::keyed::{filled, masked_keys};
 use ripemd_mac::passwords::{allowed, combined, write_front};
 
 /// Derives a key from a password and a salt as [`ripemd_mac::pbkdf2`] does, by so many rounds, and writes
@@ -40,126 +41,243 @@ pub fn pbkdf2<D: BatchDigest>(
         → (2 ^ 32 - 1) * D.OUTPUT_SIZE < length key.old) }
     ensures unchanged { IfErr result (λ _. key.new ≡ key.old) }
 {
-    let size = digest_size::<D>();
-    allowed(rounds, size, key.len())?;
-    if key.is_empty() {
+    let size = key.len();
+    pbkdf2_each::<D>(&[password], &[salt], rounds, size, key)
+}
+
+/// Derives a key of `size` bytes from each password and the salt in its place, by so many rounds, and
+/// writes one after another to `keys`: eight of all their blocks at once, and the last ones one by one
+/// where there are fewer than four. There must be as many salts as passwords, and room for so many
+/// keys. Nothing is allocated.
+///
+/// # Errors
+///
+/// `NoRounds` if `rounds` is 0, and else `KeyTooLong` if `size` is more than 2^32 - 1 digests. Nothing
+/// is written then.
+pub fn pbkdf2_each<D: BatchDigest>(
+    passwords: &[&[u8]],
+    salts: &[&[u8]],
+    rounds: u32,
+    size: usize,
+    keys: &mut [u8],
+) -> Result<(), Pbkdf2Error>
+    requires salts { length salts.now ≡ length passwords.now }
+    requires room { length keys.old ≡ size * length passwords.now }
+    ensures ok { IfOk result (λ _. keys.new ≡ pbkdf2_each (hmac (hash D.start D.step D.output))
+        D.OUTPUT_SIZE (targets passwords.now) (targets salts.now) rounds size) }
+    ensures fits { IfOk result (λ _. (rounds ≢ 0) × (size ≤ (2 ^ 32 - 1) * D.OUTPUT_SIZE)) }
+    ensures no_rounds { IfErr result (λ why. (why ≡ Pbkdf2Error.NoRounds) ↔ (rounds ≡ 0)) }
+    ensures too_long { IfErr result (λ why. why ≡ Pbkdf2Error.KeyTooLong
+        → (2 ^ 32 - 1) * D.OUTPUT_SIZE < size) }
+    ensures unchanged { IfErr result (λ _. keys.new ≡ keys.old) }
+{
+    let digest = digest_size::<D>();
+    allowed(rounds, digest, size)?;
+    if size == 0 {
         return Ok(());
     }
-    let keys = masked_keys::<D>(password);
-    let count = key.len().div_ceil(size);
-    let whole = key.len() / size;
+    let of = KeyBlocks {
+        passwords,
+        salts,
+        rounds,
+        count: size.div_ceil(digest),
+    };
     let mut group = [[0; 64]; 8];
-    for i in 0..whole {
-        let next = group_at::<D>(&keys, salt, rounds, i, count, group);
+    for i in 0..passwords.len() {
+        let next = write_key::<D>(&of, i, group, &mut keys[size * i..size * i + size]);
         group = next;
-        write_front(&next[i % 8], &mut key[size * i..size * i + size]);
-    }
-    if size * whole < key.len() {
-        let last = group_at::<D>(&keys, salt, rounds, whole, count, group);
-        write_front(&last[whole % 8], &mut key[size * whole..]);
     }
     Ok(())
 }
 
-// The group of eight blocks that block `i + 1` of a key is in, of `count` blocks in all: derived where it
-// begins with this block, and else the group that is given.
-fn group_at<D: BatchDigest>(
-    keys: &MaskedKeys,
-    salt: &[u8],
+// The blocks of the keys of a list, one key after another: so many of each.
+#[derive(Clone, Copy)]
+struct KeyBlocks<'a> {
+    passwords: &'a [&'a [u8]],
+    salts: &'a [&'a [u8]],
     rounds: u32,
-    i: usize,
     count: usize,
+}
+
+// Writes key `i`. Given and returned is the group of eight that the next block belongs to, unless it
+// begins with that block.
+fn write_key<D: BatchDigest>(
+    of: &KeyBlocks,
+    i: usize,
     group: [[u8; 64]; 8],
+    key: &mut [u8],
 ) -> [[u8; 64]; 8]
-    requires some { 0 < rounds }
-    requires inside { i < count }
-    requires numbers { count < 2 ^ 32 }
-    ensures { (0 < i % 8 → HasBlocks D.OUTPUT_SIZE (key_block_at D.start D.step D.output
-        (D.step D.start keys.now.inner) (D.step D.start keys.now.outer) keys.now.inner salt.now rounds)
-        (i - i % 8 + 1) count group)
-        → HasBlocks D.OUTPUT_SIZE (key_block_at D.start D.step D.output
-        (D.step D.start keys.now.inner) (D.step D.start keys.now.outer) keys.now.inner salt.now rounds)
-        (i - i % 8 + 1) count result }
+    requires rounds { 0 < of.now.rounds }
+    requires digest { 0 < D.OUTPUT_SIZE }
+    requires pair { i < length of.now.passwords.now }
+    requires salts { length of.now.salts.now ≡ length of.now.passwords.now }
+    requires count { of.now.count ≡ div_ceil (length key.old) D.OUTPUT_SIZE }
+    requires numbers { of.now.count < 2 ^ 32 }
+    requires total { of.now.count * length of.now.passwords.now < 2 ^ 63 }
+    requires group { InGroup D.OUTPUT_SIZE (block_at (hmac (hash D.start D.step D.output))
+        (targets of.now.passwords.now) (targets of.now.salts.now) of.now.rounds of.now.count)
+        (of.now.count * i) (of.now.count * length of.now.passwords.now) group }
+    ensures key { key.new ≡ pbkdf2 (hmac (hash D.start D.step D.output)) D.OUTPUT_SIZE
+        (list_at (targets of.now.passwords.now) i) (list_at (targets of.now.salts.now) i) of.now.rounds (length key.old) }
+    ensures group { InGroup D.OUTPUT_SIZE (block_at (hmac (hash D.start D.step D.output))
+        (targets of.now.passwords.now) (targets of.now.salts.now) of.now.rounds of.now.count)
+        (of.now.count * (i + 1)) (of.now.count * length of.now.passwords.now) result }
 {
-    if 0 < i % 8 {
+    let size = digest_size::<D>();
+    let whole = key.len() / size;
+    let mut group = group;
+    for b in 0..whole {
+        let k = of.count * i + b;
+        let next = group_at::<D>(of, k, group);
+        group = next;
+        write_front(&next[k % 8], &mut key[size * b..size * b + size]);
+    }
+    if size * whole < key.len() {
+        let k = of.count * i + whole;
+        let last = group_at::<D>(of, k, group);
+        write_front(&last[k % 8], &mut key[size * whole..]);
+        return last;
+    }
+    group
+}
+
+// The group of eight that block `k` is in: derived where it begins with this block, and else the group
+// that is given.
+fn group_at<D: BatchDigest>(of: &KeyBlocks, k: usize, group: [[u8; 64]; 8]) -> [[u8; 64]; 8]
+    requires rounds { 0 < of.now.rounds }
+    requires salts { length of.now.salts.now ≡ length of.now.passwords.now }
+    requires numbers { of.now.count < 2 ^ 32 }
+    requires total { of.now.count * length of.now.passwords.now < 2 ^ 63 }
+    requires inside { k < of.now.count * length of.now.passwords.now }
+    ensures { InGroup D.OUTPUT_SIZE (block_at (hmac (hash D.start D.step D.output))
+        (targets of.now.passwords.now) (targets of.now.salts.now) of.now.rounds of.now.count)
+        k (of.now.count * length of.now.passwords.now) group
+        → HasBlocks D.OUTPUT_SIZE (block_at (hmac (hash D.start D.step D.output))
+        (targets of.now.passwords.now) (targets of.now.salts.now) of.now.rounds of.now.count)
+        (k - k % 8) (of.now.count * length of.now.passwords.now) result }
+{
+    let live = of.count * of.passwords.len() - k;
+    if 0 < k % 8 {
         group
-    } else if count - i < 4 {
-        few_blocks::<D>(keys, salt, rounds, i as u32 + 1, count - i)
+    } else if live < 4 {
+        few_blocks::<D>(of, k, live)
     } else {
-        eight_blocks::<D>(keys, salt, rounds, i as u32 + 1)
+        eight_blocks::<D>(of, k, live)
     }
 }
 
-// Blocks of a key from block `number` on, filled with zeros, one after another: `live` of them, at most
-// eight.
-fn few_blocks<D: BatchDigest>(
-    keys: &MaskedKeys,
-    salt: &[u8],
-    rounds: u32,
-    number: u32,
-    live: usize,
-) -> [[u8; 64]; 8]
-    requires some { 0 < rounds }
+// Blocks from block `k` on, filled with zeros, one after another: `live` of them, at most eight.
+fn few_blocks<D: BatchDigest>(of: &KeyBlocks, k: usize, live: usize) -> [[u8; 64]; 8]
+    requires rounds { 0 < of.now.rounds }
+    requires salts { length of.now.salts.now ≡ length of.now.passwords.now }
+    requires numbers { of.now.count < 2 ^ 32 }
+    requires total { of.now.count * length of.now.passwords.now < 2 ^ 63 }
     requires few { live ≤ 8 }
-    requires numbers { number + live ≤ 2 ^ 32 }
-    ensures { (j : ℕ) → j < live → IsFilled D.OUTPUT_SIZE (list_at result j) (key_block_at D.start D.step D.output
-        (D.step D.start keys.now.inner) (D.step D.start keys.now.outer) keys.now.inner salt.now rounds
-        (number + j)) }
+    requires inside { k + live ≤ of.now.count * length of.now.passwords.now }
+    ensures { (j : ℕ) → j < live → IsFilled D.OUTPUT_SIZE (list_at result j)
+        (block_at (hmac (hash D.start D.step D.output))
+        (targets of.now.passwords.now) (targets of.now.salts.now) of.now.rounds of.now.count (k + j)) }
 {
     let mut blocks = [[0; 64]; 8];
     for j in 0..live {
-        let block = one_block::<D>(keys, salt, rounds, number + j as u32);
+        let block = one_by_one::<D>(chain_at::<D>(of, k + j), of.rounds);
         blocks[j] = block;
     }
     blocks
 }
 
-// Block `number` of a key, filled with zeros.
-fn one_block<D: BatchDigest>(keys: &MaskedKeys, salt: &[u8], rounds: u32, number: u32) -> [u8; 64]
-    requires { 0 < rounds }
-    ensures { IsFilled D.OUTPUT_SIZE result (key_block_at D.start D.step D.output (D.step D.start keys.now.inner)
-        (D.step D.start keys.now.outer) keys.now.inner salt.now rounds number) }
+// Eight blocks from block `k` on, filled with zeros, all at once: `live` of them, and then any.
+fn eight_blocks<D: BatchDigest>(of: &KeyBlocks, k: usize, live: usize) -> [[u8; 64]; 8]
+    requires rounds { 0 < of.now.rounds }
+    requires salts { length of.now.salts.now ≡ length of.now.passwords.now }
+    requires numbers { of.now.count < 2 ^ 32 }
+    requires total { of.now.count * length of.now.passwords.now < 2 ^ 63 }
+    requires some { 0 < live }
+    requires inside { k + live ≤ of.now.count * length of.now.passwords.now }
+    ensures { (j : ℕ) → j < 8 → j < live → IsFilled D.OUTPUT_SIZE (list_at result j)
+        (block_at (hmac (hash D.start D.step D.output))
+        (targets of.now.passwords.now) (targets of.now.salts.now) of.now.rounds of.now.count (k + j)) }
 {
+    let start = D::States::splat(FunctionOf::<D>::start());
+    let mut inner = start;
+    let mut outer = start;
+    let mut first = start;
+    for j in 0..8 {
+        let chain = chain_at::<D>(of, place_of(k, j, live));
+        let lane = only_lane(j);
+        inner = D::States::select(lane, D::States::splat(chain.inner), inner);
+        outer = D::States::select(lane, D::States::splat(chain.outer), outer);
+        first = D::States::select(lane, D::States::splat(chain.first), first);
+    }
+    let sums = combined_tags(inner, outer, first, of.rounds);
+    // Proof only: its contract gives the size of a digest.
+    digest_size::<D>();
+    blocks_of(&sums)
+}
+
+// Which block lane `j` is given, of `live` from block `k` on: the first again, where there is none.
+fn place_of(k: usize, j: usize, live: usize) -> usize
+    requires some { 0 < live }
+    requires fits { k + live < 2 ^ 64 }
+    ensures block { j < live → result ≡ k + j }
+    ensures inside { result < k + live }
+{
+    if j < live { k + j } else { k }
+}
+
+// All bits in one lane, and 0 in the others.
+fn only_lane(j: usize) -> Eight
+    requires { j < 8 }
+    ensures yes { slice_index result j ≡ 0xffff_ffff }
+    ensures no { (i : ℕ) → i < 8 → i ≢ j → slice_index result i ≡ 0 }
+{
+    let mut lanes = [0; 8];
+    lanes[j] = 0xffff_ffff;
+    Eight::of(lanes)
+}
+
+// What a block is made of: the states after the two masked keys, and that whose output is the first tag.
+#[derive(Drop)]
+struct Chain<D: BatchDigest> {
+    inner: StateOf<D>,
+    outer: StateOf<D>,
+    first: StateOf<D>,
+}
+
+// That of block `k`.
+fn chain_at<D: BatchDigest>(of: &KeyBlocks, k: usize) -> Chain<D>
+    requires salts { length of.now.salts.now ≡ length of.now.passwords.now }
+    requires numbers { of.now.count < 2 ^ 32 }
+    requires inside { k < of.now.count * length of.now.passwords.now }
+    ensures inner { D.States.Function.is_state result.inner }
+    ensures outer { D.States.Function.is_state result.outer }
+    ensures block { (rounds : ℕ) → combined_tags (tag_after D.step D.output
+        (D.States.Function.list result.inner) (D.States.Function.list result.outer)) rounds
+        (D.output (D.States.Function.list result.first))
+        ≡ block_at (hmac (hash D.start D.step D.output)) (targets of.now.passwords.now) (targets of.now.salts.now)
+        rounds of.now.count k }
+{
+    let i = k / of.count;
+    chain_of::<D>(of.passwords[i], of.salts[i], (k % of.count) as u32 + 1)
+}
+
+// That of block `number` of the key of one password.
+fn chain_of<D: BatchDigest>(password: &[u8], salt: &[u8], number: u32) -> Chain<D>
+    ensures inner { D.States.Function.is_state result.inner }
+    ensures outer { D.States.Function.is_state result.outer }
+    ensures block { (rounds : ℕ) → combined_tags (tag_after D.step D.output
+        (D.States.Function.list result.inner) (D.States.Function.list result.outer)) rounds
+        (D.output (D.States.Function.list result.first))
+        ≡ F (hmac (hash D.start D.step D.output)) password.now salt.now rounds number }
+{
+    let keys = masked_keys::<D>(password);
     let digest = inner_digest::<D>(&keys.inner, salt, number);
-    let inner = state_after::<D>(keys.inner);
     let outer = state_after::<D>(keys.outer);
-    one_by_one::<D>(inner, outer, rounds, &digest)
-}
-
-// The eight blocks of a key from block `number` on, filled with zeros, all at once. Numbers are taken
-// modulo 2^32.
-fn eight_blocks<D: BatchDigest>(
-    keys: &MaskedKeys,
-    salt: &[u8],
-    rounds: u32,
-    number: u32,
-) -> [[u8; 64]; 8]
-    requires { 0 < rounds }
-    ensures { (j : ℕ) → j < 8 → IsFilled D.OUTPUT_SIZE (list_at result j) (key_block_at D.start D.step D.output
-        (D.step D.start keys.now.inner) (D.step D.start keys.now.outer) keys.now.inner salt.now rounds
-        ((number + j) % 2 ^ 32)) }
-{
-    let messages = [
-        inner_block::<D>(&keys.inner, salt, number),
-        inner_block::<D>(&keys.inner, salt, number.wrapping_add(1)),
-        inner_block::<D>(&keys.inner, salt, number.wrapping_add(2)),
-        inner_block::<D>(&keys.inner, salt, number.wrapping_add(3)),
-        inner_block::<D>(&keys.inner, salt, number.wrapping_add(4)),
-        inner_block::<D>(&keys.inner, salt, number.wrapping_add(5)),
-        inner_block::<D>(&keys.inner, salt, number.wrapping_add(6)),
-        inner_block::<D>(&keys.inner, salt, number.wrapping_add(7)),
-    ];
-    let inner = state_after::<D>(keys.inner);
-    let outer = state_after::<D>(keys.outer);
-    in_lanes::<D>(inner, outer, rounds, &messages)
-}
-
-// A block that begins with this digest.
-fn inner_block<D: BatchDigest>(inner_key: &[u8; 64], salt: &[u8], number: u32) -> [u8; 64]
-    ensures { take D.Output.LEN result ≡ hash D.start D.step D.output
-        (inner_key.now ++ salt.now ++ to_be_bytes w32 number) }
-{
-    filled(inner_digest::<D>(inner_key, salt, number).as_bytes())
+    Chain {
+        inner: state_after::<D>(keys.inner),
+        outer,
+        first: last_state::<D>(outer, 64, D::output_bytes(&digest)),
+    }
 }
 
 // The digest of the inner masked key, the salt and the number of a block.
@@ -173,24 +291,19 @@ fn inner_digest<D: Digest>(inner_key: &[u8; 64], salt: &[u8], number: u32) -> D:
     hasher.finalize()
 }
 
-// The same of one digest, in the one lane of the block function.
-fn one_by_one<D: BatchDigest>(
-    inner: StateOf<D>,
-    outer: StateOf<D>,
-    rounds: u32,
-    digest: &D::Output,
-) -> [u8; 64]
-    requires some { 0 < rounds }
-    requires inner { D.States.Function.is_state inner }
-    requires outer { D.States.Function.is_state outer }
+// The exclusive or of so many tags of a chain, the first one's tag and so on, filled with zeros.
+fn one_by_one<D: BatchDigest>(chain: Chain<D>, rounds: u32) -> [u8; 64]
+    requires rounds { 0 < rounds }
+    requires inner { D.States.Function.is_state chain.inner }
+    requires outer { D.States.Function.is_state chain.outer }
     ensures { IsFilled D.OUTPUT_SIZE result (combined_tags (tag_after D.step D.output
-        (D.States.Function.list inner) (D.States.Function.list outer)) rounds
-        (hash_after 64 (D.States.Function.list outer) D.step D.output (D.bytes_of digest.now))) }
+        (D.States.Function.list chain.inner) (D.States.Function.list chain.outer)) rounds
+        (D.output (D.States.Function.list chain.first))) }
 {
-    let mut tag = digest_after_one::<D>(outer, digest);
+    let mut tag = FunctionOf::<D>::output(chain.first);
     let mut sum = filled(D::output_bytes(&tag));
     for k in 1..rounds {
-        let next = digest_after_one::<D>(outer, &digest_after_one::<D>(inner, &tag));
+        let next = digest_after_one::<D>(chain.outer, &digest_after_one::<D>(chain.inner, &tag));
         tag = next;
         sum = combined(&sum, &filled(D::output_bytes(&next)));
     }
@@ -209,27 +322,6 @@ fn digest_after_one<D: BatchDigest>(first: StateOf<D>, digest: &D::Output) -> D:
     // Proof only: its contract gives the size of the digest.
     D::output_bytes(&result);
     result
-}
-
-// Of eight digests that were hashed after the inner masked key, with which these blocks begin: the
-// exclusive or of so many tags, the digest's first, that one's tag and so on, each filled with zeros.
-fn in_lanes<D: BatchDigest>(
-    inner: StateOf<D>,
-    outer: StateOf<D>,
-    rounds: u32,
-    messages: &[[u8; 64]; 8],
-) -> [[u8; 64]; 8]
-    requires { 0 < rounds }
-    ensures { (j : ℕ) → j < 8 → IsFilled D.OUTPUT_SIZE (list_at result j) (combined_tags (tag_after D.step D.output
-        (D.States.Function.list inner) (D.States.Function.list outer)) rounds
-        (hash_after 64 (D.States.Function.list outer) D.step D.output
-        (take D.Output.LEN (list_at messages.now j)))) }
-{
-    let first: D::States = walk_group(outer, 64, &digests_in::<D>(messages));
-    let sums = combined_tags(D::States::splat(inner), D::States::splat(outer), first, rounds);
-    // Proof only: its contract gives the size of a digest.
-    digest_size::<D>();
-    blocks_of(&sums)
 }
 
 // How many bytes a digest has.

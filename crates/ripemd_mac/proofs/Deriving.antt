@@ -58,12 +58,17 @@ range_more a (suc n) j last =
     let count : suc n + 1 ≡ suc (n + 1) = omega arith in
     rw count (ap (λ xs. a ∷ xs) (range_more (a + 1) n j (omega (arith, last))))
 
+-- one more of what is joined
+pub next_joined : (f : ℕ → List ℕ) (a n j : ℕ) → a + n ≡ j
+    → flat_map f (range_with_len a (n + 1)) ≡ flat_map f (range_with_len a n) ++ f j
+next_joined f a n j last =
+    ap (flat_map f) (range_more a n j last) ∙ flat_map-append f (range_with_len a n) (j ∷ [])
+    ∙ ap (λ x. flat_map f (range_with_len a n) ++ x) (append-nil (f j))
+
 -- one more block
 pub next_block : (f : ℕ → List ℕ) (n : ℕ)
     → flat_map f (range_with_len 1 (n + 1)) ≡ flat_map f (range_with_len 1 n) ++ f (n + 1)
-next_block f n =
-    ap (flat_map f) (range_more 1 n (n + 1) (omega arith)) ∙ flat_map-append f (range_with_len 1 n) ((n + 1) ∷ [])
-    ∙ ap (λ x. flat_map f (range_with_len 1 n) ++ x) (append-nil (f (n + 1)))
+next_block f n = next_joined f 1 n (n + 1) (omega arith)
 
 -- what a part that is written over makes of the front
 pub front_put : (xs part rest : List ℕ) (at n : ℕ) → at ≤ length xs → n ≡ at + length part

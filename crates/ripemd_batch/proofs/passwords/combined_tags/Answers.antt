@@ -2,7 +2,8 @@ use Rattle.std.proofs.Common.{◌≡◌, ℕ, ◌<◌, ◌+◌, ◌-◌, List, a
 use Rattle.std.specs.Fn.{iterate}
 use Rattle.std.specs.Int.Bits.{bit_xor}
 use Rattle.std.specs.Simd.Lanes.{zip2}
-use Rattle.ripemd_batch.specs.Lanes.{tag_after, hash_after}
+use Rattle.ripemd_batch.specs.Keys.{tag_after}
+use Rattle.ripemd_batch.specs.Lanes.{hash_after}
 use Rattle.ripemd_batch.proofs.Chaining.{next_tag, first_combined, next_combined}
 use Rattle.ripemd_batch.proofs.passwords.combined_tags.Goals as goal
 

@@ -1,7 +1,7 @@
 -- The last tags, and the exclusive or of all so far.
 use Rattle.std.proofs.Common.{◌≡◌, ℕ, ◌<◌, ◌-◌}
 use Rattle.std.specs.Fn.{iterate}
-use Rattle.ripemd_batch.specs.Lanes.{combined_tags, tag_after}
+use Rattle.ripemd_batch.specs.Keys.{combined_tags, tag_after}
 use Rattle.ripemd_batch.proofs.passwords.combined_tags.Given as goal
 
 abbrev pub invariant-loop-k : goal.invariant-loop-k

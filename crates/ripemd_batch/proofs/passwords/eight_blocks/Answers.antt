@@ -1,35 +1,45 @@
-use Rattle.std.proofs.Common.{◌≡◌, ℕ, ◌+◌, ◌%◌, ◌^◌, ◌++◌, List, take, arith, refl}
-use Rattle.std.specs.Int.{w32, to_be_bytes}
+use Rattle.std.proofs.Common.{◌≡◌, ◌+◌, ◌<◌, ◌≤◌, ◌⊎◌, inl, inr, arith, rules, ◌∙◌}
+use Rattle.std.proofs.lemmas.Bool.{cases_lt}
 use Rattle.ripemd_block.specs.Standard.Hashing.{hash}
-use Rattle.ripemd_batch.specs.Lanes.{IsFilled, combined_tags, hash_after, key_block_at, list_at, tag_after}
-use Rattle.ripemd_batch.proofs.EightLanes.{below_eight}
+use Rattle.ripemd_mac.specs.Keyed.{hmac}
+use Rattle.ripemd_batch.specs.Keys.{block_at, combined_tags, tag_after}
+use Rattle.ripemd_batch.specs.Lanes.{targets}
 use Rattle.ripemd_batch.proofs.passwords.eight_blocks.Goals as goal
 
-pub returns : goal.returns
-returns g c =
-    below_eight is_block
-    (at 0 c.args.number _ (c.in_lanes.ensures 0 (omega arith)) c.inner_block.ensures (omega (arith, c.ranges.number)))
-    (at 1 _ _ (c.in_lanes.ensures 1 (omega arith)) c.inner_block-2.ensures refl)
-    (at 2 _ _ (c.in_lanes.ensures 2 (omega arith)) c.inner_block-3.ensures refl)
-    (at 3 _ _ (c.in_lanes.ensures 3 (omega arith)) c.inner_block-4.ensures refl)
-    (at 4 _ _ (c.in_lanes.ensures 4 (omega arith)) c.inner_block-5.ensures refl)
-    (at 5 _ _ (c.in_lanes.ensures 5 (omega arith)) c.inner_block-6.ensures refl)
-    (at 6 _ _ (c.in_lanes.ensures 6 (omega arith)) c.inner_block-7.ensures refl)
-    (at 7 _ _ (c.in_lanes.ensures 7 (omega arith)) c.inner_block-8.ensures refl)
+pub loop-j-preserved : goal.loop-j-preserved
+loop-j-preserved g c i h live = next (cases_lt i c.loop-j.j)
   where
-    is_block : ℕ → Type 0
-    is_block j = IsFilled g.D.OutputSizeUser.OUTPUT_SIZE (list_at c.in_lanes.result j) (key_block_at g.D.Digest.start g.D.Digest.step g.D.Digest.output
-        (g.D.Digest.step g.D.Digest.start c.args.keys.now.inner) (g.D.Digest.step g.D.Digest.start c.args.keys.now.outer)
-        c.args.keys.now.inner c.args.salt.now c.args.rounds ((c.args.number + j) % 2 ^ 32))
-    -- block j, which begins with a digest made of a number
-    at : (j n : ℕ) (block : List ℕ)
-        → IsFilled g.D.OutputSizeUser.OUTPUT_SIZE (list_at c.in_lanes.result j) (combined_tags (tag_after g.D.Digest.step g.D.Digest.output
-        (g.D.States.Function.ListBlockFunction.list c.state_after-inner.result)
-        (g.D.States.Function.ListBlockFunction.list c.state_after-outer.result)) c.args.rounds
-        (hash_after 64 (g.D.States.Function.ListBlockFunction.list c.state_after-outer.result) g.D.Digest.step g.D.Digest.output
-        (take g.D.Output.ByteArray.LEN block)))
-        → take g.D.Output.ByteArray.LEN block ≡ hash g.D.Digest.start g.D.Digest.step g.D.Digest.output
-        (c.args.keys.now.inner ++ c.args.salt.now ++ to_be_bytes w32 n)
-        → n ≡ (c.args.number + j) % 2 ^ 32 → is_block j
-    at j n block made begins same =
-        rw (← same, ← begins, ← c.state_after-inner.ensures.value, ← c.state_after-outer.ensures.value) made
+    next : (i < c.loop-j.j) ⊎ (c.loop-j.j ≤ i) →
+        combined_tags (tag_after g.D.Digest.step g.D.Digest.output (g.D.States.EightStates.words_of i c.select-inner.result)
+        (g.D.States.EightStates.words_of i c.select-outer.result)) c.args.of.now.rounds
+        (g.D.Digest.output (g.D.States.EightStates.words_of i c.select-first.result))
+        ≡ block_at (hmac (hash g.D.Digest.start g.D.Digest.step g.D.Digest.output)) (targets c.args.of.now.passwords.now)
+        (targets c.args.of.now.salts.now) c.args.of.now.rounds c.args.of.now.count (c.args.k + i)
+    next (inl before) =
+        let eight : i < 8 = omega (arith, before, c.loop-j-test.true) in
+        let other = c.only_lane-lane.ensures.no i eight (omega (arith, before)) in
+        rw (c.select-inner.ensures.kept i eight other, c.select-outer.ensures.kept i eight other,
+        c.select-first.ensures.kept i eight other) (c.loop-j.invariant i before live)
+    next (inr last) =
+        let here : i ≡ c.loop-j.j = omega (arith, h, last) in
+        let eight : c.loop-j.j < 8 = omega (arith, c.loop-j-test.true) in
+        let one = c.only_lane-lane.ensures.yes in
+        let place : c.place_of.result ≡ c.args.k + c.loop-j.j = c.place_of.ensures.block (omega (arith, live, here)) in
+        rw (here, c.select-inner.ensures.taken c.loop-j.j eight one, c.select-outer.ensures.taken c.loop-j.j eight one,
+        c.select-first.ensures.taken c.loop-j.j eight one, c.splat.ensures c.loop-j.j eight,
+        c.splat-in-loop-j.ensures c.loop-j.j eight, c.splat-in-loop-j-2.ensures c.loop-j.j eight, ← place)
+        (c.chain_at-chain.ensures.block c.args.of.now.rounds)
+
+pub returns : goal.returns
+returns g c j h live =
+    let same = g.met.D.BatchDigest in
+    let f = g.D.States.Function.ListBlockFunction in
+    let words = g.D.States.EightStates.words_of in
+    let d = g.D.Digest in
+    let sums : f.output (words j c.combined_tags-sums.result)
+        ≡ block_at (hmac (hash d.start d.step d.output)) (targets c.args.of.now.passwords.now) (targets c.args.of.now.salts.now)
+        c.args.of.now.rounds c.args.of.now.count (c.args.k + j) =
+    c.combined_tags-sums.ensures j h
+    ∙ rw (same.same_step, same.same_output) (c.loop-j.invariant j (search (rules, arith)) live) in
+    let size = c.digest_size.ensures in
+    rw (← size.size, size.array, ← sums) (c.blocks_of.ensures j h)

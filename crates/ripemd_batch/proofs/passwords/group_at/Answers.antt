@@ -1,7 +1,12 @@
-use Rattle.std.proofs.Common.{◌≡◌, ◌+◌, ◌-◌, ◌%◌, ◌^◌, arith}
+use Rattle.std.proofs.Common.{◌≡◌, ◌-◌, ◌%◌, arith}
 use Rattle.ripemd_batch.proofs.passwords.group_at.Goals as goal
 
-pub returns-else-count-i-lt4 : goal.returns-else-count-i-lt4
-returns-else-count-i-lt4 g c given j h inside =
-    let number : (c.args.i + 1 + j) % 2 ^ 32 ≡ c.args.i - c.args.i % 8 + 1 + j = omega (arith, inside) in
-    rw (← number) (c.eight_blocks.ensures j h)
+pub returns-then-live-lt4 : goal.returns-then-live-lt4
+returns-then-live-lt4 g c given j h inside =
+    let same : c.args.k - c.args.k % 8 ≡ c.args.k = omega (arith, c.if-k-gt0.false) in
+    rw same (c.few_blocks.ensures j (omega (arith, same, inside)))
+
+pub returns-else-live-lt4 : goal.returns-else-live-lt4
+returns-else-live-lt4 g c given j h inside =
+    let same : c.args.k - c.args.k % 8 ≡ c.args.k = omega (arith, c.if-k-gt0.false) in
+    rw same (c.eight_blocks.ensures j h (omega (arith, same, inside)))

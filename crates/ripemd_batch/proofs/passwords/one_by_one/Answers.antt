@@ -4,7 +4,8 @@ use Rattle.std.specs.Simd.Lanes.{zip2}
 use Rattle.std.specs.Fn.{iterate}
 use Rattle.ripemd_mac.specs.Keyed.{filled}
 use Rattle.ripemd_mac.proofs.Deriving.{combined_filled, length-combined}
-use Rattle.ripemd_batch.specs.Lanes.{combined_tags, hash_after, tag_after}
+use Rattle.ripemd_batch.specs.Keys.{combined_tags, tag_after}
+use Rattle.ripemd_batch.specs.Lanes.{hash_after}
 use Rattle.ripemd_batch.proofs.Chaining.{next_tag, first_combined, next_combined}
 use Rattle.ripemd_batch.proofs.passwords.one_by_one.Goals as goal
 
@@ -13,14 +14,19 @@ loop-k-init g c =
     let d = g.D.Digest in
     let list = g.D.States.Function.ListBlockFunction.list in
     let bytes_of = g.D.OutputSizeUser.bytes_of in
-    let tag_of : List ℕ → List ℕ = tag_after d.step d.output (list c.args.inner) (list c.args.outer) in
-    let first : List ℕ = hash_after 64 (list c.args.outer) d.step d.output (bytes_of c.args.digest.now) in
+    let tag_of : List ℕ → List ℕ = tag_after d.step d.output (list c.args.chain.inner) (list c.args.chain.outer) in
+    let first : List ℕ = d.output (list c.args.chain.first) in
     let one = first_combined tag_of first in
-    let tag = c.digest_after_one-tag.ensures in
+    let last = c.args.chain.first in
+    let same = g.met.D.BatchDigest in
+    let tag : bytes_of c.output-tag.result ≡ first =
+    sym (same.same_bytes c.output-tag.result) ∙ ap g.D.Output.ByteArray.bytes c.output-tag.ensures.value
+    ∙ g.met.D.States.Function.ListBlockFunction.over_lists.of_output last
+    ∙ ap (λ (output : List ℕ → List ℕ). output (list last)) same.same_output in
     record {
-      tag = tag.digest;
-      sum = c.filled-sum.ensures ∙ ap filled (c.output_bytes.ensures.bytes ∙ tag.digest ∙ sym one);
-      size = ap length (one ∙ sym tag.digest) ∙ tag.size;
+      tag = tag;
+      sum = c.filled-sum.ensures ∙ ap filled (c.output_bytes.ensures.bytes ∙ tag ∙ sym one);
+      size = ap length (one ∙ sym (c.output_bytes.ensures.bytes ∙ tag)) ∙ c.output_bytes.ensures.size;
     }
 
 pub loop-k-preserved : goal.loop-k-preserved
@@ -28,14 +34,14 @@ loop-k-preserved g c =
     let d = g.D.Digest in
     let list = g.D.States.Function.ListBlockFunction.list in
     let bytes_of = g.D.OutputSizeUser.bytes_of in
-    let tag_of : List ℕ → List ℕ = tag_after d.step d.output (list c.args.inner) (list c.args.outer) in
-    let first : List ℕ = hash_after 64 (list c.args.outer) d.step d.output (bytes_of c.args.digest.now) in
+    let tag_of : List ℕ → List ℕ = tag_after d.step d.output (list c.args.chain.inner) (list c.args.chain.outer) in
+    let first : List ℕ = d.output (list c.args.chain.first) in
     let k = c.loop-k.k in
     let so_far = c.loop-k.invariant in
     let next = c.digest_after_one-next.ensures in
     let tag : bytes_of c.digest_after_one-next.result ≡ iterate tag_of (k + 1 - 1) first =
     next.digest
-    ∙ ap (hash_after 64 (list c.args.outer) d.step d.output) c.digest_after_one.ensures.digest
+    ∙ ap (hash_after 64 (list c.args.chain.outer) d.step d.output) c.digest_after_one.ensures.digest
     ∙ ap tag_of so_far.tag ∙ sym (next_tag tag_of first k c.loop-k.auto.k) in
     let added = next_combined tag_of first k c.loop-k.auto.k in
     let size : length (iterate tag_of (k + 1 - 1) first) ≡ g.D.OutputSizeUser.OUTPUT_SIZE = ap length (sym tag) ∙ next.size in

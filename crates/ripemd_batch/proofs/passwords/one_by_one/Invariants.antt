@@ -2,7 +2,7 @@
 use Rattle.std.proofs.Common.{◌≡◌, ◌-◌, length}
 use Rattle.std.specs.Fn.{iterate}
 use Rattle.ripemd_mac.specs.Keyed.{filled}
-use Rattle.ripemd_batch.specs.Lanes.{combined_tags, hash_after, tag_after}
+use Rattle.ripemd_batch.specs.Keys.{combined_tags, tag_after}
 use Rattle.ripemd_batch.proofs.passwords.one_by_one.Given as goal
 
 abbrev pub invariant-loop-k : goal.invariant-loop-k
@@ -10,8 +10,8 @@ invariant-loop-k g l =
     let d = g.D.Digest in
     let list = g.D.States.Function.ListBlockFunction.list in
     let bytes_of = g.D.OutputSizeUser.bytes_of in
-    let tag_of = tag_after d.step d.output (list l.inner) (list l.outer) in
-    let first = hash_after 64 (list l.outer) d.step d.output (bytes_of l.digest) in
+    let tag_of = tag_after d.step d.output (list l.fn.chain.inner) (list l.fn.chain.outer) in
+    let first = d.output (list l.fn.chain.first) in
     record {
       tag : bytes_of l.tag ≡ iterate tag_of (l.k - 1) first;
       sum : l.sum ≡ filled (combined_tags tag_of l.k first);
