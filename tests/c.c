@@ -30,6 +30,8 @@ typedef struct {
   bool (*tag_each)(const uint8_t *, size_t, const uint8_t *, size_t, size_t, uint8_t *, size_t);
   void (*tag_list)(const uint8_t *, size_t, const nattizhu_message *, size_t, uint8_t *);
   bool (*pbkdf2)(const uint8_t *, size_t, const uint8_t *, size_t, uint32_t, uint8_t *, size_t);
+  bool (*pbkdf2_list)(const nattizhu_message *, const nattizhu_message *, size_t, uint32_t,
+                      uint8_t *, size_t);
 } variant;
 
 #define STATE(bits) (nattizhu_ripemd##bits##_state *)(void *)
@@ -85,7 +87,7 @@ OF(320)
         init_##bits, update_##bits, final_##bits, nattizhu_hmac_ripemd##bits, tag_init_##bits,     \
         tag_update_##bits, tag_final_##bits, tag_verify_##bits,                                    \
         nattizhu_hmac_ripemd##bits##_verify_text, tag_each_##bits, tag_list_##bits,                \
-        nattizhu_pbkdf2_ripemd##bits                                                               \
+        nattizhu_pbkdf2_ripemd##bits, nattizhu_pbkdf2_ripemd##bits##_list                          \
   }
 static const variant ALL[VARIANTS] = {FUNCTIONS(128), FUNCTIONS(160), FUNCTIONS(256),
                                       FUNCTIONS(320)};
@@ -100,7 +102,7 @@ static void check(bool right, const char *what, int bits, size_t at) {
 
 // ---- memory between unmapped pages
 
-enum { ROOMS = 4 };
+enum { ROOMS = 5 };
 static uint8_t *rooms[ROOMS];
 static size_t page, room_size;
 static bool at_end;
@@ -312,17 +314,24 @@ static void try_tag_records(const variant *v) {
   check(v->tag_each(ramp, 20, NULL, 0, 7, NULL, 0), "tags of no records", v->bits, 0);
 }
 
-// Messages of unlike lengths, one behind the other in their room, some of them null and empty.
-static void make_list(nattizhu_message *messages, size_t count, size_t least, size_t most) {
+// Messages of unlike lengths, one behind the other in a room, some of them null and empty.
+static void make_list(int room, nattizhu_message *messages, size_t count, size_t least,
+                      size_t most) {
   size_t all = 0;
   for (size_t i = 0; i < count; i++)
     all += messages[i].length = least + i * i * 7 % (most - least + 1);
-  uint8_t *bytes = in_room(0, all);
+  uint8_t *bytes = in_room(room, all);
   for (size_t i = 0; i < count; i++) {
     messages[i].bytes = messages[i].length || i % 2 ? bytes : NULL;
     memcpy(bytes, ramp + i, messages[i].length);
     bytes += messages[i].length;
   }
+}
+
+// The same list in a room.
+static const nattizhu_message *copied_list(int room, const nattizhu_message *list, size_t count) {
+  return (const nattizhu_message *)(void *)copied(room, (const uint8_t *)list,
+                                                  count * sizeof *list);
 }
 
 // Their digests and tags, as many as 0 to 300, against those of each alone.
@@ -332,7 +341,7 @@ static void try_lists(const variant *v) {
   static uint8_t alone[MOST * 40], tags_alone[5][MOST * 40];
   static nattizhu_message messages[MOST];
   for (size_t l = 0; l < sizeof lengths / sizeof lengths[0]; l++) {
-    make_list(messages, MOST, lengths[l][0], lengths[l][1]);
+    make_list(0, messages, MOST, lengths[l][0], lengths[l][1]);
     for (size_t i = 0; i < MOST; i++) {
       v->digest(messages[i].bytes, messages[i].length, alone + i * v->size);
       for (size_t k = 0; k < 5; k++)
@@ -340,8 +349,7 @@ static void try_lists(const variant *v) {
                 tags_alone[k] + i * v->size);
     }
     for (size_t count = 0; count <= MOST; count += count < 20 || count % 64 > 60 ? 1 : 5) {
-      const nattizhu_message *list = (const nattizhu_message *)(void *)copied(
-          3, (const uint8_t *)messages, count * sizeof *messages);
+      const nattizhu_message *list = copied_list(3, messages, count);
       uint8_t *outputs = in_room(1, count * v->size);
       memset(outputs, 7, count * v->size);
       v->list(count ? list : NULL, count, count ? outputs : NULL);
@@ -378,16 +386,67 @@ static void try_wrong_lengths(const variant *v) {
 
 // ---- keys from passwords
 
+// A key alone, and nine times by a list.
 static void try_key(const variant *v, const uint8_t *password, size_t password_length,
                     const uint8_t *salt, size_t salt_length, unsigned rounds, const char *wanted) {
+  enum { TIMES = 9 };
   uint8_t bytes[450];
   size_t length = from_hex(wanted, bytes);
   uint8_t *key = in_room(1, length);
+  nattizhu_message passwords[TIMES], salts[TIMES];
+  password = copied(0, password, password_length);
+  salt = copied(2, salt, salt_length);
   memset(key, 7, length);
-  check(v->pbkdf2(copied(0, password, password_length), password_length,
-                  copied(2, salt, salt_length), salt_length, rounds, key, length) &&
+  check(v->pbkdf2(password, password_length, salt, salt_length, rounds, key, length) &&
             !memcmp(key, bytes, length),
         "a key", v->bits, length);
+  for (int i = 0; i < TIMES; i++) {
+    passwords[i].bytes = password, passwords[i].length = password_length;
+    salts[i].bytes = salt, salts[i].length = salt_length;
+  }
+  key = in_room(1, TIMES * length);
+  memset(key, 7, TIMES * length);
+  bool right = v->pbkdf2_list(copied_list(3, passwords, TIMES), copied_list(4, salts, TIMES), TIMES,
+                              rounds, key, length);
+  for (int i = 0; i < TIMES; i++)
+    right &= !memcmp(key + i * length, bytes, length);
+  check(right, "a key of a list", v->bits, length);
+}
+
+// Keys of unlike passwords and salts, some of them null and empty, against each alone; none with no
+// rounds.
+static void try_key_lists(const variant *v) {
+  enum { PAIRS = 130 };
+  static const size_t counts[] = {0, 1, 3, 8, 9, 128, 129, PAIRS};
+  const size_t lengths[] = {0, 1, v->size - 1, v->size, v->size + 1, 3 * v->size + 5};
+  static uint8_t alone[PAIRS * (3 * 40 + 5)];
+  static nattizhu_message passwords[PAIRS], salts[PAIRS];
+  make_list(0, passwords, PAIRS, 0, 130);
+  make_list(2, salts, PAIRS, 0, 70);
+  for (size_t l = 0; l < sizeof lengths / sizeof lengths[0]; l++)
+    for (uint32_t rounds = 0; rounds <= 3; rounds++) {
+      const size_t length = lengths[l];
+      bool done = true;
+      memset(alone, 7, sizeof alone);
+      for (size_t i = 0; i < PAIRS; i++)
+        done &= v->pbkdf2(passwords[i].bytes, passwords[i].length, salts[i].bytes, salts[i].length,
+                          rounds, alone + i * length, length);
+      for (size_t c = 0; c < sizeof counts / sizeof counts[0]; c++) {
+        const size_t count = counts[c], all = count * length;
+        const nattizhu_message *list = copied_list(3, passwords, count);
+        const nattizhu_message *salt_list = copied_list(4, salts, count);
+        uint8_t *keys = in_room(1, all);
+        memset(keys, 7, all);
+        check(v->pbkdf2_list(count ? list : NULL, count ? salt_list : NULL, count, rounds,
+                             all ? keys : NULL, length) == done &&
+                  !memcmp(keys, alone, all),
+              "keys of a list", v->bits, count);
+        check(!memcmp(list, passwords, count * sizeof *list) &&
+                  !memcmp(salt_list, salts, count * sizeof *list),
+              "lists as they were", v->bits, count);
+      }
+      check(done == (rounds > 0), "keys", v->bits, rounds);
+    }
 }
 
 // Keys that are refused, and null pointers.
@@ -408,15 +467,25 @@ static void try_keys(const variant *v, nattizhu_variant chosen) {
         "a key by number", v->bits, 0);
 }
 
-// A key of one byte more than 2^32 - 1 digests, in memory that nothing may touch.
+// A key of one byte more than 2^32 - 1 digests, in memory that nothing may touch. Then so many messages
+// there that the length of all keys overflows.
 static void try_too_long(const variant *v) {
-  size_t length = (size_t)0xffffffff * v->size + 1;
+  const size_t most = (size_t)0xffffffff * v->size, length = most + 1;
+  const nattizhu_message pair[] = {{ramp, 8}, {ramp, 8}};
   void *key = mmap(NULL, length, PROT_NONE, MAP_PRIVATE | MAP_ANONYMOUS | MAP_NORESERVE, -1, 0);
   if (key == MAP_FAILED) {
     printf("c: there are no addresses for a key that is too long\n");
     return;
   }
-  check(!v->pbkdf2(ramp, 8, ramp, 8, 1, (uint8_t *)key, length), "a key too long", v->bits, 0);
+  check(!v->pbkdf2(ramp, 8, ramp, 8, 1, (uint8_t *)key, length) &&
+            !v->pbkdf2_list(pair, pair + 1, 1, 1, (uint8_t *)key, length),
+        "a key too long", v->bits, 0);
+  check(!v->pbkdf2_list(NULL, NULL, 0, 1, NULL, length) &&
+            v->pbkdf2_list(NULL, NULL, 0, 1, NULL, most),
+        "an empty list of keys too long", v->bits, 0);
+  const nattizhu_message *list = (const nattizhu_message *)key;
+  check(!v->pbkdf2_list(list, list, SIZE_MAX / most + 1, 1, (uint8_t *)key, most),
+        "too many keys", v->bits, 0);
   munmap(key, length);
 }
 
@@ -686,6 +755,7 @@ int main(int argc, char **argv) {
       try_chosen(v, numbers[v - ALL]);
       try_chosen_tags(v, numbers[v - ALL]);
       try_keys(v, numbers[v - ALL]);
+      try_key_lists(v);
     }
   }
   for (const variant *v = ALL; v < ALL + VARIANTS; v++)

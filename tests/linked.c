@@ -2,15 +2,16 @@
 // the machine has, and prints tables in Markdown on standard output.
 //   linked LEVEL=FILE.so..      ours, as built for some levels of processors
 // A function is timed only after its digests were compared with a published one and, at many
-// lengths, with ours, and its tags with a published one. A figure is the best of many slices of some
-// 10 ms, in the thread's processor time. The rounds are outermost: a disturbance of seconds spoils a
-// round of all figures, not all rounds of one.
+// lengths, with ours, its tags with a published one, and its keys with one of tests/keys.txt and with
+// ours. A figure is the best of many slices of some 10 ms, in the thread's processor time. The rounds
+// are outermost: a disturbance of seconds spoils a round of all figures, not all rounds of one.
 #include <dlfcn.h>
 #include <stdbool.h>
 #include <stdint.h>
 #include <stdio.h>
 #include <stdlib.h>
 #include <string.h>
+#include <sys/uio.h>
 #include <time.h>
 
 enum { ROUNDS = 8, SLICES = 6, VARIANTS = 4, MIB = 1 << 20, MOST = 8 };
@@ -45,6 +46,20 @@ enum { TASKS_COUNT = sizeof TASKS / sizeof TASKS[0] };
 static const size_t PIECES[] = {1, 64, 4096, MIB};
 enum { PIECES_COUNT = sizeof PIECES / sizeof PIECES[0] };
 
+// Keys of one length from passwords of 8 bytes, each with a salt of 8 bytes, by so many rounds of
+// PBKDF2.
+enum { KEY_ROUNDS = 2000, PASSWORDS = 8, PASSWORD = 8 };
+static const struct {
+  size_t length, count;
+} KEYS[] = {{20, 1}, {64, 1}, {192, 1}, {20, PASSWORDS}};
+enum { KEYS_COUNT = sizeof KEYS / sizeof KEYS[0] };
+
+// The key by 3 rounds in tests/keys.txt, from the bytes 1 to 8 with the salt 0 to 7.
+static const char DERIVED[] =
+    "95948057310ca113412571efb203bbeedcc2555d24d45a8c3cd021a6f714a324fcfa312ef638b48ac59b1e5a0becf0"
+    "9f5191a002478e944bc587eb85313e628d26cca0";
+enum { DERIVED_SIZE = sizeof DERIVED / 2 };
+
 // The key of 20 bytes 0x0b, and the tag that RFC 2286 publishes for "Hi There" by RIPEMD-160.
 static uint8_t key[20];
 static const char TEXT[] = "Hi There";
@@ -52,7 +67,7 @@ static const char TAG[] = "24cb4bd67d20fc1a5d2ed7732dcc39377f0a5668";
 
 // A library's functions by variant, NULL where it has none, and the least seconds of each task. A tag
 // is made from a copy of the state after the key, which the library keeps; ours hashes the key once
-// for a list. The functions of messages in pieces are those of RIPEMD-160.
+// for a list. The functions of messages in pieces and of keys are those of RIPEMD-160.
 struct library {
   char name[80];
   void (*digest[VARIANTS])(const uint8_t *message, size_t length, uint8_t *digest);
@@ -65,12 +80,17 @@ struct library {
   void (*init)(void *state);
   bool (*update)(void *state, const uint8_t *bytes, size_t length);
   bool (*final)(void *state, uint8_t *digest);
-  double seconds[TASKS_COUNT][VARIANTS], piece_seconds[PIECES_COUNT];
+  bool (*derive)(const uint8_t *password, size_t password_length, const uint8_t *salt,
+                 size_t salt_length, uint32_t rounds, uint8_t *key, size_t key_length);
+  bool (*derive_list)(const struct iovec *passwords, const struct iovec *salts, size_t count,
+                      uint32_t rounds, uint8_t *keys, size_t key_length);
+  double seconds[TASKS_COUNT][VARIANTS], piece_seconds[PIECES_COUNT], key_seconds[KEYS_COUNT];
 };
 
 static struct library libraries[MOST]; // ours first
 static int ours, count;
 static uint8_t bytes[MIB], digests[8192 * 40];
+static struct iovec passwords[PASSWORDS], salts[PASSWORDS];
 
 static void fail(const char *what, const char *why) {
   fprintf(stderr, "linked: %s: %s\n", what, why);
@@ -144,6 +164,14 @@ static void tag_by_gcrypt(const uint8_t *text, size_t length, uint8_t *tag) {
   memcpy(tag, gcry_md_read(gcrypt_keyed, 3), 20);
 }
 
+static unsigned (*gcry_kdf_derive)(const void *, size_t, int, int, const void *, size_t,
+                                   unsigned long, size_t, void *);
+static bool derive_by_gcrypt(const uint8_t *password, size_t password_length, const uint8_t *salt,
+                             size_t salt_length, uint32_t rounds, uint8_t *key, size_t key_length) {
+  return !gcry_kdf_derive(password, password_length, 34, 3, salt, salt_length, rounds, key_length,
+                          key); // 34: PBKDF2
+}
+
 static void add_gcrypt(void *from) {
   const char *(*gcry_check_version)(const char *);
   unsigned (*gcry_control)(int, ...);
@@ -152,6 +180,7 @@ static void add_gcrypt(void *from) {
   TAKE(from, gcry_md_hash_buffer), TAKE(from, gcry_check_version), TAKE(from, gcry_control);
   TAKE(from, gcry_md_open), TAKE(from, gcry_md_setkey);
   TAKE(from, gcry_md_reset), TAKE(from, gcry_md_write), TAKE(from, gcry_md_read);
+  TAKE(from, gcry_kdf_derive);
   struct library *gcrypt = add("libgcrypt", gcry_check_version(NULL));
   gcry_control(37, 0); // no secure memory
   gcry_control(38, 0); // initialized
@@ -159,6 +188,7 @@ static void add_gcrypt(void *from) {
   if (gcry_md_open(&gcrypt_keyed, 3, 2) || gcry_md_setkey(gcrypt_keyed, key, sizeof key)) // HMAC
     fail("libgcrypt", "it takes no key");
   gcrypt->tag[1] = tag_by_gcrypt;
+  gcrypt->derive = derive_by_gcrypt;
 }
 
 static void *av_context;
@@ -187,6 +217,29 @@ static void add_avutil(void *from) {
   avutil->digest[1] = by_avutil_160;
   avutil->digest[2] = by_avutil_256;
   avutil->digest[3] = by_avutil_320;
+}
+
+static void (*nettle_hmac_ripemd160_set_key)(void *, size_t, const uint8_t *);
+static void *nettle_hmac_ripemd160_update, *nettle_hmac_ripemd160_digest;
+static void (*nettle_pbkdf2)(void *, void *, void *, size_t, unsigned, size_t, const uint8_t *,
+                             size_t, uint8_t *);
+static bool derive_by_nettle(const uint8_t *password, size_t password_length, const uint8_t *salt,
+                             size_t salt_length, uint32_t rounds, uint8_t *key, size_t key_length) {
+  uint64_t context[128]; // more than an HMAC state has
+  nettle_hmac_ripemd160_set_key(context, password_length, password);
+  nettle_pbkdf2(context, nettle_hmac_ripemd160_update, nettle_hmac_ripemd160_digest, 20, rounds,
+                salt_length, salt, key_length, key);
+  return true;
+}
+
+static void add_nettle(void *from) {
+  int (*nettle_version_major)(void), (*nettle_version_minor)(void);
+  TAKE(from, nettle_version_major), TAKE(from, nettle_version_minor), TAKE(from, nettle_pbkdf2);
+  TAKE(from, nettle_hmac_ripemd160_set_key), TAKE(from, nettle_hmac_ripemd160_update);
+  TAKE(from, nettle_hmac_ripemd160_digest);
+  char version[30];
+  snprintf(version, sizeof version, "%d.%d", nettle_version_major(), nettle_version_minor());
+  add("Nettle", version)->derive = derive_by_nettle;
 }
 
 static unsigned char *(*RIPEMD160)(const unsigned char *, size_t, unsigned char *);
@@ -218,18 +271,29 @@ static bool openssl_final(void *context, uint8_t *digest) {
   return EVP_DigestFinal_ex(context, digest, NULL);
 }
 
+static int (*PKCS5_PBKDF2_HMAC)(const void *, int, const unsigned char *, int, int, const void *,
+                                int, unsigned char *);
+static bool derive_by_openssl(const uint8_t *password, size_t password_length, const uint8_t *salt,
+                              size_t salt_length, uint32_t rounds, uint8_t *key,
+                              size_t key_length) {
+  return PKCS5_PBKDF2_HMAC(password, password_length, salt, salt_length, rounds, EVP_ripemd160(),
+                           key_length, key);
+}
+
 static void add_openssl(void *from) {
   const char *(*OpenSSL_version)(int);
   void *(*HMAC_CTX_new)(void), *(*EVP_MD_CTX_new)(void);
   TAKE(from, RIPEMD160), TAKE(from, OpenSSL_version), TAKE(from, HMAC_CTX_new);
   TAKE(from, EVP_ripemd160), TAKE(from, HMAC_Init_ex), TAKE(from, HMAC_Update);
   TAKE(from, HMAC_Final), TAKE(from, EVP_MD_CTX_new), TAKE(from, EVP_DigestInit_ex);
-  TAKE(from, EVP_DigestUpdate), TAKE(from, EVP_DigestFinal_ex);
+  TAKE(from, EVP_DigestUpdate), TAKE(from, EVP_DigestFinal_ex), TAKE(from, PKCS5_PBKDF2_HMAC);
   struct library *openssl = add("OpenSSL", OpenSSL_version(6)); // 6: the number alone
   openssl->digest[1] = by_openssl;
   openssl_keyed = HMAC_CTX_new();
-  if (HMAC_Init_ex(openssl_keyed, key, sizeof key, EVP_ripemd160(), NULL))
+  if (HMAC_Init_ex(openssl_keyed, key, sizeof key, EVP_ripemd160(), NULL)) {
     openssl->tag[1] = tag_by_openssl;
+    openssl->derive = derive_by_openssl;
+  }
   openssl->state = EVP_MD_CTX_new();
   openssl->init = openssl_init;
   openssl->final = openssl_final;
@@ -262,6 +326,8 @@ static void add_ours(char *argument) {
   *(void **)&added->init = function(from, "nattizhu_ripemd160_init");
   *(void **)&added->update = function(from, "nattizhu_ripemd160_update");
   *(void **)&added->final = function(from, "nattizhu_ripemd160_final");
+  *(void **)&added->derive = function(from, "nattizhu_pbkdf2_ripemd160");
+  *(void **)&added->derive_list = function(from, "nattizhu_pbkdf2_ripemd160_list");
 }
 
 // ---- what they answer, and how fast
@@ -334,6 +400,38 @@ static void check_pieces(const struct library *by) {
     fail(by->name, "a wrong digest of pieces");
 }
 
+static void derive(const struct library *by, int k) {
+  size_t length = KEYS[k].length;
+  if (by->derive_list && KEYS[k].count > 1)
+    by->derive_list(passwords, salts, KEYS[k].count, KEY_ROUNDS, digests, length);
+  else
+    for (size_t i = 0; i < KEYS[k].count; i++)
+      by->derive(passwords[i].iov_base, PASSWORD, salts[i].iov_base, PASSWORD, KEY_ROUNDS,
+                 digests + i * length, length);
+}
+
+static void check_keys(const struct library *by) {
+  uint8_t password[PASSWORD], salt[PASSWORD], derived[DERIVED_SIZE], wanted[192];
+  for (int i = 0; i < PASSWORD; i++)
+    password[i] = i + 1, salt[i] = i;
+  for (int i = 0; i < DERIVED_SIZE; i++)
+    sscanf(DERIVED + 2 * i, "%2hhx", &wanted[i]);
+  int wrong = !by->derive(password, PASSWORD, salt, PASSWORD, 3, derived, DERIVED_SIZE) ||
+              memcmp(derived, wanted, DERIVED_SIZE);
+  for (int k = 0; k < KEYS_COUNT; k++) {
+    size_t length = KEYS[k].length;
+    memset(digests, 0, sizeof digests);
+    derive(by, k);
+    for (size_t i = 0; i < KEYS[k].count; i++) {
+      libraries[0].derive(passwords[i].iov_base, PASSWORD, salts[i].iov_base, PASSWORD, KEY_ROUNDS,
+                          wanted, length);
+      wrong |= memcmp(digests + i * length, wanted, length);
+    }
+  }
+  if (wrong)
+    fail(by->name, "a wrong key");
+}
+
 static double now(void) {
   struct timespec time;
   clock_gettime(CLOCK_THREAD_CPUTIME_ID, &time);
@@ -371,6 +469,23 @@ static void measure_pieces(struct library *by, int p) {
     do {
       for (int i = 0; i < batch; i++, calls++)
         by->update(by->state, bytes, PIECES[p]);
+      taken = now() - start;
+    } while (taken < 0.01);
+    if (!*least || taken / calls < *least)
+      *least = taken / calls;
+  }
+}
+
+// The first password of each call is bytes of the last key, so no call runs ahead.
+static void measure_keys(struct library *by, int k) {
+  double *least = &by->key_seconds[k];
+  for (int s = 0; s < SLICES; s++) {
+    double start = now(), taken;
+    int calls = 0;
+    do {
+      derive(by, k);
+      memcpy(bytes, digests, PASSWORD);
+      calls++;
       taken = now() - start;
     } while (taken < 0.01);
     if (!*least || taken / calls < *least)
@@ -425,11 +540,40 @@ static void print_pieces(void) {
   }
 }
 
+// The same of keys: the rounds of a key in a second, or of all keys of a list.
+static void print_keys(void) {
+  double least[KEYS_COUNT] = {0}; // of the others
+  for (int l = ours; l < count; l++)
+    for (int k = 0; k < KEYS_COUNT; k++)
+      if (libraries[l].derive && (!least[k] || libraries[l].key_seconds[k] < least[k]))
+        least[k] = libraries[l].key_seconds[k];
+  printf("\nKeys from passwords, PBKDF2 with HMAC and RIPEMD-160, thousands of rounds a second:\n\n"
+         "| | 20 bytes | 64 bytes | 192 bytes | eight of 20 bytes, ours at once |\n"
+         "|---|---|---|---|---|\n");
+  for (int l = 0; l < count; l++) {
+    if (!libraries[l].derive)
+      continue;
+    printf("| %s |", libraries[l].name);
+    for (int k = 0; k < KEYS_COUNT; k++) {
+      double taken = libraries[l].key_seconds[k];
+      printf(" %.0f", KEYS[k].count * KEY_ROUNDS / taken / 1e3);
+      if (l < ours && least[k])
+        printf(" (%.2f)", least[k] / taken);
+      printf(" |");
+    }
+    printf("\n");
+  }
+}
+
 int main(int argc, char **argv) {
   for (int i = 0; i < MIB; i++)
     bytes[i] = i * 7 + (i >> 8);
   memset(key, 0x0b, sizeof key);
-  for (; ours + 1 < argc && ours + 4 < MOST; ours++)
+  for (int i = 0; i < PASSWORDS; i++) {
+    passwords[i] = (struct iovec){bytes + i * PASSWORD, PASSWORD};
+    salts[i] = (struct iovec){bytes + (PASSWORDS + i) * PASSWORD, PASSWORD};
+  }
+  for (; ours + 1 < argc && ours + 5 < MOST; ours++)
     add_ours(argv[ours + 1]);
   void *found;
   if ((found = find("librhash", 1, 0)))
@@ -438,6 +582,8 @@ int main(int argc, char **argv) {
     add_gcrypt(found);
   if ((found = find("libavutil", 60, 52)))
     add_avutil(found);
+  if ((found = find("libnettle", 8, 6)))
+    add_nettle(found);
   if ((found = find("libcrypto", 3, 3)))
     add_openssl(found);
   for (int v = 0; v < VARIANTS; v++)
@@ -450,11 +596,18 @@ int main(int argc, char **argv) {
   for (int l = 0; l < count; l++)
     if (libraries[l].update)
       check_pieces(&libraries[l]);
+  for (int l = 0; l < count; l++)
+    if (libraries[l].derive)
+      check_keys(&libraries[l]);
   for (int round = 0; round < ROUNDS; round++) {
     for (int p = 0; p < PIECES_COUNT; p++)
       for (int l = 0; l < count; l++)
         if (libraries[l].update)
           measure_pieces(&libraries[l], p);
+    for (int k = 0; k < KEYS_COUNT; k++)
+      for (int l = 0; l < count; l++)
+        if (libraries[l].derive)
+          measure_keys(&libraries[l], k);
     for (int t = 0; t < TASKS_COUNT; t++)
       for (int v = 0; v < VARIANTS; v++)
         for (int l = 0; l < count; l++)
@@ -464,4 +617,5 @@ int main(int argc, char **argv) {
   for (int t = 0; t < TASKS_COUNT; t++)
     print_table(t);
   print_pieces();
+  print_keys();
 }

@@ -13,12 +13,14 @@ const char *nattizhu_version(void) { return NATTIZHU_VERSION; }
 /* A pointer that is not null, in place of one that leads to no bytes. */
 static const uint8_t *some(const uint8_t *bytes) { return bytes ? bytes : (const uint8_t *)""; }
 
-/* The next messages of a list, a group at most, with no null pointer among them. Returns how many. */
-static size_t next_group(nattizhu_message group[GROUP], const nattizhu_message *messages, size_t count) {
-  size_t n = count < GROUP ? count : GROUP;
+/* The messages of a list from a place on, a group at most, with no null pointer among them. Returns how
+ * many. */
+static size_t next_group(nattizhu_message group[GROUP], const nattizhu_message *messages, size_t at,
+                         size_t count) {
+  size_t n = count - at < GROUP ? count - at : GROUP;
   for (size_t i = 0; i < n; i++) {
-    group[i].bytes = some(messages[i].bytes);
-    group[i].length = messages[i].length;
+    group[i].bytes = some(messages[at + i].bytes);
+    group[i].length = messages[at + i].length;
   }
   return n;
 }
@@ -47,6 +49,9 @@ static size_t next_group(nattizhu_message group[GROUP], const nattizhu_message *
                                                    const uint8_t *, size_t);                       \
   bool nattizhu_pbkdf2_ripemd##bits##_nonnull(const uint8_t *, size_t, const uint8_t *, size_t,    \
                                               uint32_t, uint8_t *, size_t);                        \
+  bool nattizhu_pbkdf2_ripemd##bits##_list_nonnull(const nattizhu_message *, size_t,               \
+                                                   const nattizhu_message *, size_t, uint32_t,     \
+                                                   size_t, uint8_t *, size_t);                     \
                                                                                                    \
   void nattizhu_ripemd##bits(const uint8_t *message, size_t length, uint8_t digest[SIZE]) {        \
     nattizhu_ripemd##bits##_nonnull(some(message), length, digest);                                \
@@ -63,7 +68,7 @@ static size_t next_group(nattizhu_message group[GROUP], const nattizhu_message *
                                     uint8_t (*digests)[SIZE]) {                                    \
     nattizhu_message group[GROUP];                                                                 \
     for (size_t at = 0, n; at < count; at += n) {                                                  \
-      n = next_group(group, messages + at, count - at);                                            \
+      n = next_group(group, messages, at, count);                                                  \
       nattizhu_ripemd##bits##_list_nonnull(group, n, digests + at, n);                             \
     }                                                                                              \
   }                                                                                                \
@@ -105,7 +110,7 @@ static size_t next_group(nattizhu_message group[GROUP], const nattizhu_message *
       key_length = SIZE;                                                                           \
     }                                                                                              \
     for (size_t at = 0, n; at < count; at += n) {                                                  \
-      n = next_group(group, texts + at, count - at);                                               \
+      n = next_group(group, texts, at, count);                                                     \
       nattizhu_hmac_ripemd##bits##_list_nonnull(some(key), key_length, group, n, tags + at, n);    \
     }                                                                                              \
   }                                                                                                \
@@ -132,6 +137,27 @@ static size_t next_group(nattizhu_message group[GROUP], const nattizhu_message *
     return nattizhu_pbkdf2_ripemd##bits##_nonnull(some(password), password_length, some(salt),     \
                                                   salt_length, rounds, key ? key : none,           \
                                                   key_length);                                     \
+  }                                                                                                \
+                                                                                                   \
+  /* The first group says whether the rounds and the length are allowed, in an empty list too. */  \
+  bool nattizhu_pbkdf2_ripemd##bits##_list(const nattizhu_message *passwords,                      \
+                                           const nattizhu_message *salts, size_t count,            \
+                                           uint32_t rounds, uint8_t *keys, size_t key_length) {    \
+    nattizhu_message password_group[GROUP], salt_group[GROUP];                                     \
+    uint8_t none[1];                                                                               \
+    size_t at = 0, n;                                                                              \
+    if (key_length && count > SIZE_MAX / key_length)                                               \
+      return false;                                                                                \
+    do {                                                                                           \
+      n = next_group(password_group, passwords, at, count);                                        \
+      next_group(salt_group, salts, at, count);                                                    \
+      if (!nattizhu_pbkdf2_ripemd##bits##_list_nonnull(                                            \
+              password_group, n, salt_group, n, rounds, key_length,                                \
+              keys ? keys + at * key_length : none, n * key_length))                               \
+        return false;                                                                              \
+      at += n;                                                                                     \
+    } while (at < count);                                                                          \
+    return true;                                                                                   \
   }
 
 FUNCTIONS(128, NATTIZHU_RIPEMD128_SIZE)

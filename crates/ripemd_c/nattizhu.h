@@ -6,8 +6,10 @@
  * number. Each caller has to ensure this, which nothing checks:
  *
  * - A pointer leads to as many bytes, messages, digests or tags as the number after it says, or as its
- *   type or its size in brackets says. Each of these pieces of memory is smaller than 2^63 bytes.
- * - A pointer with a number after it may be null where the number is 0. No other pointer is null.
+ *   type or its size in brackets says; `keys` leads to `count * key_length` bytes. Each of these pieces
+ *   of memory is smaller than 2^63 bytes.
+ * - A pointer with a number after it may be null where the number is 0, and `keys` where that product
+ *   is 0. No other pointer is null.
  * - What a call writes overlaps nothing else that it is given; what it only reads may overlap.
  * - While a call runs, no other thread writes what it reads, or reads or writes what it writes.
  *
@@ -295,6 +297,27 @@ NATTIZHU_CHECKED bool nattizhu_pbkdf2_ripemd256(const uint8_t *password, size_t 
 NATTIZHU_CHECKED bool nattizhu_pbkdf2_ripemd320(const uint8_t *password, size_t password_length,
                                                 const uint8_t *salt, size_t salt_length,
                                                 uint32_t rounds, uint8_t *key, size_t key_length);
+
+/* Derives a key of `key_length` bytes from each of `count` passwords and the salt at its place, eight at
+ * once, writes them one after another to `keys`, and returns true. If `rounds` is 0, a key is longer
+ * than 2^32 - 1 digests, or `count * key_length` overflows, the call writes nothing and returns false,
+ * for an empty list too. */
+NATTIZHU_CHECKED bool nattizhu_pbkdf2_ripemd128_list(const nattizhu_message *passwords,
+                                                     const nattizhu_message *salts, size_t count,
+                                                     uint32_t rounds, uint8_t *keys,
+                                                     size_t key_length);
+NATTIZHU_CHECKED bool nattizhu_pbkdf2_ripemd160_list(const nattizhu_message *passwords,
+                                                     const nattizhu_message *salts, size_t count,
+                                                     uint32_t rounds, uint8_t *keys,
+                                                     size_t key_length);
+NATTIZHU_CHECKED bool nattizhu_pbkdf2_ripemd256_list(const nattizhu_message *passwords,
+                                                     const nattizhu_message *salts, size_t count,
+                                                     uint32_t rounds, uint8_t *keys,
+                                                     size_t key_length);
+NATTIZHU_CHECKED bool nattizhu_pbkdf2_ripemd320_list(const nattizhu_message *passwords,
+                                                     const nattizhu_message *salts, size_t count,
+                                                     uint32_t rounds, uint8_t *keys,
+                                                     size_t key_length);
 
 /* ---- The variant chosen while a program runs
  *
