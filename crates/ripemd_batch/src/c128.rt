@@ -26,7 +26,6 @@ fn joint_state(state: [Eight; 4], lines: Lines) -> [Eight; 4]
 }
 
 /// The states after one more block of each message, of which these are the message words.
-#[inline(always)]
 pub(crate) fn compress(state: [Eight; 4], words: &[Eight; 16]) -> [Eight; 4]
     ensures { (j : ℕ) → j < 8 → (block : List ℕ) → HasWords words.now j block
         → lane_of 4 j result

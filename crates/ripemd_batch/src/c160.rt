@@ -27,7 +27,6 @@ fn joint_state(state: [Eight; 5], lines: Lines) -> [Eight; 5]
 }
 
 /// The states after one more block of each message, of which these are the message words.
-#[inline(always)]
 pub(crate) fn compress(state: [Eight; 5], words: &[Eight; 16]) -> [Eight; 5]
     ensures { (j : ℕ) → j < 8 → (block : List ℕ) → HasWords words.now j block
         → lane_of 5 j result

@@ -44,7 +44,6 @@ fn double_state(state: [Eight; 8], lines: Lines) -> [Eight; 8]
 
 /// The states after one more block of each message, of which these are the message words. The registers that are exchanged are A, B, C
 /// and D in turn.
-#[inline(always)]
 pub(crate) fn compress(state: [Eight; 8], words: &[Eight; 16]) -> [Eight; 8]
     ensures { (j : ℕ) → j < 8 → (block : List ℕ) → HasWords words.now j block
         → lane_of 8 j result

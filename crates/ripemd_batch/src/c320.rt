@@ -46,7 +46,6 @@ fn double_state(state: [Eight; 10], lines: Lines) -> [Eight; 10]
 
 /// The states after one more block of each message, of which these are the message words. The registers that are exchanged are B, D, A,
 /// C and E in turn.
-#[inline(always)]
 pub(crate) fn compress(state: [Eight; 10], words: &[Eight; 16]) -> [Eight; 10]
     ensures { (j : ℕ) → j < 8 → (block : List ℕ) → HasWords words.now j block
         → lane_of 10 j result
