@@ -1,4 +1,5 @@
-//! Digests of many messages, and tags of many texts under one key: eight at once, one in each lane of a vector.
+//! Digests of many messages, tags of many texts under one key, and keys from passwords: eight at once, one in each
+//! lane of a vector.
 #![tactic(auto)]
 
 mod c128;
@@ -21,4 +22,5 @@ pub mod tags;
 
 pub use digests::{BatchDigest, digest_each};
 pub use lists::ListHasher;
+pub use passwords::{pbkdf2, pbkdf2_each};
 pub use tags::tag_each;

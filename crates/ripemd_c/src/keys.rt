@@ -6,8 +6,7 @@ ghost use Rattle.ripemd_batch.specs.Lanes.{targets};
 ghost use Rattle.ripemd_c.specs.Keys.{DerivesKey, DerivesKeys};
 
 use ripemd::{Ripemd128, Ripemd160, Ripemd256, Ripemd320};
-use ripemd_batch::BatchDigest;
-use ripemd_batch::passwords::{pbkdf2, pbkdf2_each};
+use ripemd_batch::{BatchDigest, pbkdf2, pbkdf2_each};
 
 /// Derives a key from a password and a salt by so many rounds, with HMAC over RIPEMD-128, and fills
 /// `key` with it. False exactly if there are no rounds, or the key is longer than 2^32 - 1 digests, and

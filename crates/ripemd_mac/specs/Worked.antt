@@ -95,7 +95,7 @@ pub record WorkedMacCollisions : Type 0 where
 abbrev pub derived : (P S : List ℕ) → (c dkLen : ℕ) → List ℕ
 derived P S c dkLen = hexadecimal (pbkdf2 (hmac (ripemd ripemd160)) 20 P S c dkLen)
 
--- those that OpenSSL and libgcrypt give
+-- those that OpenSSL gives
 pub record WorkedKeys : Type 0 where
   pub one : derived (codes "password") (codes "salt") 1 20 ≡ codes "b725258b125e0bacb0e2307e34feb16a4d0d6aed"
   pub two : derived (codes "password") (codes "salt") 2 45 ≡ codes "768dcc27b7bfdef794a1ff9d935090fcf598555e66913180b9ce363c615e9ed953b95fd07169be535e38afbea2"

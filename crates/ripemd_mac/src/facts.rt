@@ -19,7 +19,7 @@ pub fn mac_collisions()
     ensures { WorkedMacCollisions }
 {}
 
-/// The definition gives the keys that OpenSSL and libgcrypt derive.
+/// The definition gives the keys that OpenSSL derives.
 pub fn keys()
     ensures { WorkedKeys }
 {}

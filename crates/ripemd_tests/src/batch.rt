@@ -1,5 +1,6 @@
 //! The tests of `ripemd_batch`.
 
+mod keys;
 mod tags;
 
 use crate::digits::{

@@ -39,3 +39,28 @@ pub fn tags_of(key: &[u8], records: &[&[u8]], tags: &mut [[u8; 20]])
 {
     tag_each::<Ripemd160>(key, records, tags);
 }
+
+ghost use Rattle.std.specs.Prelude.{◌*◌, IfOk};
+ghost use Rattle.ripemd_batch.specs.Keys.{pbkdf2_each};
+
+use ripemd_batch::pbkdf2_each;
+use ripemd_mac::Pbkdf2Error;
+
+/// Writes a key of 32 bytes from each password and the salt in its place, one after another.
+///
+/// # Errors
+///
+/// `Pbkdf2Error::NoRounds` if `rounds` is 0.
+pub fn keys_of(
+    passwords: &[&[u8]],
+    salts: &[&[u8]],
+    rounds: u32,
+    keys: &mut [u8],
+) -> Result<(), Pbkdf2Error>
+    requires salts { length salts.now ≡ length passwords.now }
+    requires room { length keys.old ≡ 32 * length passwords.now }
+    ensures ok { IfOk result (λ _. keys.new ≡ pbkdf2_each (hmac (ripemd ripemd160)) 20
+        (targets passwords.now) (targets salts.now) rounds 32) }
+{
+    pbkdf2_each::<Ripemd160>(passwords, salts, rounds, 32, keys)
+}

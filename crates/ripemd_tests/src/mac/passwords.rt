@@ -2,22 +2,26 @@
 
 use super::count_up;
 use crate::digits::is_written;
-use ripemd::digest::BlockDigest;
 use ripemd::{Ripemd128, Ripemd160, Ripemd256, Ripemd320};
+use ripemd_batch::BatchDigest;
 use ripemd_mac::{Pbkdf2Error, pbkdf2};
 
-// Whether the key of so many bytes is this one.
-fn derives<D: BlockDigest>(password: &[u8], salt: &[u8], rounds: u32, digits: &str) -> bool {
+// Whether the key of so many bytes is this one, also in lanes.
+fn derives<D: BatchDigest>(password: &[u8], salt: &[u8], rounds: u32, digits: &str) -> bool {
     let mut room = [7; 130];
     let Some(key) = room.get_mut(..digits.len() / 2) else {
         return false;
     };
-    pbkdf2::<D>(password, salt, rounds, key).is_ok() && is_written(key, digits)
+    pbkdf2::<D>(password, salt, rounds, key).is_ok()
+        && is_written(key, digits)
+        && ripemd_batch::pbkdf2::<D>(salt, password, 1, key).is_ok()
+        && ripemd_batch::pbkdf2::<D>(password, salt, rounds, key).is_ok()
+        && is_written(key, digits)
 }
 
 // Whether the keys are these, of passwords and salts of these lengths, whose bytes are 1, 2 and so on,
 // and 0, 1 and so on, by so many rounds.
-fn have_keys<D: BlockDigest>(keys: &[(usize, usize, u32, &str)]) -> bool {
+fn have_keys<D: BatchDigest>(keys: &[(usize, usize, u32, &str)]) -> bool {
     let mut password = [0; 65];
     count_up(&mut password, 1);
     let mut salt = [0; 64];
