@@ -356,7 +356,7 @@ fn blocks_of<S: EightStates>(states: &S) -> [[u8; 64]; 8]
 }
 
 // The digest of message `j`, filled with zeros.
-#[inline(always)]
+#[inline(never)]
 fn digest_block<S: EightStates>(states: &S, j: usize) -> [u8; 64]
     requires { j < 8 }
     ensures { IsFilled S.Output.LEN result (S.Function.output (S.words_of j states.now)) }

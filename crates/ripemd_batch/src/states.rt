@@ -196,6 +196,7 @@ impl EightStates for [Eight; 4] {
         select_each(live, new, old)
     }
 
+    #[inline(always)]
     fn digest_of(&self, j: usize) -> [u8; 16] {
         Ripemd128Function::output(lane_of(self, j))
     }
@@ -228,6 +229,7 @@ impl EightStates for [Eight; 5] {
         select_each(live, new, old)
     }
 
+    #[inline(always)]
     fn digest_of(&self, j: usize) -> [u8; 20] {
         Ripemd160Function::output(lane_of(self, j))
     }
@@ -260,6 +262,7 @@ impl EightStates for [Eight; 8] {
         select_each(live, new, old)
     }
 
+    #[inline(always)]
     fn digest_of(&self, j: usize) -> [u8; 32] {
         Ripemd256Function::output(lane_of(self, j))
     }
@@ -292,6 +295,7 @@ impl EightStates for [Eight; 10] {
         select_each(live, new, old)
     }
 
+    #[inline(always)]
     fn digest_of(&self, j: usize) -> [u8; 40] {
         Ripemd320Function::output(lane_of(self, j))
     }
