@@ -210,7 +210,11 @@ fn digest_one_by_one<D: BatchDigest>(
 }
 
 // The digest of one message.
-pub(crate) fn digest_one<D: BatchDigest>(first: StateOf<D>, before: u64, message: &[u8]) -> D::Output
+pub(crate) fn digest_one<D: BatchDigest>(
+    first: StateOf<D>,
+    before: u64,
+    message: &[u8],
+) -> D::Output
     requires { D.States.Function.is_state first }
     ensures { D.bytes_of result
         ≡ hash_after before (D.States.Function.list first) D.step D.output message.now }
@@ -219,7 +223,11 @@ pub(crate) fn digest_one<D: BatchDigest>(first: StateOf<D>, before: u64, message
 }
 
 // The state whose output that is.
-pub(crate) fn last_state<D: BatchDigest>(first: StateOf<D>, before: u64, message: &[u8]) -> StateOf<D>
+pub(crate) fn last_state<D: BatchDigest>(
+    first: StateOf<D>,
+    before: u64,
+    message: &[u8],
+) -> StateOf<D>
     requires { D.States.Function.is_state first }
     ensures { D.output (D.States.Function.list result)
         ≡ hash_after before (D.States.Function.list first) D.step D.output message.now }

@@ -24,7 +24,7 @@ loop-k-preserved g c =
     let tag_of : ℕ → List ℕ → List ℕ = λ j. tag_after f.step f.output (words j c.args.inner) (words j c.args.outer) in
     let first : ℕ → List ℕ = λ j. f.output (words j c.args.first) in
     let tag : (j : ℕ) → j < 8 → f.output (words j c.digest_after-next.result)
-        ≡ iterate (tag_of j) (c.loop-k.k + 1 - 1) (first j) = λ j h.
+    ≡ iterate (tag_of j) (c.loop-k.k + 1 - 1) (first j) = λ j h.
     c.digest_after-next.ensures j h
     ∙ ap (hash_after 64 (words j c.args.outer) f.step f.output) (c.digest_after.ensures j h)
     ∙ ap (tag_of j) (c.loop-k.invariant.tag j h)

@@ -18,16 +18,26 @@ loop-j-preserved g c i h live = next (cases_lt i c.loop-j.j)
     next (inl before) =
         let eight : i < 8 = omega (arith, before, c.loop-j-test.true) in
         let other = c.only_lane-lane.ensures.no i eight (omega (arith, before)) in
-        rw (c.select-inner.ensures.kept i eight other, c.select-outer.ensures.kept i eight other,
-        c.select-first.ensures.kept i eight other) (c.loop-j.invariant i before live)
+        rw (
+          c.select-inner.ensures.kept i eight other,
+          c.select-outer.ensures.kept i eight other,
+          c.select-first.ensures.kept i eight other,
+        ) (c.loop-j.invariant i before live)
     next (inr last) =
         let here : i ≡ c.loop-j.j = omega (arith, h, last) in
         let eight : c.loop-j.j < 8 = omega (arith, c.loop-j-test.true) in
         let one = c.only_lane-lane.ensures.yes in
         let place : c.place_of.result ≡ c.args.k + c.loop-j.j = c.place_of.ensures.block (omega (arith, live, here)) in
-        rw (here, c.select-inner.ensures.taken c.loop-j.j eight one, c.select-outer.ensures.taken c.loop-j.j eight one,
-        c.select-first.ensures.taken c.loop-j.j eight one, c.splat.ensures c.loop-j.j eight,
-        c.splat-in-loop-j.ensures c.loop-j.j eight, c.splat-in-loop-j-2.ensures c.loop-j.j eight, ← place)
+        rw (
+          here,
+          c.select-inner.ensures.taken c.loop-j.j eight one,
+          c.select-outer.ensures.taken c.loop-j.j eight one,
+          c.select-first.ensures.taken c.loop-j.j eight one,
+          c.splat.ensures c.loop-j.j eight,
+          c.splat-in-loop-j.ensures c.loop-j.j eight,
+          c.splat-in-loop-j-2.ensures c.loop-j.j eight,
+          ← place,
+        )
         (c.chain_at-chain.ensures.block c.args.of.now.rounds)
 
 pub returns : goal.returns
@@ -37,8 +47,8 @@ returns g c j h live =
     let words = g.D.States.EightStates.words_of in
     let d = g.D.Digest in
     let sums : f.output (words j c.combined_tags-sums.result)
-        ≡ block_at (hmac (hash d.start d.step d.output)) (targets c.args.of.now.passwords.now) (targets c.args.of.now.salts.now)
-        c.args.of.now.rounds c.args.of.now.count (c.args.k + j) =
+    ≡ block_at (hmac (hash d.start d.step d.output)) (targets c.args.of.now.passwords.now) (targets c.args.of.now.salts.now)
+    c.args.of.now.rounds c.args.of.now.count (c.args.k + j) =
     c.combined_tags-sums.ensures j h
     ∙ rw (same.same_step, same.same_output) (c.loop-j.invariant j (search (rules, arith)) live) in
     let size = c.digest_size.ensures in

@@ -9,13 +9,14 @@ use Rattle.ripemd_batch.proofs.passwords.few_blocks.Goals as goal
 
 pub loop-j-preserved : goal.loop-j-preserved
 loop-j-preserved g c = record {
-    size = length-set c.loop-j.blocks c.loop-j.j c.one_by_one-block.result ∙ c.loop-j.invariant.size;
-    so_far = λ i h. written i h (cases_lt i c.loop-j.j);
-  }
+  size = length-set c.loop-j.blocks c.loop-j.j c.one_by_one-block.result ∙ c.loop-j.invariant.size;
+  so_far = λ i h. written i h (cases_lt i c.loop-j.j);
+}
   where
     block : ℕ → List ℕ
     block i = block_at (hmac (hash g.D.Digest.start g.D.Digest.step g.D.Digest.output))
         (targets c.args.of.now.passwords.now) (targets c.args.of.now.salts.now) c.args.of.now.rounds c.args.of.now.count (c.args.k + i)
+
     written : (i : ℕ) → i < c.loop-j.j + 1 → (i < c.loop-j.j) ⊎ (c.loop-j.j ≤ i)
         → IsFilled g.D.OutputSizeUser.OUTPUT_SIZE (list_at (slice_set c.loop-j.blocks c.loop-j.j c.one_by_one-block.result) i) (block i)
     written i h (inl before) =
@@ -23,5 +24,8 @@ loop-j-preserved g c = record {
     written i h (inr last) =
         let here : i ≡ c.loop-j.j = omega (arith, h, last) in
         let inside : c.loop-j.j < length c.loop-j.blocks = omega (arith, c.loop-j.invariant.size, c.loop-j-test.true, c.requires.few) in
-        rw (here, get_or-set_same c.loop-j.blocks c.loop-j.j c.one_by_one-block.result [] inside,
-        ← c.chain_at.ensures.block c.args.of.now.rounds) c.one_by_one-block.ensures
+        rw (
+          here,
+          get_or-set_same c.loop-j.blocks c.loop-j.j c.one_by_one-block.result [] inside,
+          ← c.chain_at.ensures.block c.args.of.now.rounds,
+        ) c.one_by_one-block.ensures

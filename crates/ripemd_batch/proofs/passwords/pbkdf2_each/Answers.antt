@@ -22,12 +22,12 @@ returns-then-size-eq0-clause-ok g c =
 
 pub loop-i-init : goal.loop-i-init
 loop-i-init g c = record {
-    len = refl;
-    group = λ more. absurd (omega (arith, more));
-    so_far =
-        let none : c.args.size * 0 ≡ 0 = omega arith in
-        rw none refl;
-  }
+  len = refl;
+  group = λ more. absurd (omega (arith, more));
+  so_far =
+      let none : c.args.size * 0 ≡ 0 = omega arith in
+      rw none refl;
+}
 
 pub write_key-next-requires-clause-numbers : goal.write_key-next-requires-clause-numbers
 write_key-next-requires-clause-numbers g c = search (rules, arith, count_fits)
@@ -55,8 +55,12 @@ loop-i-preserved g c =
     let keys = c.loop-i.keys in
     let key = c.write_key-next.new.key in
     let f : ℕ → List ℕ = λ i. pbkdf2 tag g.D.OutputSizeUser.OUTPUT_SIZE (list_at passwords i) (list_at salts i) c.args.rounds size in
-    let inside : at + size ≤ length keys = omega (arith, c.loop-i.invariant.len, c.requires.room,
-    mul-le-mul_left size c.loop-i-test.true) in
+    let inside : at + size ≤ length keys = omega (
+      arith,
+      c.loop-i.invariant.len,
+      c.requires.room,
+      mul-le-mul_left size c.loop-i-test.true,
+    ) in
     let whole : key ≡ f i = c.write_key-next.ensures.key ∙ ap (pbkdf2 tag g.D.OutputSizeUser.OUTPUT_SIZE (list_at passwords i) (list_at salts i) c.args.rounds)
     (part_size keys at size inside) in
     let many : length key ≡ size = c.write_key-next.auto.key ∙ part_size keys at size inside in

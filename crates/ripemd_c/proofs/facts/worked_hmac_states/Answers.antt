@@ -1,4 +1,4 @@
-use Rattle.std.proofs.Common.{List, ◌++◌, subst}
+use Rattle.std.proofs.Common.{◌++◌, subst}
 use Rattle.ripemd.specs.Standard.Words.{word_bytes}
 use Rattle.ripemd.specs.States.{AreWords}
 use Rattle.ripemd.specs.Saved.{IsSaved}
