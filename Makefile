@@ -11,9 +11,12 @@
 #                      a picture, crates/ripemd_bench/out/speed.svg
 #   make library       builds the library for C, proved, with a C compiler: libnattizhu.a and the shared
 #                      object libnattizhu.so, in crates/ripemd_c/out
+#   make wheel         builds the package for Python, with Python's headers, pip, setuptools and wheel:
+#                      dist/nattizhu-VERSION-cp311-abi3-linux_x86_64.whl, which `pip install` installs
+#                      where there is no compiler
 #   make install       builds all of it and copies to PREFIX (/usr/local; DESTDIR goes in front) the
 #                      program and its manual page, the two libraries, nattizhu.h, nattizhu.pc for
-#                      pkg-config, and nattizhu.py for the python3 on the path
+#                      pkg-config, and the package nattizhu for the python3 on the path
 #   make uninstall     removes these again
 #   make clean         removes what was built
 #
@@ -29,10 +32,10 @@ SPEED = crates/ripemd_bench/out/speed
 BUILT = crates/ripemd_c/out
 AT = $(DESTDIR)$(PREFIX)
 # Where the python3 on the path has its modules below a prefix; nothing, where there is none.
-SITE = $(shell python3 -c 'import sys; print("lib/python%d.%d/site-packages" % sys.version_info[:2])' \
-  2>/dev/null)
+SITE = $(shell python3 -c 'import sys; sys.version_info < (3, 11) or \
+  print("lib/python%d.%d/site-packages" % sys.version_info[:2])' 2>/dev/null)
 
-.PHONY: all library toolchain prefix check quick bench install install-program install-library uninstall clean
+.PHONY: all library wheel toolchain prefix check quick bench install install-program install-library uninstall clean
 
 # `rt run` proves, builds and then runs the program, here on no input. The libraries are proved first,
 # where they have changed.
@@ -68,6 +71,9 @@ library: toolchain
 	@mkdir -p $(BUILT) && cd crates/ripemd_c && rt lib $(if $(CPU),--cpu $(CPU)) >out/log 2>&1 || { cat out/log; exit 1; }
 	@tests/shared $(BUILT)
 
+wheel: library
+	@tests/wheel dist
+
 # nattizhu.pc has the prefix in it.
 prefix:
 	@case '$(PREFIX)' in /*) ;; *) echo 'make: PREFIX must begin with /' >&2; exit 1 ;; esac
@@ -77,7 +83,7 @@ install: prefix all library
 	@if command -v cc >/dev/null; then \
 	  $(MAKE) --no-print-directory install-library; \
 	else \
-	  echo 'make: there is no C compiler (cc): libnattizhu, nattizhu.h and nattizhu.py are left out'; \
+	  echo 'make: there is no C compiler (cc): libnattizhu, nattizhu.h and the package for Python are left out'; \
 	fi
 
 # These two copy what is built.
@@ -97,20 +103,22 @@ install-library: prefix
 	chmod 644 "$(AT)/lib/pkgconfig/nattizhu.pc"
 	install -m 755 $(BUILT)/libnattizhu.so.0 "$(AT)/lib/libnattizhu.so.0"
 	ln -sf libnattizhu.so.0 "$(AT)/lib/libnattizhu.so"
-	@if [ -n "$(SITE)" ]; then \
-	  set -ex; \
-	  install -D -m 644 python/nattizhu.py "$(AT)/$(SITE)/nattizhu.py"; \
-	  { set +x; } 2>/dev/null; \
+	@room=$$(mktemp -d); trap 'rm -rf "$$room"' EXIT; tests/wheel "$$room"; \
+	if [ ! -e "$$room"/*.whl ]; then \
+	  :; \
+	elif [ -n "$(SITE)" ] && python3 -m pip --version >/dev/null 2>&1; then \
+	  python3 -m pip install --quiet --no-deps --no-index --upgrade --disable-pip-version-check \
+	    --root-user-action ignore --target "$(AT)/$(SITE)" "$$room"/*.whl; \
 	  echo 'make: where python3 does not find nattizhu by itself: PYTHONPATH=$(PREFIX)/$(SITE)'; \
 	else \
-	  echo 'make: there is no python3: nattizhu.py is left out'; \
+	  echo 'make: there is no python3 of 3.11 or later with pip: the package for Python is left out'; \
 	fi
 
 uninstall: prefix
 	rm -f "$(AT)/bin/ripemd_sum" "$(AT)/share/man/man1/ripemd_sum.1" "$(AT)/lib/libnattizhu.a" \
 	  "$(AT)/lib/libnattizhu.so" "$(AT)/lib/libnattizhu.so.0" "$(AT)/include/nattizhu.h" \
-	  "$(AT)/lib/pkgconfig/nattizhu.pc" "$(AT)"/lib/python3.*/site-packages/nattizhu.py \
-	  "$(AT)"/lib/python3.*/site-packages/__pycache__/nattizhu.*.pyc
+	  "$(AT)/lib/pkgconfig/nattizhu.pc"
+	rm -rf "$(AT)"/lib/python3.*/site-packages/nattizhu "$(AT)"/lib/python3.*/site-packages/nattizhu-*.dist-info
 
 clean:
-	rm -rf crates/*/out
+	rm -rf crates/*/out dist

@@ -19,7 +19,7 @@ use ripemd_mac::keyed::{filled, masked_keys};
 use ripemd_mac::passwords::{allowed, combined, write_front};
 
 /// Derives a key from a password and a salt as [`ripemd_mac::pbkdf2`] does, by so many rounds, and writes
-/// it to `key`: eight blocks at once, or one by one where there are fewer than four. Nothing is
+/// it to `key`: eight blocks at once, or one by one where there are fewer than three. Nothing is
 /// allocated.
 ///
 /// # Errors
@@ -47,7 +47,7 @@ pub fn pbkdf2<D: BatchDigest>(
 
 /// Derives a key of `size` bytes from each password and the salt in its place, by so many rounds, and
 /// writes one after another to `keys`: eight of all their blocks at once, and the last ones one by one
-/// where there are fewer than four. There must be as many salts as passwords, and room for so many
+/// where there are fewer than three. There must be as many salts as passwords, and room for so many
 /// keys. Nothing is allocated.
 ///
 /// # Errors
@@ -159,7 +159,7 @@ fn group_at<D: BatchDigest>(of: &KeyBlocks, k: usize, group: [[u8; 64]; 8]) -> [
     let live = of.count * of.passwords.len() - k;
     if 0 < k % 8 {
         group
-    } else if live < 4 {
+    } else if live < 3 {
         few_blocks::<D>(of, k, live)
     } else {
         eight_blocks::<D>(of, k, live)
@@ -376,12 +376,37 @@ fn combined_tags<S: EightStates>(inner: S, outer: S, first: S, rounds: u32) -> S
     let mut tag = first;
     let mut sum = first;
     for k in 1..rounds {
-        let next = digest_after(outer, digest_after(inner, tag));
+        let next = tag_after(inner, outer, tag);
         tag = next;
         let added = sum.xor(next);
         sum = added;
     }
     sum
+}
+
+// The states whose outputs are the tags of those of `text`. Both halves go through one call, so that the
+// compiler writes out the rounds of it.
+#[inline(always)]
+fn tag_after<S: EightStates>(inner: S, outer: S, text: S) -> S
+    ensures { (j : ℕ) → j < 8 → S.Function.output (S.words_of j result)
+        ≡ tag_after S.Function.step S.Function.output (S.words_of j inner) (S.words_of j outer)
+        (S.Function.output (S.words_of j text)) }
+{
+    let mut digest = text;
+    for half in 0..2 {
+        let next = digest_after(first_of_half(half, inner, outer), digest);
+        digest = next;
+    }
+    digest
+}
+
+// The states from which a half of a tag starts.
+#[inline(always)]
+fn first_of_half<S: EightStates>(half: usize, inner: S, outer: S) -> S
+    ensures inner { (j : ℕ) → j < 8 → half ≡ 0 → S.words_of j result ≡ S.words_of j inner }
+    ensures outer { (j : ℕ) → j < 8 → half ≡ 1 → S.words_of j result ≡ S.words_of j outer }
+{
+    if half == 0 { inner } else { outer }
 }
 
 // The states whose outputs are the digests of those of `digest`, as messages after one block, which led

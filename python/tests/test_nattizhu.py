@@ -1,4 +1,4 @@
-"""Tests of nattizhu.py. Expected values are published ones, or come from
+"""Tests of the package nattizhu. Expected values are published ones, or come from
 hashlib and the standard hmac."""
 
 import array
@@ -44,7 +44,8 @@ PUBLISHED = {
 
 # For other processes, that they find the same module.
 ENVIRONMENT = {**os.environ,
-               "PYTHONPATH": os.path.dirname(nattizhu.__file__)}
+               "PYTHONPATH": os.path.dirname(
+                   os.path.dirname(nattizhu.__file__))}
 
 LARGE_KEY = b"Test Using Larger Than Block-Size Key"
 # RFC 2286, sections 2 and 3: key, text and tag.
@@ -465,14 +466,170 @@ class Errors(unittest.TestCase):
             with self.assertRaises(TypeError):
                 kind("ripemd160")
 
-    def test_no_library(self):
-        done = subprocess.run(
-            [sys.executable, "-c", "import nattizhu"], text=True,
-            env={**ENVIRONMENT, "NATTIZHU_LIBRARY": "/dev/null"},
-            check=False, capture_output=True)
-        self.assertNotEqual(done.returncode, 0)
-        self.assertIn("ImportError", done.stderr)
-        self.assertIn("make install", done.stderr)
+    def test_nothing_else_makes_or_extends_them(self):
+        for kind in (nattizhu.Hasher, nattizhu.Hmac):
+            for make in (object.__new__, lambda kind: kind(),
+                         lambda kind: kind.__new__(kind),
+                         lambda kind: type("Mine", (kind,), {})):
+                with self.assertRaises((TypeError, AttributeError)):
+                    make(kind)
+            with self.assertRaises(TypeError):
+                kind.digest = None
+            with self.assertRaises(TypeError):
+                kind.update(3, b"")
+        made = nattizhu.ripemd160()
+        with self.assertRaises(AttributeError):
+            made.other = None
+        made.__init__()
+        self.assertEqual(made.hexdigest(), PUBLISHED["ripemd160"][0])
+
+    def test_arguments(self):
+        for call, error in (
+                (lambda: nattizhu.ripemd160(b"", b""), "at most 1"),
+                (lambda: nattizhu.ripemd160(b"", data=b""), "multiple values"),
+                (lambda: nattizhu.ripemd160(text=b""), "'text'"),
+                (lambda: nattizhu.new(), "'name'"),
+                (lambda: nattizhu.new("ripemd160", b"", True), "at most 2"),
+                (lambda: nattizhu.from_state("ripemd160"), "'state'"),
+                (lambda: nattizhu.hmac_digest(b"", b""), "'digest'"),
+                (lambda: nattizhu.hmac_digest(
+                    b"", b"", "ripemd160", digest="ripemd160"), "multiple"),
+                (lambda: nattizhu.hmac_new(msg=b"", digestmod="ripemd160"),
+                 "'key'")):
+            with self.assertRaises(TypeError) as caught:
+                call()
+            self.assertIn(error, str(caught.exception))
+
+    def test_what_is_wrong_is_named(self):
+        tag = nattizhu.hmac_new(b"", b"", "ripemd160")
+        for what, call in (
+                ("key", lambda x: nattizhu.hmac_new(x, b"", "ripemd160")),
+                ("key", lambda x: nattizhu.hmac_digest(x, b"", "ripemd160")),
+                ("key", lambda x: nattizhu.hmac_digest_list(
+                    x, [], "ripemd160")),
+                ("tag", tag.verify),
+                ("tag", lambda x: nattizhu.hmac_verify(
+                    b"", b"", "ripemd160", x)),
+                ("state", lambda x: nattizhu.from_state("ripemd160", x)),
+                ("state", lambda x: nattizhu.hmac_from_state("ripemd160", x)),
+                ("password", lambda x: nattizhu.pbkdf2_hmac(
+                    "ripemd160", x, b"", 1)),
+                ("salt", lambda x: nattizhu.pbkdf2_hmac(
+                    "ripemd160", b"", x, 1))):
+            for wrong in ("text", 3, None):
+                with self.assertRaises(TypeError) as caught:
+                    call(wrong)
+                self.assertEqual(
+                    str(caught.exception),
+                    f"{what} must be a bytes-like object, not "
+                    f"{type(wrong).__name__}")
+
+
+class Names(unittest.TestCase):
+    def test_spellings(self):
+        for bits in ("128", "160", "256", "320"):
+            for name in (f"ripemd{bits}", f"ripemd-{bits}", f"rmd{bits}",
+                         f"RIPEMD-{bits}", f"RmD{bits}"):
+                self.assertEqual(nattizhu.new(name).name, f"ripemd{bits}")
+                self.assertEqual(nattizhu.hmac_new(b"", digestmod=name).name,
+                                 f"hmac-ripemd{bits}")
+        for name in ("ripemd160\0", "ripemd16\u0660", "\ud800", "r" * 1000):
+            with self.assertRaises(ValueError):
+                nattizhu.new(name)
+
+    def test_constructors(self):
+        for name, constructor in CONSTRUCTORS.items():
+            tag = nattizhu.hmac_digest(b"key", b"text", name)
+            self.assertEqual(
+                nattizhu.hmac_digest(b"key", b"text", constructor), tag)
+            self.assertEqual(
+                nattizhu.hmac_digest(key=b"key", msg=b"text",
+                                     digest=constructor), tag)
+            self.assertEqual(
+                nattizhu.hmac_new(b"key", b"text",
+                                  digestmod=constructor).digest(), tag)
+        for wrong in (hashlib.sha256, len, nattizhu.new, lambda: None):
+            with self.assertRaises(TypeError):
+                nattizhu.hmac_digest(b"", b"", wrong)
+
+
+class Leaks(unittest.TestCase):
+    """What is allocated before and after many calls, and who holds what."""
+
+    def test_blocks(self):
+        data, state = bytearray(40), nattizhu.ripemd160().state()
+        tag = nattizhu.hmac_new(b"key", None, "ripemd160")
+        hasher = nattizhu.ripemd160()
+        whole = bytes(3000)
+
+        def failing():
+            yield data
+            raise LookupError
+
+        calls = [
+            lambda: nattizhu.ripemd160(data), lambda: nattizhu.ripemd160("x"),
+            lambda: nattizhu.new("ripemd160", data, usedforsecurity=False),
+            lambda: nattizhu.new("sha1"), lambda: nattizhu.new(3),
+            lambda: nattizhu.new("ripemd160", memoryview(data)[::2]),
+            lambda: nattizhu.ripemd160(whole).update(whole),
+            hasher.digest, hasher.hexdigest, hasher.copy, hasher.state,
+            hasher.__reduce__, lambda: hasher.update(data),
+            lambda: hasher.update(None), lambda: repr(hasher),
+            lambda: hasher.name, lambda: hasher.digest_size,
+            lambda: hasher.block_size,
+            lambda: nattizhu.from_state("ripemd160", state),
+            lambda: nattizhu.from_state("ripemd160", data),
+            lambda: nattizhu.from_state("ripemd160", b"\xff" * 92),
+            lambda: nattizhu.from_state("ripemd160", None),
+            lambda: nattizhu.digest_each("ripemd160", data, 8),
+            lambda: nattizhu.digest_each("ripemd160", data, 7),
+            lambda: nattizhu.digest_each("ripemd160", None, 7),
+            lambda: nattizhu.digest_each("ripemd160", data, None),
+            lambda: nattizhu.digest_list("ripemd160", [data, b"x"]),
+            lambda: nattizhu.digest_list("ripemd160", [data, 3]),
+            lambda: nattizhu.digest_list("ripemd160", failing()),
+            lambda: nattizhu.digest_list("ripemd160", 3),
+            lambda: nattizhu.hmac_new(data, data, "ripemd160"),
+            lambda: nattizhu.hmac_new(data, 3, "ripemd160"),
+            lambda: nattizhu.hmac_new(3, data, "ripemd160"),
+            lambda: nattizhu.hmac_new(data),
+            lambda: nattizhu.hmac_digest(data, data, "ripemd160"),
+            lambda: nattizhu.hmac_digest(data, 3, "ripemd160"),
+            lambda: nattizhu.hmac_verify(data, data, "ripemd160", data),
+            lambda: nattizhu.hmac_verify(data, data, "ripemd160", 3),
+            lambda: nattizhu.hmac_digest_each(data, data, 8, "ripemd160"),
+            lambda: nattizhu.hmac_digest_each(data, 3, 8, "ripemd160"),
+            lambda: nattizhu.hmac_digest_list(data, [data], "ripemd160"),
+            lambda: nattizhu.hmac_digest_list(data, [3], "ripemd160"),
+            lambda: nattizhu.hmac_from_state("ripemd160", tag.state()),
+            lambda: nattizhu.hmac_from_state("ripemd160", data),
+            lambda: tag.verify(data), lambda: tag.verify(3), tag.copy,
+            tag.__reduce__,
+            lambda: nattizhu.pbkdf2_hmac("ripemd160", data, data, 1),
+            lambda: nattizhu.pbkdf2_hmac("ripemd160", data, data, 0),
+            lambda: nattizhu.pbkdf2_hmac("ripemd160", data, 3, 1),
+            lambda: nattizhu.pbkdf2_hmac("ripemd160", 3, data, 1),
+        ]
+
+        def many(call, times):
+            for _ in range(times):
+                try:
+                    call()
+                except (TypeError, ValueError, LookupError, BufferError):
+                    pass
+
+        for call in calls:
+            many(call, 100)
+        for call in calls:
+            gc.collect()
+            before = sys.getallocatedblocks()
+            holders = sys.getrefcount(data), sys.getrefcount(state)
+            many(call, 2000)
+            gc.collect()
+            self.assertLess(sys.getallocatedblocks() - before, 200)
+            self.assertEqual(
+                holders, (sys.getrefcount(data), sys.getrefcount(state)))
+        data.extend(b"x")  # refused while a buffer of it is held
 
 
 class States(unittest.TestCase):
