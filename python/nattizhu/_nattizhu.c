@@ -181,8 +181,12 @@ static bool bind(const Signature *signature, PyObject *const *arguments, Py_ssiz
   return true;
 }
 
-/* The bytes of an object, which are held until release. A null `what` is for what is hashed. */
+/* The bytes of an argument, which are held until release. A null `what` is for what is hashed. */
 static bool hold(PyObject *object, Py_buffer *held, const char *what) {
+  if (PyBytes_CheckExact(object)) { /* which the caller holds, and which never change */
+    held->obj = NULL;
+    return PyBytes_AsStringAndSize(object, (char **)&held->buf, &held->len) == 0;
+  }
   if (PyObject_CheckBuffer(object))
     return PyObject_GetBuffer(object, held, PyBUF_SIMPLE) == 0;
   if (what != NULL) {
