@@ -126,7 +126,9 @@ impl<V: Variant> SerializableState for CoreWrapper<RipemdCore<V>> {
 /// }
 /// assert_eq!(size_of::<Ripemd160>(), 20);
 /// ```
-pub trait Ripemd: Digest + BlockSizeUser<BlockSize = U64> + SerializableState {
+pub trait Ripemd:
+    Digest + BlockSizeUser<BlockSize = U64> + SerializableState + Clone + Send + Sync + 'static
+{
     #[doc(hidden)]
     type Variant: Variant<OutputSize = Self::OutputSize>;
 }

@@ -45,13 +45,13 @@ impl<'a> From<&'a [u8]> for Message<'a> {
 
 /// A variant: its sizes, and the functions of the library for it. What they write and the `bool` that
 /// they return is what `nattizhu.h` says. `init` and `init_hmac` return the state that they make.
-pub trait Variant: Clone {
+pub trait Variant: Clone + Send + Sync + 'static {
     const NAME: &'static str;
     type OutputSize: ArrayLength<u8> + 'static;
     /// An array of the bytes of a hash state.
-    type State: Copy + AsRef<[u8]> + for<'a> TryFrom<&'a [u8]>;
+    type State: Copy + AsRef<[u8]> + for<'a> TryFrom<&'a [u8]> + Send + Sync + 'static;
     /// An array of the bytes of an HMAC state.
-    type HmacState: Copy + AsRef<[u8]> + for<'a> TryFrom<&'a [u8]>;
+    type HmacState: Copy + AsRef<[u8]> + for<'a> TryFrom<&'a [u8]> + Send + Sync + 'static;
 
     fn digest(message: &[u8], digest: &mut Output<Self>);
     fn digest_each(records: &[u8], size: usize, digests: &mut [Output<Self>]) -> bool;
