@@ -30,6 +30,7 @@ pub struct RipemdCore<V: Variant> {
 }
 
 /// Panics unless the library took a state: the hashers have none that it refuses.
+#[inline]
 pub(crate) fn taken(answer: bool) {
     assert!(answer, "nattizhu: the library refused a state that it made");
 }

@@ -94,6 +94,7 @@ macro_rules! variant {
             type State = [u8; $state];
             type HmacState = [u8; $hmac_state];
 
+            #[inline]
             fn digest(message: &[u8], digest: &mut Output<Self>) {
                 extern "C" {
                     #[link_name = concat!("nattizhu_ripemd", $bits)]
@@ -103,6 +104,7 @@ macro_rules! variant {
                 unsafe { call(message.as_ptr(), message.len(), digest.as_mut_ptr()) }
             }
 
+            #[inline]
             fn digest_each(records: &[u8], size: usize, digests: &mut [Output<Self>]) -> bool {
                 extern "C" {
                     #[link_name = concat!("nattizhu_ripemd", $bits, "_each")]
@@ -127,6 +129,7 @@ macro_rules! variant {
                 }
             }
 
+            #[inline]
             fn digest_list(messages: &[Message<'_>], digests: &mut [Output<Self>]) {
                 extern "C" {
                     #[link_name = concat!("nattizhu_ripemd", $bits, "_list")]
@@ -144,6 +147,7 @@ macro_rules! variant {
                 }
             }
 
+            #[inline]
             fn init() -> Self::State {
                 extern "C" {
                     #[link_name = concat!("nattizhu_ripemd", $bits, "_init")]
@@ -155,6 +159,7 @@ macro_rules! variant {
                 state
             }
 
+            #[inline]
             fn update(state: &mut Self::State, bytes: &[u8]) -> bool {
                 extern "C" {
                     #[link_name = concat!("nattizhu_ripemd", $bits, "_update")]
@@ -164,6 +169,7 @@ macro_rules! variant {
                 unsafe { call(state, bytes.as_ptr(), bytes.len()) }
             }
 
+            #[inline]
             fn update_blocks(state: &mut Self::State, blocks: &[Block]) -> bool {
                 extern "C" {
                     #[link_name = concat!("nattizhu_ripemd", $bits, "_update")]
@@ -174,6 +180,7 @@ macro_rules! variant {
                 unsafe { call(state, blocks.as_ptr().cast(), size_of_val(blocks)) }
             }
 
+            #[inline]
             fn finalize(state: &Self::State, digest: &mut Output<Self>) -> bool {
                 extern "C" {
                     #[link_name = concat!("nattizhu_ripemd", $bits, "_final")]
@@ -183,6 +190,7 @@ macro_rules! variant {
                 unsafe { call(state, digest.as_mut_ptr()) }
             }
 
+            #[inline]
             fn hmac_each(
                 key: &[u8],
                 records: &[u8],
@@ -216,6 +224,7 @@ macro_rules! variant {
                 }
             }
 
+            #[inline]
             fn hmac_list(key: &[u8], texts: &[Message<'_>], tags: &mut [Output<Self>]) {
                 extern "C" {
                     #[link_name = concat!("nattizhu_hmac_ripemd", $bits, "_list")]
@@ -241,6 +250,7 @@ macro_rules! variant {
                 }
             }
 
+            #[inline]
             fn init_hmac(key: &[u8]) -> Self::HmacState {
                 extern "C" {
                     #[link_name = concat!("nattizhu_hmac_ripemd", $bits, "_init")]
@@ -252,6 +262,7 @@ macro_rules! variant {
                 state
             }
 
+            #[inline]
             fn update_hmac(state: &mut Self::HmacState, bytes: &[u8]) -> bool {
                 extern "C" {
                     #[link_name = concat!("nattizhu_hmac_ripemd", $bits, "_update")]
@@ -262,6 +273,7 @@ macro_rules! variant {
                 unsafe { call(state, bytes.as_ptr(), bytes.len()) }
             }
 
+            #[inline]
             fn finalize_hmac(state: &Self::HmacState, tag: &mut Output<Self>) -> bool {
                 extern "C" {
                     #[link_name = concat!("nattizhu_hmac_ripemd", $bits, "_final")]
@@ -271,6 +283,7 @@ macro_rules! variant {
                 unsafe { call(state, tag.as_mut_ptr()) }
             }
 
+            #[inline]
             fn verify_hmac(state: &Self::HmacState, tag: &[u8]) -> bool {
                 extern "C" {
                     #[link_name = concat!("nattizhu_hmac_ripemd", $bits, "_verify")]
@@ -281,6 +294,7 @@ macro_rules! variant {
                 unsafe { call(state, tag.as_ptr(), tag.len()) }
             }
 
+            #[inline]
             fn pbkdf2(password: &[u8], salt: &[u8], rounds: u32, key: &mut [u8]) -> bool {
                 extern "C" {
                     #[link_name = concat!("nattizhu_pbkdf2_ripemd", $bits)]
@@ -308,6 +322,7 @@ macro_rules! variant {
                 }
             }
 
+            #[inline]
             fn pbkdf2_list(
                 passwords: &[Message<'_>],
                 salts: &[Message<'_>],
