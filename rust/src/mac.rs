@@ -1,3 +1,5 @@
+//! HMAC over the hashers.
+
 use crate::hashers::taken;
 use crate::sys::Variant;
 use crate::{DeserializeStateError, Ripemd, SerializableState};

@@ -38,7 +38,7 @@ fn fits(answer: bool) -> Result<(), InvalidLength> {
 /// let mut digests = [Default::default(); 2];
 /// digest_each::<Ripemd160>(b"abcabd", 3, &mut digests)?;
 /// assert_eq!(digests, [Ripemd160::digest(b"abc"), Ripemd160::digest(b"abd")]);
-/// # Ok::<(), nattizhu::digest::InvalidLength>(())
+/// # Ok::<(), nattizhu::InvalidLength>(())
 /// ```
 pub fn digest_each<D: Ripemd>(
     records: &[u8],
@@ -61,7 +61,7 @@ pub fn digest_each<D: Ripemd>(
 /// let mut digests = [Default::default(); 2];
 /// digest_list::<Ripemd160>(&[b"abc", b""], &mut digests)?;
 /// assert_eq!(digests, [Ripemd160::digest(b"abc"), Ripemd160::digest(b"")]);
-/// # Ok::<(), nattizhu::digest::InvalidLength>(())
+/// # Ok::<(), nattizhu::InvalidLength>(())
 /// ```
 pub fn digest_list<D: Ripemd>(
     messages: &[&[u8]],
@@ -82,12 +82,12 @@ pub fn digest_list<D: Ripemd>(
 /// [`InvalidLength`] if `records` has not `size` bytes for each place in `tags`. Nothing is written then.
 ///
 /// ```
-/// use nattizhu::{hmac_each, Hmac, Ripemd160, Mac};
+/// use nattizhu::{hmac_each, Hmac, Mac, Ripemd160};
 ///
 /// let mut tags = [Default::default(); 2];
 /// hmac_each::<Ripemd160>(b"key", b"abcabd", 3, &mut tags)?;
 /// assert!(Hmac::<Ripemd160>::new(b"key").chain_update(b"abd").verify(&tags[1]).is_ok());
-/// # Ok::<(), nattizhu::digest::InvalidLength>(())
+/// # Ok::<(), nattizhu::InvalidLength>(())
 /// ```
 pub fn hmac_each<D: Ripemd>(
     key: &[u8],
@@ -106,12 +106,12 @@ pub fn hmac_each<D: Ripemd>(
 /// [`InvalidLength`] if there are more or fewer texts than places. Nothing is written then.
 ///
 /// ```
-/// use nattizhu::{hmac_list, Hmac, Ripemd160, Mac};
+/// use nattizhu::{hmac_list, Hmac, Mac, Ripemd160};
 ///
 /// let mut tags = [Default::default(); 2];
 /// hmac_list::<Ripemd160>(b"key", &[b"abc", b""], &mut tags)?;
 /// assert!(Hmac::<Ripemd160>::new(b"key").chain_update(b"abc").verify(&tags[0]).is_ok());
-/// # Ok::<(), nattizhu::digest::InvalidLength>(())
+/// # Ok::<(), nattizhu::InvalidLength>(())
 /// ```
 pub fn hmac_list<D: Ripemd>(
     key: &[u8],

@@ -1,3 +1,5 @@
+//! Keys from passwords.
+
 use crate::many::{group, GROUP};
 use crate::sys::Variant;
 use crate::Ripemd;

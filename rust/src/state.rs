@@ -1,3 +1,5 @@
+//! Hashers and HMACs saved as bytes, and loaded.
+
 use core::fmt;
 
 /// Hashers and HMACs that can be saved as bytes, and go on from them in another process, or in a program
