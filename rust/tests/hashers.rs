@@ -71,7 +71,7 @@ fn empty_pieces<D: Ripemd>(bits: usize) {
     }
 }
 
-/// The traits that the brothers of this crate have, and what they say.
+/// The traits that a hasher has, and what they say.
 fn traits<D>(bits: usize)
 where
     D: Ripemd
