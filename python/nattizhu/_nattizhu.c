@@ -181,23 +181,23 @@ static bool bind(const Signature *signature, PyObject *const *arguments, Py_ssiz
   return true;
 }
 
-/* The bytes of an object, which are held until release. A null `what` is for what is hashed. */
+/* The bytes of an argument, which are held until release. A null `what` is for what is hashed. */
 static bool hold(PyObject *object, Py_buffer *held, const char *what) {
-  if (PyUnicode_Check(object) && what == NULL) {
-    PyErr_SetString(PyExc_TypeError, "Strings must be encoded before hashing");
-    return false;
+  if (PyBytes_CheckExact(object)) { /* which the caller holds, and which never change */
+    held->obj = NULL;
+    return PyBytes_AsStringAndSize(object, (char **)&held->buf, &held->len) == 0;
   }
-  if (PyObject_GetBuffer(object, held, PyBUF_SIMPLE) == 0)
-    return true;
-  if (!PyErr_ExceptionMatches(PyExc_TypeError))
-    return false;
-  if (what == NULL) {
-    PyErr_SetString(PyExc_TypeError, "object supporting the buffer API required");
-  } else {
+  if (PyObject_CheckBuffer(object))
+    return PyObject_GetBuffer(object, held, PyBUF_SIMPLE) == 0;
+  if (what != NULL) {
     PyObject *type = PyType_GetName(Py_TYPE(object));
     if (type != NULL)
       PyErr_Format(PyExc_TypeError, "%s must be a bytes-like object, not %U", what, type);
     Py_XDECREF(type);
+  } else if (PyUnicode_Check(object)) {
+    PyErr_SetString(PyExc_TypeError, "Strings must be encoded before hashing");
+  } else {
+    PyErr_SetString(PyExc_TypeError, "object supporting the buffer API required");
   }
   return false;
 }
@@ -950,12 +950,23 @@ static PyMethodDef functions[] = {
              "has."),
     {NULL, NULL, 0, NULL}};
 
+/* A function of the module, which pickles name as one of the package. */
+static PyObject *of_package(PyObject *module, const char *name) {
+  PyObject *function = PyObject_GetAttrString(module, name);
+  PyObject *package = PyUnicode_FromString("nattizhu");
+  if (function == NULL || package == NULL ||
+      PyObject_SetAttrString(function, "__module__", package) != 0)
+    Py_CLEAR(function);
+  Py_XDECREF(package);
+  return function;
+}
+
 static int module_exec(PyObject *module) {
   Module *state = PyModule_GetState(module);
   state->hasher = (PyTypeObject *)PyType_FromModuleAndSpec(module, &hasher_spec, NULL);
   state->hmac = (PyTypeObject *)PyType_FromModuleAndSpec(module, &hmac_spec, NULL);
-  state->from_state = PyObject_GetAttrString(module, "from_state");
-  state->hmac_from_state = PyObject_GetAttrString(module, "hmac_from_state");
+  state->from_state = of_package(module, "from_state");
+  state->hmac_from_state = of_package(module, "hmac_from_state");
   if (state->hasher == NULL || state->hmac == NULL || state->from_state == NULL ||
       state->hmac_from_state == NULL || PyModule_AddType(module, state->hasher) != 0 ||
       PyModule_AddType(module, state->hmac) != 0)
@@ -983,10 +994,16 @@ static int module_clear(PyObject *module) {
 
 static void module_free(void *module) { module_clear(module); }
 
-static PyModuleDef_Slot module_slots[] = {{Py_mod_exec, module_exec}, {0, NULL}};
+/* The second says that interpreters with locks of their own may each have the module. The ABI has it from
+ * 3.12 on, and so the headers of 3.11 do not name it. */
+static PyModuleDef_Slot module_slots[] = {{Py_mod_exec, module_exec}, {3, (void *)2}, {0, NULL}};
 static struct PyModuleDef definition = {
     PyModuleDef_HEAD_INIT, "_nattizhu", NULL, sizeof(Module), functions, module_slots,
     module_traverse, module_clear, module_free};
 
 PyMODINIT_FUNC PyInit__nattizhu(void);
-PyMODINIT_FUNC PyInit__nattizhu(void) { return PyModuleDef_Init(&definition); }
+PyMODINIT_FUNC PyInit__nattizhu(void) {
+  if (Py_Version < 0x030c0000)
+    module_slots[1] = module_slots[2];
+  return PyModuleDef_Init(&definition);
+}

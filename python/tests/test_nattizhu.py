@@ -1,5 +1,5 @@
-"""Tests of the package nattizhu. Expected values are published ones, or come from
-hashlib and the standard hmac."""
+"""Tests of the package nattizhu. Expected values are published ones, or come
+from hashlib and the standard hmac."""
 
 import array
 import copy
@@ -326,6 +326,26 @@ class Interruptions(unittest.TestCase):
             self.assertEqual(state.digest(),
                              make(self.PIECE * pieces).digest())
 
+    def test_two_threads(self):
+        """Of them both update one state, by pieces on which the
+        interpreter's lock is kept, and by others on which it is not."""
+        for make in self.MAKERS:
+            state = make()
+
+            def work():
+                for _ in range(300):
+                    state.update(bytes(2047))
+                    state.update(bytes(5000))
+                    state.digest()
+
+            threads = [threading.Thread(target=work) for _ in range(2)]
+            for thread in threads:
+                thread.start()
+            for thread in threads:
+                thread.join()
+            self.assertEqual(state.digest(),
+                             make(bytes(2 * 300 * 7047)).digest())
+
 
 class Buffers(unittest.TestCase):
     def test_kinds(self):
@@ -380,6 +400,27 @@ class Buffers(unittest.TestCase):
             nattizhu.from_state("ripemd160", data)
         data.extend(b"f")
         self.assertEqual(hasher.hexdigest(), PUBLISHED["ripemd160"][1])
+
+    def test_held_meanwhile(self):
+        """An object keeps its bytes while they are hashed."""
+        for make in Interruptions.MAKERS:
+            message, state = bytearray(20_000_000), make()
+            longer = make(message)
+            possible = {longer.digest()}
+            thread = threading.Thread(target=state.update, args=(message,))
+            thread.start()
+            refused = 0
+            while thread.is_alive():
+                try:
+                    message.extend(b"x")
+                except BufferError:
+                    refused += 1
+                else:  # the call has not begun, or has ended
+                    longer.update(b"x")
+                    possible.add(longer.digest())
+            thread.join()
+            self.assertGreater(refused, 0)
+            self.assertIn(state.digest(), possible)
 
     def test_errors_are_those_of_hashlib(self):
         for data in ("text", 3, None, [1], object(),
@@ -478,6 +519,10 @@ class Errors(unittest.TestCase):
             with self.assertRaises(TypeError):
                 kind.update(3, b"")
         made = nattizhu.ripemd160()
+        with self.assertRaises(TypeError):
+            nattizhu.Hmac.digest(made)
+        with self.assertRaises(TypeError):
+            made.__class__ = nattizhu.Hmac
         with self.assertRaises(AttributeError):
             made.other = None
         made.__init__()
@@ -553,6 +598,29 @@ class Names(unittest.TestCase):
                 nattizhu.hmac_digest(b"", b"", wrong)
 
 
+class Interpreters(unittest.TestCase):
+    def test_another_one(self):
+        """Another interpreter of this process: from CPython 3.12 on, with a
+        lock of its own."""
+        try:
+            import _interpreters as interpreters
+        except ImportError:
+            try:
+                import _xxsubinterpreters as interpreters
+            except ImportError:
+                self.skipTest("this Python makes no other interpreter")
+        program = (f"import sys\nsys.path = {sys.path!r}\n"
+                   "import nattizhu\n"
+                   "assert nattizhu.ripemd160(b'abc').hexdigest() == "
+                   f"{PUBLISHED['ripemd160'][1]!r}")
+        for _ in range(2):
+            other = interpreters.create()
+            self.assertIsNone(interpreters.run_string(other, program))
+            interpreters.destroy(other)
+        self.assertEqual(nattizhu.ripemd160(b"abc").hexdigest(),
+                         PUBLISHED["ripemd160"][1])
+
+
 class Leaks(unittest.TestCase):
     """What is allocated before and after many calls, and who holds what."""
 
@@ -624,7 +692,7 @@ class Leaks(unittest.TestCase):
             gc.collect()
             before = sys.getallocatedblocks()
             holders = sys.getrefcount(data), sys.getrefcount(state)
-            many(call, 2000)
+            many(call, 100_000)
             gc.collect()
             self.assertLess(sys.getallocatedblocks() - before, 200)
             self.assertEqual(
@@ -682,6 +750,13 @@ class States(unittest.TestCase):
                 self.assertEqual(came.name, made.name)
                 self.assertEqual(came.digest(), whole.digest())
                 self.assertEqual(came.state(), whole.state())
+
+    def test_pickles_name_the_package(self):
+        """And not the module within it, so that others can take its place."""
+        for made in (nattizhu.ripemd160(),
+                     nattizhu.hmac_new(b"", digestmod="ripemd160")):
+            saved = pickle.dumps(made, 0)
+            self.assertTrue(saved.startswith(b"cnattizhu\n"), saved)
 
 
 class Tags(unittest.TestCase):
