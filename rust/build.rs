@@ -1,0 +1,46 @@
+//! Finds libnattizhu.a: in the folder that `NATTIZHU_LIB_DIR` names, or where pkg-config says, or where
+//! `make library` leaves it in this repository.
+
+use std::env;
+use std::path::{Path, PathBuf};
+use std::process::{exit, Command};
+
+const LIBRARY: &str = "libnattizhu.a";
+
+/// The folder that pkg-config names, if it runs and knows the library.
+fn by_pkg_config() -> Option<PathBuf> {
+    let said = Command::new("pkg-config")
+        .args(["--variable=libdir", "nattizhu"])
+        .output()
+        .ok()?;
+    let folder = String::from_utf8(said.stdout).ok()?;
+    said.status.success().then(|| folder.trim_end().into())
+}
+
+fn main() {
+    for name in ["NATTIZHU_LIB_DIR", "PKG_CONFIG_PATH", "PKG_CONFIG_LIBDIR"] {
+        println!("cargo:rerun-if-env-changed={name}");
+    }
+    let here = env::var_os("CARGO_MANIFEST_DIR").unwrap_or_default();
+    let built = Path::new(&here).join("../crates/ripemd_c/out");
+    let folders = match env::var_os("NATTIZHU_LIB_DIR") {
+        Some(named) => vec![named.into()],
+        None => by_pkg_config().into_iter().chain([built]).collect(),
+    };
+    match folders.iter().find(|folder| folder.join(LIBRARY).exists()) {
+        Some(folder) => {
+            println!("cargo:rerun-if-changed={}", folder.join(LIBRARY).display());
+            println!("cargo:rustc-link-search=native={}", folder.display());
+            println!("cargo:rustc-link-lib=static=nattizhu");
+        }
+        None => {
+            eprintln!("There is no {LIBRARY} in {folders:?}.");
+            eprintln!(
+                "In the repository of Nattizhu run `make library`, or `make install PREFIX=..` and add \
+                 PREFIX/lib/pkgconfig to PKG_CONFIG_PATH; or set NATTIZHU_LIB_DIR to the folder that \
+                 has it."
+            );
+            exit(1);
+        }
+    }
+}

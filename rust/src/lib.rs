@@ -1,0 +1,24 @@
+#![doc = include_str!("../README.md")]
+#![no_std]
+#![deny(unsafe_code, clippy::undocumented_unsafe_blocks)]
+#![warn(missing_docs, rust_2018_idioms)]
+
+#[cfg(feature = "std")]
+extern crate std;
+
+mod hashers;
+mod mac;
+mod many;
+mod pbkdf2;
+mod state;
+mod sys;
+
+pub use crate::hashers::{
+    AssociatedOid, Ripemd, Ripemd128, Ripemd128Core, Ripemd160, Ripemd160Core, Ripemd256,
+    Ripemd256Core, Ripemd320, Ripemd320Core, RipemdCore,
+};
+pub use crate::mac::Hmac;
+pub use crate::many::{digest_each, digest_list, hmac_each, hmac_list};
+pub use crate::pbkdf2::{pbkdf2, pbkdf2_list, Pbkdf2Error};
+pub use crate::state::{DeserializeStateError, SerializableState};
+pub use digest::{self, Digest, InvalidLength, Mac, MacError};

@@ -1,0 +1,134 @@
+//! Records and lists of messages, eight at once.
+
+use crate::sys::{Message, Variant};
+use crate::Ripemd;
+use digest::{InvalidLength, Output};
+
+/// Messages that are handed to the library at once.
+pub(crate) const GROUP: usize = 128;
+
+/// The first messages of a list, as the library takes them; behind them, empty ones.
+pub(crate) fn group<'a>(list: &[&'a [u8]]) -> [Message<'a>; GROUP] {
+    let mut group = [Message::from(&[][..]); GROUP];
+    for (place, &bytes) in group.iter_mut().zip(list) {
+        *place = Message::from(bytes);
+    }
+    group
+}
+
+fn fits(answer: bool) -> Result<(), InvalidLength> {
+    if answer {
+        Ok(())
+    } else {
+        Err(InvalidLength)
+    }
+}
+
+/// Writes the digest of each record of `size` bytes to its place in `digests`. The records lie one after
+/// another. They are hashed eight at once.
+///
+/// # Errors
+///
+/// [`InvalidLength`] if `records` has not `size` bytes for each place in `digests`. Nothing is written
+/// then.
+///
+/// ```
+/// use nattizhu::{digest_each, Digest, Ripemd160};
+///
+/// let mut digests = [Default::default(); 2];
+/// digest_each::<Ripemd160>(b"abcabd", 3, &mut digests)?;
+/// assert_eq!(digests, [Ripemd160::digest(b"abc"), Ripemd160::digest(b"abd")]);
+/// # Ok::<(), nattizhu::InvalidLength>(())
+/// ```
+pub fn digest_each<D: Ripemd>(
+    records: &[u8],
+    size: usize,
+    digests: &mut [Output<D>],
+) -> Result<(), InvalidLength> {
+    fits(D::Variant::digest_each(records, size, digests))
+}
+
+/// Writes the digest of each message, of any lengths, to its place in `digests`. They are hashed eight at
+/// once.
+///
+/// # Errors
+///
+/// [`InvalidLength`] if there are more or fewer messages than places. Nothing is written then.
+///
+/// ```
+/// use nattizhu::{digest_list, Digest, Ripemd160};
+///
+/// let mut digests = [Default::default(); 2];
+/// digest_list::<Ripemd160>(&[b"abc", b""], &mut digests)?;
+/// assert_eq!(digests, [Ripemd160::digest(b"abc"), Ripemd160::digest(b"")]);
+/// # Ok::<(), nattizhu::InvalidLength>(())
+/// ```
+pub fn digest_list<D: Ripemd>(
+    messages: &[&[u8]],
+    digests: &mut [Output<D>],
+) -> Result<(), InvalidLength> {
+    fits(messages.len() == digests.len())?;
+    for (messages, digests) in messages.chunks(GROUP).zip(digests.chunks_mut(GROUP)) {
+        D::Variant::digest_list(&group(messages)[..messages.len()], digests);
+    }
+    Ok(())
+}
+
+/// Writes the tag (HMAC, RFC 2104) of each record of `size` bytes under the key to its place in `tags`.
+/// The records lie one after another. The tags are made eight at once.
+///
+/// # Errors
+///
+/// [`InvalidLength`] if `records` has not `size` bytes for each place in `tags`. Nothing is written then.
+///
+/// ```
+/// use nattizhu::{hmac_each, Hmac, Mac, Ripemd160};
+///
+/// let mut tags = [Default::default(); 2];
+/// hmac_each::<Ripemd160>(b"key", b"abcabd", 3, &mut tags)?;
+/// assert!(Hmac::<Ripemd160>::new(b"key").chain_update(b"abd").verify(&tags[1]).is_ok());
+/// # Ok::<(), nattizhu::InvalidLength>(())
+/// ```
+pub fn hmac_each<D: Ripemd>(
+    key: &[u8],
+    records: &[u8],
+    size: usize,
+    tags: &mut [Output<D>],
+) -> Result<(), InvalidLength> {
+    fits(D::Variant::hmac_each(key, records, size, tags))
+}
+
+/// Writes the tag (HMAC, RFC 2104) of each text, of any lengths, under the key to its place in `tags`.
+/// The tags are made eight at once.
+///
+/// # Errors
+///
+/// [`InvalidLength`] if there are more or fewer texts than places. Nothing is written then.
+///
+/// ```
+/// use nattizhu::{hmac_list, Hmac, Mac, Ripemd160};
+///
+/// let mut tags = [Default::default(); 2];
+/// hmac_list::<Ripemd160>(b"key", &[b"abc", b""], &mut tags)?;
+/// assert!(Hmac::<Ripemd160>::new(b"key").chain_update(b"abc").verify(&tags[0]).is_ok());
+/// # Ok::<(), nattizhu::InvalidLength>(())
+/// ```
+pub fn hmac_list<D: Ripemd>(
+    key: &[u8],
+    texts: &[&[u8]],
+    tags: &mut [Output<D>],
+) -> Result<(), InvalidLength> {
+    fits(texts.len() == tags.len())?;
+    // A long key is replaced by its digest first, so that no group hashes it again.
+    let digest;
+    let key = if key.len() > 64 {
+        digest = D::digest(key);
+        &digest
+    } else {
+        key
+    };
+    for (texts, tags) in texts.chunks(GROUP).zip(tags.chunks_mut(GROUP)) {
+        D::Variant::hmac_list(key, &group(texts)[..texts.len()], tags);
+    }
+    Ok(())
+}

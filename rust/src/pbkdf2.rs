@@ -1,0 +1,122 @@
+//! Keys from passwords.
+
+use crate::many::{group, GROUP};
+use crate::sys::Variant;
+use crate::Ripemd;
+use core::fmt;
+
+/// Why [`pbkdf2`] or [`pbkdf2_list`] derives no key.
+///
+/// ```
+/// use nattizhu::{pbkdf2, Pbkdf2Error, Ripemd160};
+///
+/// let mut key = [0; 16];
+/// assert_eq!(pbkdf2::<Ripemd160>(b"password", b"salt", 0, &mut key), Err(Pbkdf2Error::NoRounds));
+/// ```
+#[derive(Clone, Copy, Debug, PartialEq, Eq)]
+#[non_exhaustive]
+pub enum Pbkdf2Error {
+    /// The number of rounds is 0.
+    NoRounds,
+    /// A key is longer than 2^32 - 1 digests.
+    KeyTooLong,
+    /// There are more or fewer salts than passwords, or more or fewer bytes than their keys have.
+    InvalidLength,
+}
+
+impl fmt::Display for Pbkdf2Error {
+    fn fmt(&self, f: &mut fmt::Formatter<'_>) -> fmt::Result {
+        f.write_str(match self {
+            Self::NoRounds => "no rounds",
+            Self::KeyTooLong => "key too long",
+            Self::InvalidLength => "invalid length",
+        })
+    }
+}
+
+#[cfg(feature = "std")]
+impl std::error::Error for Pbkdf2Error {}
+
+/// What the answer of the library means, which is false for two reasons.
+fn allowed(answer: bool, rounds: u32) -> Result<(), Pbkdf2Error> {
+    match (answer, rounds) {
+        (true, _) => Ok(()),
+        (false, 0) => Err(Pbkdf2Error::NoRounds),
+        (false, _) => Err(Pbkdf2Error::KeyTooLong),
+    }
+}
+
+/// Derives a key from a password and a salt, each of any length, by so many rounds of HMAC (PBKDF2, RFC
+/// 8018), and writes it to `key`, which may have any length up to 2^32 - 1 digests.
+///
+/// # Errors
+///
+/// [`Pbkdf2Error::NoRounds`] if `rounds` is 0, and else [`Pbkdf2Error::KeyTooLong`] if `key` is longer
+/// than that. Nothing is written then.
+///
+/// ```
+/// use nattizhu::{pbkdf2, Pbkdf2Error, Ripemd160};
+///
+/// let mut key = [0; 16];
+/// pbkdf2::<Ripemd160>(b"password", &[0x12, 0x34, 0x56, 0x78], 5, &mut key)?;
+/// assert_eq!(u128::from_be_bytes(key), 0x7a3d7c03e7266bf83d78fb29d2641f56);
+/// # Ok::<(), Pbkdf2Error>(())
+/// ```
+pub fn pbkdf2<D: Ripemd>(
+    password: &[u8],
+    salt: &[u8],
+    rounds: u32,
+    key: &mut [u8],
+) -> Result<(), Pbkdf2Error> {
+    allowed(D::Variant::pbkdf2(password, salt, rounds, key), rounds)
+}
+
+/// Derives a key of `size` bytes from each password and the salt at its place, as [`pbkdf2`] does, eight
+/// at once, and writes the keys one after another to `keys`.
+///
+/// # Errors
+///
+/// As [`pbkdf2`], for an empty list too, and else [`Pbkdf2Error::InvalidLength`] if there are not as many
+/// salts as passwords, or `keys` has not `size` bytes for each. Nothing is written then.
+///
+/// ```
+/// use nattizhu::{pbkdf2, pbkdf2_list, Pbkdf2Error, Ripemd160};
+///
+/// let mut keys = [0; 64];
+/// pbkdf2_list::<Ripemd160>(&[b"password", b"word"], &[b"salt", b""], 1000, 32, &mut keys)?;
+/// let mut key = [0; 32];
+/// pbkdf2::<Ripemd160>(b"word", b"", 1000, &mut key)?;
+/// assert_eq!(keys[32..], key);
+/// # Ok::<(), Pbkdf2Error>(())
+/// ```
+pub fn pbkdf2_list<D: Ripemd>(
+    passwords: &[&[u8]],
+    salts: &[&[u8]],
+    rounds: u32,
+    size: usize,
+    keys: &mut [u8],
+) -> Result<(), Pbkdf2Error> {
+    // The library refuses rounds and sizes for an empty list too.
+    allowed(
+        D::Variant::pbkdf2_list(&[], &[], rounds, size, &mut []),
+        rounds,
+    )?;
+    if salts.len() != passwords.len() || passwords.len().checked_mul(size) != Some(keys.len()) {
+        return Err(Pbkdf2Error::InvalidLength);
+    }
+    let mut keys = keys;
+    for (passwords, salts) in passwords.chunks(GROUP).zip(salts.chunks(GROUP)) {
+        let n = passwords.len();
+        let (now, later) = keys.split_at_mut(n * size);
+        keys = later;
+        let answer = D::Variant::pbkdf2_list(
+            &group(passwords)[..n],
+            &group(salts)[..n],
+            rounds,
+            size,
+            now,
+        );
+        allowed(answer, rounds)?;
+    }
+    Ok(())
+}

@@ -1,0 +1,148 @@
+//! The hashers and their traits.
+
+mod common;
+
+use common::{every_length, hex, lines_of};
+use digest::core_api::{AlgorithmName, BlockSizeUser};
+use digest::dev::{feed_rand_16mib, fixed_reset_test};
+use digest::{
+    Digest, DynDigest, FixedOutput, FixedOutputReset, HashMarker, OutputSizeUser, Update,
+};
+use nattizhu::*;
+use std::fmt::{self, Debug};
+use std::io::Write;
+
+each_variant! { every_length_whole_and_in_pieces longer rand_16mib copies_go_on empty_pieces traits }
+
+fn every_length_whole_and_in_pieces<D>(bits: usize)
+where
+    D: Ripemd + FixedOutputReset + Debug + Default + Update + HashMarker,
+{
+    for (message, digest) in every_length(bits) {
+        assert_eq!(D::digest(&message)[..], digest[..], "{}", message.len());
+        assert_eq!(
+            fixed_reset_test::<D>(&message, &digest),
+            None,
+            "{}",
+            message.len()
+        );
+    }
+}
+
+fn longer<D: Ripemd>(bits: usize) {
+    for (length, digest) in lines_of(bits, "digests-long.txt") {
+        assert_eq!(D::digest(common::ramp(0, length[0]))[..], digest[..]);
+    }
+}
+
+/// The digests of the stream of `feed_rand_16mib` are the one answer of Crypto++ 8.7, mhash 0.9.9.9,
+/// LibTomCrypt 1.18.2 and libavutil 5.1.9, and that of RIPEMD-160 of OpenSSL 3.0.22 too.
+fn rand_16mib<D: Ripemd + Update>(bits: usize) {
+    let digest = match bits {
+        128 => "01eb52529bcec15bd0cb4040ec998632",
+        160 => "bcd8c672932125776af3c60eeeb58bbaf206f386",
+        256 => "6492ffe075896441b737900bdf58fc960e77477e42a2a61bc02c66fd689b69d0",
+        _ => "3a905312162c5c173639f6cc1cdf51d14e8bda02865767592e26d9343fbec348ce55ce39b4b4b56f",
+    };
+    let mut hasher = D::new();
+    feed_rand_16mib(&mut hasher);
+    assert_eq!(hasher.finalize()[..], hex(digest)[..]);
+}
+
+/// At every cut of a message, a copy takes another way than its original.
+fn copies_go_on<D: Ripemd>(bits: usize) {
+    let messages = every_length(bits);
+    let (whole, digest) = &messages[200];
+    for (message, of_the_part) in &messages {
+        let mut hasher = D::new_with_prefix(message);
+        let copy = hasher.clone();
+        Digest::update(&mut hasher, &whole[message.len()..]);
+        assert_eq!(copy.finalize()[..], of_the_part[..]);
+        assert_eq!(hasher.finalize()[..], digest[..]);
+    }
+}
+
+fn empty_pieces<D: Ripemd>(bits: usize) {
+    for (message, digest) in every_length(bits) {
+        let hasher = D::new_with_prefix([])
+            .chain_update(&message)
+            .chain_update([]);
+        assert_eq!(hasher.finalize()[..], digest[..]);
+    }
+}
+
+/// The traits that a hasher has, and what they say.
+fn traits<D>(bits: usize)
+where
+    D: Ripemd
+        + Update
+        + FixedOutput
+        + FixedOutputReset
+        + digest::Reset
+        + HashMarker
+        + BlockSizeUser
+        + OutputSizeUser
+        + Default
+        + Clone
+        + Debug
+        + Write
+        + DynDigest
+        + Send
+        + Sync
+        + 'static,
+{
+    let name = format!("Ripemd{bits}");
+    assert_eq!(format!("{:?}", D::default()), name + " { .. }");
+    assert_eq!(<D as Digest>::output_size(), bits / 8);
+    assert_eq!(D::block_size(), 64);
+
+    let (message, digest) = every_length(bits).remove(150);
+    let mut hasher = D::new();
+    hasher.write_all(&message).unwrap();
+    hasher.flush().unwrap();
+    assert_eq!(Digest::finalize(hasher)[..], digest[..]);
+
+    let mut hasher: Box<dyn DynDigest> = Box::<D>::default();
+    hasher.update(&message);
+    assert_eq!(hasher.finalize_reset()[..], digest[..]);
+    hasher.update(&message);
+    let mut short = vec![0; digest.len() - 1];
+    assert!(hasher.finalize_into_reset(&mut short).is_err());
+}
+
+#[test]
+fn names() {
+    struct Name<T>(T);
+    impl<T: AlgorithmName> fmt::Display for Name<T> {
+        fn fmt(&self, f: &mut fmt::Formatter<'_>) -> fmt::Result {
+            T::write_alg_name(f)
+        }
+    }
+    assert_eq!(Name(Ripemd128Core::default()).to_string(), "Ripemd128");
+    assert_eq!(Name(Ripemd320Core::default()).to_string(), "Ripemd320");
+    assert_eq!(
+        Name(Hmac::<Ripemd256>::new(b"")).to_string(),
+        "Hmac<Ripemd256>"
+    );
+    assert_eq!(
+        format!("{:?}", Ripemd160Core::default()),
+        "Ripemd160Core { ... }"
+    );
+    assert_eq!(
+        format!("{:?}", Hmac::<Ripemd160>::new(b"")),
+        "Hmac<Ripemd160> { .. }"
+    );
+}
+
+/// The authors' digest of a million letters "a".
+#[test]
+fn a_million_letters() {
+    let mut hasher = Ripemd160::new();
+    for _ in 0..1000 {
+        Digest::update(&mut hasher, [b'a'; 1000]);
+    }
+    assert_eq!(
+        hasher.finalize()[..],
+        hex("52783243c1697bdbe16d37f97f68f08325dc1528")[..]
+    );
+}
