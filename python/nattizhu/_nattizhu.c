@@ -184,8 +184,12 @@ static bool bind(const Signature *signature, PyObject *const *arguments, Py_ssiz
 /* The bytes of an argument, which are held until release. A null `what` is for what is hashed. */
 static bool hold(PyObject *object, Py_buffer *held, const char *what) {
   if (PyBytes_CheckExact(object)) { /* which the caller holds, and which never change */
+    char *bytes;
+    if (PyBytes_AsStringAndSize(object, &bytes, &held->len) != 0)
+      return false;
+    held->buf = bytes;
     held->obj = NULL;
-    return PyBytes_AsStringAndSize(object, (char **)&held->buf, &held->len) == 0;
+    return true;
   }
   if (PyObject_CheckBuffer(object))
     return PyObject_GetBuffer(object, held, PyBUF_SIMPLE) == 0;
