@@ -1,22 +1,10 @@
-//! The speed of RIPEMD-160 by this crate beside that of the function in C, as a table in Markdown. Each
-//! figure is the least of many slices; those of the two columns alternate.
+//! The speed of a hasher of RIPEMD-160 beside that of one call of the function in C (`digest_message`), as
+//! a table in Markdown. Each figure is the least of many slices; those of the two columns alternate.
 //!
 //! `cargo run --release --example speed`
 
-use nattizhu::{digest_each, Digest, Ripemd160};
+use nattizhu::{digest_each, digest_message, Digest, Ripemd160};
 use std::time::Instant;
-
-extern "C" {
-    fn nattizhu_ripemd160(message: *const u8, length: usize, digest: *mut [u8; 20]);
-}
-
-/// The digest of a message by the function in C.
-fn by_c(message: &[u8]) -> [u8; 20] {
-    let mut digest = [0; 20];
-    // SAFETY: the pointers are those of a slice, with its length, and of an array that nothing else uses.
-    unsafe { nattizhu_ripemd160(message.as_ptr(), message.len(), &mut digest) };
-    digest
-}
 
 /// Nanoseconds of one call of each function: the least of many slices of so many calls. The two return
 /// the same, a byte of each digest.
@@ -70,7 +58,7 @@ fn main() {
         let times = least(
             slices,
             calls,
-            || by_c(message)[0],
+            || digest_message::<Ripemd160>(message)[0],
             || Ripemd160::digest(message)[0],
         );
         line(what, length, times);

@@ -138,6 +138,21 @@ impl<V: Variant> Ripemd for CoreWrapper<RipemdCore<V>> {
     type Variant = V;
 }
 
+/// The digest of a whole message by one call of the library. It is that of [`Digest::digest`], which
+/// makes several calls from 64 bytes on.
+///
+/// ```
+/// use nattizhu::{digest_message, Digest, Ripemd160};
+///
+/// assert_eq!(digest_message::<Ripemd160>(&[0; 100]), Ripemd160::digest([0; 100]));
+/// ```
+#[inline]
+pub fn digest_message<D: Ripemd>(message: &[u8]) -> Output<D> {
+    let mut digest = Output::<D>::default();
+    D::Variant::digest(message, &mut digest);
+    digest
+}
+
 /// Hashers that have an object identifier: all but [`Ripemd320`].
 ///
 /// It is a text, since Debian's `digest` 0.10 lacks the feature `oid`, whose trait has this name.

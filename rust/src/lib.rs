@@ -14,8 +14,8 @@ mod state;
 mod sys;
 
 pub use crate::hashers::{
-    AssociatedOid, Ripemd, Ripemd128, Ripemd128Core, Ripemd160, Ripemd160Core, Ripemd256,
-    Ripemd256Core, Ripemd320, Ripemd320Core, RipemdCore,
+    digest_message, AssociatedOid, Ripemd, Ripemd128, Ripemd128Core, Ripemd160, Ripemd160Core,
+    Ripemd256, Ripemd256Core, Ripemd320, Ripemd320Core, RipemdCore,
 };
 pub use crate::mac::Hmac;
 pub use crate::many::{digest_each, digest_list, hmac_each, hmac_list};

@@ -20,6 +20,7 @@ where
 {
     for (message, digest) in every_length(bits) {
         assert_eq!(D::digest(&message)[..], digest[..], "{}", message.len());
+        assert_eq!(digest_message::<D>(&message)[..], digest[..]);
         assert_eq!(
             fixed_reset_test::<D>(&message, &digest),
             None,
@@ -31,7 +32,9 @@ where
 
 fn longer<D: Ripemd>(bits: usize) {
     for (length, digest) in lines_of(bits, "digests-long.txt") {
-        assert_eq!(D::digest(common::ramp(0, length[0]))[..], digest[..]);
+        let message = common::ramp(0, length[0]);
+        assert_eq!(D::digest(&message)[..], digest[..]);
+        assert_eq!(digest_message::<D>(&message)[..], digest[..]);
     }
 }
 
