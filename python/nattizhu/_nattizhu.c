@@ -287,7 +287,7 @@ static bool update_by(Hash *self, PyObject *data) {
   }
   PyBuffer_Release(&held);
   if (!done)
-    PyErr_SetString(PyExc_SystemError, "nattizhu: the state is none");
+    PyErr_SetString(PyExc_SystemError, "nattizhu: the library refused a state that it made");
   return done;
 }
 
@@ -303,7 +303,7 @@ static bool digest_of(Hash *self, uint8_t digest[MOST]) {
   done = final_of(self, digest);
   leave(self);
   if (!done)
-    PyErr_SetString(PyExc_SystemError, "nattizhu: the state is none");
+    PyErr_SetString(PyExc_SystemError, "nattizhu: the library refused a state that it made");
   return done;
 }
 

@@ -116,6 +116,13 @@ impl<V: Variant> SerializableState for CoreWrapper<RipemdCore<V>> {
     }
 }
 
+mod sealed {
+    /// Keeps other types from having the trait [`Ripemd`](super::Ripemd).
+    pub trait Sealed {}
+}
+
+impl<V: Variant> sealed::Sealed for CoreWrapper<RipemdCore<V>> {}
+
 /// The four hashers, which the functions of this crate take. No other type can have this trait.
 ///
 /// ```
@@ -128,7 +135,14 @@ impl<V: Variant> SerializableState for CoreWrapper<RipemdCore<V>> {
 /// assert_eq!(size_of::<Ripemd160>(), 20);
 /// ```
 pub trait Ripemd:
-    Digest + BlockSizeUser<BlockSize = U64> + SerializableState + Clone + Send + Sync + 'static
+    sealed::Sealed
+    + Digest
+    + BlockSizeUser<BlockSize = U64>
+    + SerializableState
+    + Clone
+    + Send
+    + Sync
+    + 'static
 {
     #[doc(hidden)]
     type Variant: Variant<OutputSize = Self::OutputSize>;
