@@ -10,32 +10,47 @@
 #                      and one by one; and the time of verifying right and wrong tags. It leaves
 #                      a picture, crates/ripemd_bench/out/speed.svg
 #   make library       builds the library for C, proved, with a C compiler: libnattizhu.a and the shared
-#                      object libnattizhu.so, in crates/ripemd_c/out
+#                      object libnattizhu.so, in crates/ripemd_c/out, for the toolchain's default
+#                      processors and for x86-64-v3
 #   make wheel         builds the package for Python, with Python's headers, pip, setuptools and wheel:
 #                      dist/nattizhu-VERSION-cp311-abi3-linux_x86_64.whl, which `pip install` installs
 #                      where there is no compiler
+#   make dist          builds what people install without the toolchain, in dist: an archive of the
+#                      source, one of what is built, the wheel, Debian packages, and SHA256SUMS
 #   make install       builds all of it and copies to PREFIX (/usr/local; DESTDIR goes in front) the
-#                      program and its manual page, the two libraries, nattizhu.h, nattizhu.pc for
-#                      pkg-config, and the package nattizhu for the python3 on the path
+#                      program, the libraries, nattizhu.h, nattizhu.pc for pkg-config, the manual pages,
+#                      and the package nattizhu for the python3 on the path. LIBDIR is the folder of the
+#                      libraries below PREFIX (lib).
 #   make uninstall     removes these again
 #   make clean         removes what was built
 #
-#   CPU=x86-64-v3      builds for processors with AVX2; without it, for the toolchain's default. Give
-#                      it to `make install` too.
+#   CPU=x86-64-v3      builds the program, libnattizhu.a and the plain shared object for processors with
+#                      AVX2; without it, for the toolchain's default, x86-64-v2. Give it to `make install`
+#                      too.
 
 PREFIX = /usr/local
+LIBDIR = lib
 CPU =
 
 PROGRAM = crates/ripemd_sum/out/ripemd_sum
 SPEED = crates/ripemd_bench/out/speed
 
 BUILT = crates/ripemd_c/out
+HWCAPS = glibc-hwcaps/x86-64-v3
 AT = $(DESTDIR)$(PREFIX)
+LIBRARIES = $(AT)/$(LIBDIR)
+PAGES = $(AT)/share/man
+# What nattizhu.pc names as the prefix.
+PC_PREFIX = $(PREFIX)
+VERSION = $(shell sed -n 's/^\#define NATTIZHU_VERSION "\(.*\)"/\1/p' crates/ripemd_c/nattizhu.h)
+# The functions of nattizhu.h, each of which has a name for the manual page of all.
+FUNCTIONS = $(shell sed -n 's/^function \([^ ]*\) .*/\1/p' tests/interface.txt)
 # Where the python3 on the path has its modules below a prefix; nothing, where there is none.
 SITE = $(shell python3 -c 'import sys; sys.version_info < (3, 11) or \
   print("lib/python%d.%d/site-packages" % sys.version_info[:2])' 2>/dev/null)
 
-.PHONY: all library wheel toolchain prefix check quick bench install install-program install-library uninstall clean
+.PHONY: all library wheel dist toolchain prefix check quick bench install install-program install-library \
+  install-python uninstall clean
 
 # `rt run` proves, builds and then runs the program, here on no input. The libraries are proved first,
 # where they have changed.
@@ -65,14 +80,18 @@ bench: all
 	@echo && crates/ripemd_bench/out/ripemd_bench lists
 	@echo && crates/ripemd_bench/out/ripemd_bench tags
 
-# `rt lib` proves the library and builds it.
 library: toolchain
 	@echo 'make: proving and building the library' >&2
-	@mkdir -p $(BUILT) && cd crates/ripemd_c && rt lib $(if $(CPU),--cpu $(CPU)) >out/log 2>&1 || { cat out/log; exit 1; }
-	@tests/shared $(BUILT)
+	@mkdir -p $(BUILT) && tests/library $(or $(CPU),x86-64-v2) x86-64-v3 >$(BUILT)/log 2>&1 || { cat $(BUILT)/log; exit 1; }
+	@tests/shared $(BUILT) $(CPU)
 
 wheel: library
 	@tests/wheel dist
+
+dist:
+	@[ -z '$(CPU)' ] || { echo 'make: packages are for each processor: leave CPU out' >&2; exit 1; }
+	@$(MAKE) --no-print-directory all library
+	@tests/dist dist
 
 # nattizhu.pc has the prefix in it.
 prefix:
@@ -81,28 +100,35 @@ prefix:
 install: prefix all library
 	@$(MAKE) --no-print-directory install-program
 	@if command -v cc >/dev/null; then \
-	  $(MAKE) --no-print-directory install-library; \
+	  $(MAKE) --no-print-directory install-library install-python; \
 	else \
 	  echo 'make: there is no C compiler (cc): libnattizhu, nattizhu.h and the package for Python are left out'; \
 	fi
 
-# These two copy what is built.
+# $(call filled,FILE,PLACE): copies a file with the version and places in it
+filled = sed -e 's|@PREFIX@|$(PC_PREFIX)|' -e 's|@LIBDIR@|$(LIBDIR)|' -e 's|@VERSION@|$(VERSION)|' \
+  $(1) >"$(2)" && chmod 644 "$(2)"
+
+# These copy what is built.
 install-program: prefix
 	install -D -m 755 $(PROGRAM) "$(AT)/bin/ripemd_sum"
-	install -D -m 644 crates/ripemd_sum/ripemd_sum.1 "$(AT)/share/man/man1/ripemd_sum.1"
+	install -d "$(PAGES)/man1"
+	$(call filled,crates/ripemd_sum/ripemd_sum.1,$(PAGES)/man1/ripemd_sum.1)
 
 install-library: prefix
 	@[ -e $(BUILT)/libnattizhu.so.0 ] || { echo 'make: there is no libnattizhu.so: it needs a C compiler' \
 	  '(cc) and `make library`' >&2; exit 1; }
-	install -D -m 644 $(BUILT)/libnattizhu.a "$(AT)/lib/libnattizhu.a"
-	install -D -m 644 crates/ripemd_c/nattizhu.h "$(AT)/include/nattizhu.h"
-	install -d "$(AT)/lib/pkgconfig"
-	sed -e 's|@PREFIX@|$(PREFIX)|' -e "s|@VERSION@|$$(sed -n \
-	  's/^#define NATTIZHU_VERSION "\(.*\)"/\1/p' crates/ripemd_c/nattizhu.h)|" \
-	  crates/ripemd_c/nattizhu.pc.in >"$(AT)/lib/pkgconfig/nattizhu.pc"
-	chmod 644 "$(AT)/lib/pkgconfig/nattizhu.pc"
-	install -m 755 $(BUILT)/libnattizhu.so.0 "$(AT)/lib/libnattizhu.so.0"
-	ln -sf libnattizhu.so.0 "$(AT)/lib/libnattizhu.so"
+	install -D -m 644 -t "$(LIBRARIES)" $(BUILT)/libnattizhu.a $(BUILT)/libnattizhu_v3.a
+	install -D -m 755 -t "$(LIBRARIES)" $(BUILT)/libnattizhu.so.0
+	install -D -m 755 -t "$(LIBRARIES)/$(HWCAPS)" $(BUILT)/$(HWCAPS)/libnattizhu.so.0
+	ln -sf libnattizhu.so.0 "$(LIBRARIES)/libnattizhu.so"
+	install -D -m 644 -t "$(AT)/include" crates/ripemd_c/nattizhu.h
+	install -d "$(LIBRARIES)/pkgconfig" "$(PAGES)/man3"
+	$(call filled,crates/ripemd_c/nattizhu.pc.in,$(LIBRARIES)/pkgconfig/nattizhu.pc)
+	$(call filled,crates/ripemd_c/nattizhu.3,$(PAGES)/man3/nattizhu.3)
+	cd "$(PAGES)/man3" && for name in $(FUNCTIONS); do ln -sf nattizhu.3 $$name.3; done
+
+install-python: prefix
 	@room=$$(mktemp -d); trap 'rm -rf "$$room"' EXIT; tests/wheel "$$room"; \
 	if [ ! -e "$$room"/*.whl ]; then \
 	  :; \
@@ -115,9 +141,12 @@ install-library: prefix
 	fi
 
 uninstall: prefix
-	rm -f "$(AT)/bin/ripemd_sum" "$(AT)/share/man/man1/ripemd_sum.1" "$(AT)/lib/libnattizhu.a" \
-	  "$(AT)/lib/libnattizhu.so" "$(AT)/lib/libnattizhu.so.0" "$(AT)/include/nattizhu.h" \
-	  "$(AT)/lib/pkgconfig/nattizhu.pc"
+	rm -f "$(AT)/bin/ripemd_sum" "$(PAGES)/man1/ripemd_sum.1" "$(AT)/include/nattizhu.h" \
+	  "$(LIBRARIES)/libnattizhu.a" "$(LIBRARIES)/libnattizhu_v3.a" "$(LIBRARIES)/libnattizhu.so" \
+	  "$(LIBRARIES)/libnattizhu.so.0" "$(LIBRARIES)/$(HWCAPS)/libnattizhu.so.0" \
+	  "$(LIBRARIES)/pkgconfig/nattizhu.pc" "$(PAGES)/man3/nattizhu.3"
+	cd "$(PAGES)/man3" 2>/dev/null && rm -f $(FUNCTIONS:=.3) || :
+	cd "$(LIBRARIES)" 2>/dev/null && rmdir -p $(HWCAPS) 2>/dev/null || :
 	rm -rf "$(AT)"/lib/python3.*/site-packages/nattizhu "$(AT)"/lib/python3.*/site-packages/nattizhu-*.dist-info
 
 clean:

@@ -1,19 +1,26 @@
-"""The extension module, over the static library that `make library` leaves,
-or over that which LIBNATTIZHU names."""
+"""The extension module, over the static libraries that `make library` leaves,
+or over those in the folder that LIBNATTIZHU names."""
 
 import os
+import re
 
 from setuptools import Extension, setup
 
 CRATE = "../crates/ripemd_c"
-LIBRARY = os.environ.get("LIBNATTIZHU", f"{CRATE}/out/libnattizhu.a")
+FOLDER = os.environ.get("LIBNATTIZHU", f"{CRATE}/out")
+LIBRARIES = [f"{FOLDER}/libnattizhu.a", f"{FOLDER}/libnattizhu_v3.a"]
+with open(f"{CRATE}/nattizhu.h", encoding="utf-8") as header:
+    VERSION = re.search('NATTIZHU_VERSION "(.*)"', header.read())[1]
 
 setup(
+    version=VERSION,
     ext_modules=[Extension(
         "nattizhu._nattizhu", ["nattizhu/_nattizhu.c"],
-        depends=[f"{CRATE}/nattizhu.h", LIBRARY],
-        include_dirs=[CRATE], extra_objects=[LIBRARY],
-        extra_compile_args=["-std=c99", "-fvisibility=hidden"],
+        depends=[f"{CRATE}/nattizhu.h", *LIBRARIES],
+        include_dirs=[CRATE], extra_objects=LIBRARIES,
+        # -g0: no names of folders in the module, so that its bytes are the
+        # same wherever it is built.
+        extra_compile_args=["-std=c99", "-fvisibility=hidden", "-g0"],
         extra_link_args=["-Wl,--exclude-libs,ALL"], py_limited_api=True)],
     options={"bdist_wheel": {"py_limited_api": "cp311"}},
 )

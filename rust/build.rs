@@ -1,11 +1,15 @@
-//! Finds libnattizhu.a: in the folder that `NATTIZHU_LIB_DIR` names, or where pkg-config says, or where
-//! `make library` leaves it in this repository.
+//! Finds the library in both its builds, libnattizhu.a and libnattizhu_v3.a: in the folder that
+//! `NATTIZHU_LIB_DIR` names, or where pkg-config says, or where `make library` leaves them in this repository.
 
 use std::env;
 use std::path::{Path, PathBuf};
 use std::process::{exit, Command};
 
-const LIBRARY: &str = "libnattizhu.a";
+const LIBRARIES: [&str; 2] = ["nattizhu", "nattizhu_v3"];
+
+fn file(folder: &Path, library: &str) -> PathBuf {
+    folder.join(format!("lib{library}.a"))
+}
 
 /// The folder that pkg-config names, if it runs and knows the library.
 fn by_pkg_config() -> Option<PathBuf> {
@@ -27,18 +31,21 @@ fn main() {
         Some(named) => vec![named.into()],
         None => by_pkg_config().into_iter().chain([built]).collect(),
     };
-    match folders.iter().find(|folder| folder.join(LIBRARY).exists()) {
+    let has_both = |folder: &&PathBuf| LIBRARIES.iter().all(|name| file(folder, name).exists());
+    match folders.iter().find(has_both) {
         Some(folder) => {
-            println!("cargo:rerun-if-changed={}", folder.join(LIBRARY).display());
             println!("cargo:rustc-link-search=native={}", folder.display());
-            println!("cargo:rustc-link-lib=static=nattizhu");
+            for name in LIBRARIES {
+                println!("cargo:rerun-if-changed={}", file(folder, name).display());
+                println!("cargo:rustc-link-lib=static={name}");
+            }
         }
         None => {
-            eprintln!("There is no {LIBRARY} in {folders:?}.");
+            eprintln!("There is no libnattizhu.a with libnattizhu_v3.a in {folders:?}.");
             eprintln!(
                 "In the repository of Nattizhu run `make library`, or `make install PREFIX=..` and add \
                  PREFIX/lib/pkgconfig to PKG_CONFIG_PATH; or set NATTIZHU_LIB_DIR to the folder that \
-                 has it."
+                 has them."
             );
             exit(1);
         }

@@ -24,6 +24,18 @@ enum { MOST = NATTIZHU_RIPEMD320_SIZE };
 
 /* ---- The variants */
 
+/* The module has the library in two builds: for any processor that it runs on, and for x86-64-v3, where
+ * each name ends in _v3. The calls for many messages, and for keys, are those of the second where this
+ * processor can run them; for one message the first is as fast. */
+#if !defined(__clang__) && __GNUC__ >= 12
+#define HAS_V3 (__builtin_cpu_supports("x86-64-v3") != 0)
+#else
+#define HAS_V3 false /* such a compiler may not know this level */
+#endif
+#define BEST(name) (HAS_V3 ? name##_v3 : name)
+
+extern __typeof__(nattizhu_pbkdf2) nattizhu_pbkdf2_v3;
+
 typedef struct {
   nattizhu_variant number;
   Py_ssize_t size; /* of a digest */
@@ -44,6 +56,10 @@ typedef struct {
 } Variant;
 
 #define CALLS(bits)                                                                                \
+  extern __typeof__(nattizhu_ripemd##bits##_each) nattizhu_ripemd##bits##_each_v3;                 \
+  extern __typeof__(nattizhu_ripemd##bits##_list) nattizhu_ripemd##bits##_list_v3;                 \
+  extern __typeof__(nattizhu_hmac_ripemd##bits##_each) nattizhu_hmac_ripemd##bits##_each_v3;       \
+  extern __typeof__(nattizhu_hmac_ripemd##bits##_list) nattizhu_hmac_ripemd##bits##_list_v3;       \
   static void init_##bits(void *state) { nattizhu_ripemd##bits##_init(state); }                    \
   static bool update_##bits(void *state, const uint8_t *bytes, size_t length) {                    \
     return nattizhu_ripemd##bits##_update(state, bytes, length);                                   \
@@ -65,23 +81,23 @@ typedef struct {
   }                                                                                                \
   static bool each_##bits(const uint8_t *bytes, size_t length, size_t size, uint8_t *digests,      \
                           size_t count) {                                                          \
-    return nattizhu_ripemd##bits##_each(                                                           \
+    return BEST(nattizhu_ripemd##bits##_each)(                                                     \
         bytes, length, size, (uint8_t(*)[NATTIZHU_RIPEMD##bits##_SIZE])digests, count);            \
   }                                                                                                \
   static void list_##bits(const nattizhu_message *messages, size_t count, uint8_t *digests) {      \
-    nattizhu_ripemd##bits##_list(messages, count,                                                  \
-                                 (uint8_t(*)[NATTIZHU_RIPEMD##bits##_SIZE])digests);               \
+    BEST(nattizhu_ripemd##bits##_list)(messages, count,                                            \
+                                       (uint8_t(*)[NATTIZHU_RIPEMD##bits##_SIZE])digests);         \
   }                                                                                                \
   static bool hmac_each_##bits(const uint8_t *key, size_t key_length, const uint8_t *bytes,        \
                                size_t length, size_t size, uint8_t *tags, size_t count) {          \
-    return nattizhu_hmac_ripemd##bits##_each(key, key_length, bytes, length, size,                 \
-                                             (uint8_t(*)[NATTIZHU_RIPEMD##bits##_SIZE])tags,       \
-                                             count);                                               \
+    return BEST(nattizhu_hmac_ripemd##bits##_each)(key, key_length, bytes, length, size,           \
+                                                   (uint8_t(*)[NATTIZHU_RIPEMD##bits##_SIZE])tags, \
+                                                   count);                                         \
   }                                                                                                \
   static void hmac_list_##bits(const uint8_t *key, size_t key_length,                              \
                                const nattizhu_message *texts, size_t count, uint8_t *tags) {       \
-    nattizhu_hmac_ripemd##bits##_list(key, key_length, texts, count,                               \
-                                      (uint8_t(*)[NATTIZHU_RIPEMD##bits##_SIZE])tags);             \
+    BEST(nattizhu_hmac_ripemd##bits##_list)(key, key_length, texts, count,                         \
+                                            (uint8_t(*)[NATTIZHU_RIPEMD##bits##_SIZE])tags);       \
   }
 
 CALLS(128)
@@ -888,8 +904,8 @@ static PyObject *pbkdf2_hmac(PyObject *Py_UNUSED(module), PyObject *const *argum
   if (key != NULL) {
     uint8_t *place = (uint8_t *)PyBytes_AsString(key);
     Py_BEGIN_ALLOW_THREADS
-    done = nattizhu_pbkdf2(variant->number, password.buf, (size_t)password.len, salt.buf,
-                           (size_t)salt.len, (uint32_t)rounds, place, (size_t)length);
+    done = BEST(nattizhu_pbkdf2)(variant->number, password.buf, (size_t)password.len, salt.buf,
+                                 (size_t)salt.len, (uint32_t)rounds, place, (size_t)length);
     Py_END_ALLOW_THREADS
     if (!done) {
       PyErr_SetString(PyExc_SystemError, "nattizhu: no key");
@@ -974,6 +990,8 @@ static int module_exec(PyObject *module) {
   if (state->hasher == NULL || state->hmac == NULL || state->from_state == NULL ||
       state->hmac_from_state == NULL || PyModule_AddType(module, state->hasher) != 0 ||
       PyModule_AddType(module, state->hmac) != 0)
+    return -1;
+  if (PyModule_AddStringConstant(module, "_level", HAS_V3 ? "x86-64-v3" : "x86-64-v2") != 0)
     return -1;
   return PyModule_AddStringConstant(module, "__version__", nattizhu_version());
 }

@@ -80,6 +80,57 @@ pub trait Variant: Clone + Send + Sync + 'static {
     ) -> bool;
 }
 
+/// Whether this processor can run the build of the library for x86-64-v3, whose functions over many
+/// messages and over keys are about twice as fast. The standard library asks the processor; without `std`
+/// the other build is taken.
+#[allow(unused_unsafe)] // `__cpuid` was unsafe in older versions of Rust.
+fn has_v3() -> bool {
+    #[cfg(feature = "std")]
+    {
+        // What the level has beyond x86-64-v2. For MOVBE, bit 22 of the features that CPUID gives, the
+        // standard library of Rust 1.63 has no name.
+        std::is_x86_feature_detected!("avx2")
+            && std::is_x86_feature_detected!("bmi1")
+            && std::is_x86_feature_detected!("bmi2")
+            && std::is_x86_feature_detected!("f16c")
+            && std::is_x86_feature_detected!("fma")
+            && std::is_x86_feature_detected!("lzcnt")
+            // SAFETY: every x86-64 processor has CPUID, with this leaf.
+            && unsafe { core::arch::x86_64::__cpuid(1) }.ecx & (1 << 22) != 0
+    }
+    #[cfg(not(feature = "std"))]
+    false
+}
+
+#[cfg(all(test, feature = "std"))]
+#[test]
+fn has_v3_as_the_kernel_says() {
+    let said = std::fs::read_to_string("/proc/cpuinfo").unwrap();
+    let flags = said.lines().find(|line| line.starts_with("flags")).unwrap();
+    let has = |flag| flags.split_whitespace().any(|word| word == flag);
+    let level = ["abm", "avx2", "bmi1", "bmi2", "f16c", "fma", "movbe"];
+    assert_eq!(has_v3(), level.iter().all(|flag| has(*flag)));
+}
+
+/// A function of the library in the best build for this processor. The library has it twice: for any
+/// processor under its name, and for x86-64-v3 with `_v3` behind that. Both are the same function of
+/// `nattizhu.h`, and the second is taken only where the processor has all of its instructions.
+macro_rules! best {
+    ($name:expr, fn($($argument:ty),*) $(-> $answer:ty)?) => {{
+        extern "C" {
+            #[link_name = $name]
+            fn plain($(_: $argument),*) $(-> $answer)?;
+            #[link_name = concat!($name, "_v3")]
+            fn v3($(_: $argument),*) $(-> $answer)?;
+        }
+        if has_v3() {
+            v3
+        } else {
+            plain
+        }
+    }};
+}
+
 macro_rules! variant {
     ($variant:ident, $bits:literal, $size:literal, $output:ty, $state:literal, $hmac_state:literal) => {
         #[derive(Clone)]
@@ -106,16 +157,10 @@ macro_rules! variant {
 
             #[inline]
             fn digest_each(records: &[u8], size: usize, digests: &mut [Output<Self>]) -> bool {
-                extern "C" {
-                    #[link_name = concat!("nattizhu_ripemd", $bits, "_each")]
-                    fn call(
-                        bytes: *const u8,
-                        length: usize,
-                        size: usize,
-                        digests: *mut u8,
-                        count: usize,
-                    ) -> bool;
-                }
+                let call = best!(
+                    concat!("nattizhu_ripemd", $bits, "_each"),
+                    fn(*const u8, usize, usize, *mut u8, usize) -> bool
+                );
                 // SAFETY: memory, null, overlap and threads by the two slices. The library compares
                 // the length with the product of size and count by itself.
                 unsafe {
@@ -131,10 +176,10 @@ macro_rules! variant {
 
             #[inline]
             fn digest_list(messages: &[Message<'_>], digests: &mut [Output<Self>]) {
-                extern "C" {
-                    #[link_name = concat!("nattizhu_ripemd", $bits, "_list")]
-                    fn call(messages: *const Message<'_>, count: usize, digests: *mut u8);
-                }
+                let call = best!(
+                    concat!("nattizhu_ripemd", $bits, "_list"),
+                    fn(*const Message<'_>, usize, *mut u8)
+                );
                 assert_eq!(messages.len(), digests.len());
                 // SAFETY: memory by the slices, which are of equal length, and by those of which each
                 // message was made; null, overlap and threads by all of these.
@@ -197,18 +242,10 @@ macro_rules! variant {
                 size: usize,
                 tags: &mut [Output<Self>],
             ) -> bool {
-                extern "C" {
-                    #[link_name = concat!("nattizhu_hmac_ripemd", $bits, "_each")]
-                    fn call(
-                        key: *const u8,
-                        key_length: usize,
-                        bytes: *const u8,
-                        length: usize,
-                        size: usize,
-                        tags: *mut u8,
-                        count: usize,
-                    ) -> bool;
-                }
+                let call = best!(
+                    concat!("nattizhu_hmac_ripemd", $bits, "_each"),
+                    fn(*const u8, usize, *const u8, usize, usize, *mut u8, usize) -> bool
+                );
                 // SAFETY: memory, null, overlap and threads by the three slices. The library compares
                 // the length with the product of size and count by itself.
                 unsafe {
@@ -226,16 +263,10 @@ macro_rules! variant {
 
             #[inline]
             fn hmac_list(key: &[u8], texts: &[Message<'_>], tags: &mut [Output<Self>]) {
-                extern "C" {
-                    #[link_name = concat!("nattizhu_hmac_ripemd", $bits, "_list")]
-                    fn call(
-                        key: *const u8,
-                        key_length: usize,
-                        texts: *const Message<'_>,
-                        count: usize,
-                        tags: *mut u8,
-                    );
-                }
+                let call = best!(
+                    concat!("nattizhu_hmac_ripemd", $bits, "_list"),
+                    fn(*const u8, usize, *const Message<'_>, usize, *mut u8)
+                );
                 assert_eq!(texts.len(), tags.len());
                 // SAFETY: memory by the slices, of which texts and tags are of equal length, and by
                 // those of which each text was made; null, overlap and threads by all of these.
@@ -296,18 +327,10 @@ macro_rules! variant {
 
             #[inline]
             fn pbkdf2(password: &[u8], salt: &[u8], rounds: u32, key: &mut [u8]) -> bool {
-                extern "C" {
-                    #[link_name = concat!("nattizhu_pbkdf2_ripemd", $bits)]
-                    fn call(
-                        password: *const u8,
-                        password_length: usize,
-                        salt: *const u8,
-                        salt_length: usize,
-                        rounds: u32,
-                        key: *mut u8,
-                        key_length: usize,
-                    ) -> bool;
-                }
+                let call = best!(
+                    concat!("nattizhu_pbkdf2_ripemd", $bits),
+                    fn(*const u8, usize, *const u8, usize, u32, *mut u8, usize) -> bool
+                );
                 // SAFETY: memory, null, overlap and threads by the three slices.
                 unsafe {
                     call(
@@ -330,17 +353,10 @@ macro_rules! variant {
                 key_length: usize,
                 keys: &mut [u8],
             ) -> bool {
-                extern "C" {
-                    #[link_name = concat!("nattizhu_pbkdf2_ripemd", $bits, "_list")]
-                    fn call(
-                        passwords: *const Message<'_>,
-                        salts: *const Message<'_>,
-                        count: usize,
-                        rounds: u32,
-                        keys: *mut u8,
-                        key_length: usize,
-                    ) -> bool;
-                }
+                let call = best!(
+                    concat!("nattizhu_pbkdf2_ripemd", $bits, "_list"),
+                    fn(*const Message<'_>, *const Message<'_>, usize, u32, *mut u8, usize) -> bool
+                );
                 assert_eq!(passwords.len(), salts.len());
                 assert_eq!(passwords.len().checked_mul(key_length), Some(keys.len()));
                 // SAFETY: memory by the slices, which are as long as the count and the length of the
