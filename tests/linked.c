@@ -3,8 +3,10 @@
 //   linked LEVEL=FILE.so..      ours, as built for some levels of processors
 // A function is timed only after its digests were compared with a published one and, at many
 // lengths, with ours, its tags with a published one, and its keys with one of tests/keys.txt and with
-// ours. A figure is the best of many slices of some 10 ms, in the thread's processor time. The rounds
-// are outermost: a disturbance of seconds spoils a round of all figures, not all rounds of one.
+// ours. A figure is the best of many slices of some 10 ms, in the thread's processor time. The libraries
+// take turns, and the rounds are outermost: a disturbance of seconds spoils a round of all figures, not all
+// rounds of one. There are more rounds while figures still fall. Below each table stands how far its
+// ratios were apart in single rounds: little, where the machine was quiet.
 #include <dlfcn.h>
 #include <stdbool.h>
 #include <stdint.h>
@@ -14,7 +16,7 @@
 #include <sys/uio.h>
 #include <time.h>
 
-enum { ROUNDS = 8, SLICES = 6, VARIANTS = 4, MIB = 1 << 20, MOST = 8 };
+enum { ROUNDS = 8, MOST_ROUNDS = 40, SLICES = 6, VARIANTS = 4, MIB = 1 << 20, MOST = 8 };
 
 static const int SIZES[VARIANTS] = {16, 20, 32, 40};
 
@@ -42,9 +44,15 @@ static const struct task {
 };
 enum { TASKS_COUNT = sizeof TASKS / sizeof TASKS[0] };
 
-// Pieces of a message, each taken in by one call.
-static const size_t PIECES[] = {1, 64, 4096, MIB};
-enum { PIECES_COUNT = sizeof PIECES / sizeof PIECES[0] };
+// Pieces of a message, each taken in by one call; then the call that begins a message, and that with the
+// one that ends it.
+static const size_t PIECES[] = {1, 8, 16, 32, 64, 4096, MIB};
+enum {
+  PIECES_COUNT = sizeof PIECES / sizeof PIECES[0],
+  INIT = PIECES_COUNT,
+  INIT_AND_FINAL,
+  CALLS_COUNT
+};
 
 // Keys of one length from passwords of 8 bytes, each with a salt of 8 bytes, by so many rounds of
 // PBKDF2.
@@ -65,7 +73,14 @@ static uint8_t key[20];
 static const char TEXT[] = "Hi There";
 static const char TAG[] = "24cb4bd67d20fc1a5d2ed7732dcc39377f0a5668";
 
-// A library's functions by variant, NULL where it has none, and the least seconds of each task. A tag
+// What is timed: each task by each variant, each call of pieces, and each key.
+enum {
+  PIECE_CELLS = TASKS_COUNT * VARIANTS,
+  KEY_CELLS = PIECE_CELLS + CALLS_COUNT,
+  CELLS = KEY_CELLS + KEYS_COUNT
+};
+
+// A library's functions by variant, NULL where it has none, and the times of each cell. A tag
 // is made from a copy of the state after the key, which the library keeps; ours hashes the key once
 // for a list. The functions of messages in pieces and of keys are those of RIPEMD-160.
 struct library {
@@ -84,7 +99,10 @@ struct library {
                  size_t salt_length, uint32_t rounds, uint8_t *key, size_t key_length);
   bool (*derive_list)(const struct iovec *passwords, const struct iovec *salts, size_t count,
                       uint32_t rounds, uint8_t *keys, size_t key_length);
-  double seconds[TASKS_COUNT][VARIANTS], piece_seconds[PIECES_COUNT], key_seconds[KEYS_COUNT];
+  struct time {
+    double least, in_round; // seconds, of all rounds and of this one
+    double low, high;       // the ratio to the fastest of the others in single rounds
+  } times[CELLS];
 };
 
 static struct library libraries[MOST]; // ours first
@@ -134,6 +152,12 @@ static void by_rhash(const uint8_t *message, size_t length, uint8_t *digest) {
   rhash_final(rhash_context, digest);
 }
 
+static void rhash_begin(void *context) { rhash_reset(context); }
+static bool rhash_piece(void *context, const uint8_t *bytes, size_t length) {
+  return !rhash_update(context, bytes, length);
+}
+static bool rhash_end(void *context, uint8_t *digest) { return !rhash_final(context, digest); }
+
 static void add_rhash(void *from) {
   void (*rhash_library_init)(void);
   uintptr_t (*rhash_transmit)(unsigned, void *, uintptr_t, uintptr_t);
@@ -146,7 +170,12 @@ static void add_rhash(void *from) {
   char version[20];
   snprintf(version, sizeof version, "%u.%u.%u", number >> 24, number >> 16 & 255,
            number >> 8 & 255);
-  add("RHash", version)->digest[1] = by_rhash;
+  struct library *rhash = add("RHash", version);
+  rhash->digest[1] = by_rhash;
+  rhash->state = rhash_context;
+  rhash->init = rhash_begin;
+  rhash->update = rhash_piece;
+  rhash->final = rhash_end;
 }
 
 static void (*gcry_md_hash_buffer)(int, void *, const void *, size_t);
@@ -440,60 +469,117 @@ static double now(void) {
 
 // The first message of each call begins with bytes of the last digest, so no call runs ahead. The
 // clock is read after some 4,096 blocks.
-static void measure(struct library *by, int v, int t) {
-  const struct task *task = &TASKS[t];
-  double *least = &by->seconds[t][v];
-  int batch = 4096 / (task->count * (task->size / 64 + 1)) + 1;
-  for (int s = 0; s < SLICES; s++) {
-    double start = now(), taken;
-    int calls = 0;
-    do {
-      for (int i = 0; i < batch; i++, calls++) {
-        perform(by, v, task);
-        memcpy(bytes, digests, 8);
-      }
-      taken = now() - start;
-    } while (taken < 0.01);
-    if (!*least || taken / calls < *least)
-      *least = taken / calls;
+// Whether a library has what a cell times.
+static bool has_cell(const struct library *by, int cell) {
+  return cell < PIECE_CELLS ? has(by, cell % VARIANTS, &TASKS[cell / VARIANTS])
+         : cell < KEY_CELLS ? by->update != NULL
+                            : by->derive != NULL;
+}
+
+// Does once what a cell times. What comes of it goes into what follows.
+static void do_cell(struct library *by, int cell) {
+  if (cell < PIECE_CELLS) {
+    perform(by, cell % VARIANTS, &TASKS[cell / VARIANTS]);
+    memcpy(bytes, digests, 8);
+  } else if (cell < KEY_CELLS) {
+    int c = cell - PIECE_CELLS;
+    if (c < PIECES_COUNT) {
+      by->update(by->state, bytes, PIECES[c]);
+    } else {
+      by->init(by->state);
+      if (c == INIT_AND_FINAL)
+        by->final(by->state, digests);
+    }
+  } else {
+    derive(by, cell - KEY_CELLS);
+    memcpy(bytes, digests, PASSWORD);
   }
 }
 
-static void measure_pieces(struct library *by, int p) {
-  double *least = &by->piece_seconds[p];
-  int batch = 4096 / (PIECES[p] / 64 + 1) + 1;
-  by->init(by->state);
+// How often before the clock is read again.
+static int batch_of(int cell) {
+  if (cell >= KEY_CELLS)
+    return 1;
+  int c = cell - PIECE_CELLS;
+  const struct task *task = &TASKS[c < 0 ? cell / VARIANTS : 0];
+  size_t blocks = c < 0                ? task->count * (task->size / 64 + 1)
+                  : c < PIECES_COUNT ? PIECES[c] / 64 + 1
+                                       : 4;
+  return 4096 / blocks + 1;
+}
+
+static bool fell; // whether a figure fell in this round by half a percent or more
+
+static void measure(struct library *by, int cell) {
+  struct time *time = &by->times[cell];
+  int batch = batch_of(cell);
+  time->in_round = 0;
+  if (cell >= PIECE_CELLS && cell < KEY_CELLS)
+    by->init(by->state);
   for (int s = 0; s < SLICES; s++) {
     double start = now(), taken;
     int calls = 0;
     do {
       for (int i = 0; i < batch; i++, calls++)
-        by->update(by->state, bytes, PIECES[p]);
+        do_cell(by, cell);
       taken = now() - start;
     } while (taken < 0.01);
-    if (!*least || taken / calls < *least)
-      *least = taken / calls;
+    if (!time->in_round || taken / calls < time->in_round)
+      time->in_round = taken / calls;
+  }
+  fell |= !time->least || time->in_round < 0.995 * time->least;
+  if (!time->least || time->in_round < time->least)
+    time->least = time->in_round;
+}
+
+// The time of the fastest of the others, divided by that of one of ours; 0 if there is none. Of this round,
+// or of all.
+static double ratio(int l, int cell, bool of_round) {
+  double least = 0;
+  for (int other = ours; other < count; other++) {
+    const struct time *time = &libraries[other].times[cell];
+    double theirs = of_round ? time->in_round : time->least;
+    least = theirs && (!least || theirs < least) ? theirs : least;
+  }
+  const struct time *time = &libraries[l].times[cell];
+  return least / (of_round ? time->in_round : time->least);
+}
+
+// Measures all cells, the libraries in turn.
+static void measure_all(void) {
+  for (int cell = 0; cell < CELLS; cell++) {
+    for (int l = 0; l < count; l++)
+      if (has_cell(&libraries[l], cell))
+        measure(&libraries[l], cell);
+    for (int l = 0; l < ours; l++) {
+      struct time *time = &libraries[l].times[cell];
+      double now = ratio(l, cell, true);
+      time->low = !time->low || now < time->low ? now : time->low;
+      time->high = now > time->high ? now : time->high;
+    }
   }
 }
 
-// The first password of each call is bytes of the last key, so no call runs ahead.
-static void measure_keys(struct library *by, int k) {
-  double *least = &by->key_seconds[k];
-  for (int s = 0; s < SLICES; s++) {
-    double start = now(), taken;
-    int calls = 0;
-    do {
-      derive(by, k);
-      memcpy(bytes, digests, PASSWORD);
-      calls++;
-      taken = now() - start;
-    } while (taken < 0.01);
-    if (!*least || taken / calls < *least)
-      *least = taken / calls;
-  }
+// How far apart the ratios of some cells were in single rounds, at most.
+static void print_spread(int first, int cells) {
+  double most = 1;
+  for (int l = 0; l < ours; l++)
+    for (int cell = first; cell < first + cells; cell++) {
+      const struct time *time = &libraries[l].times[cell];
+      most = time->low && time->high > most * time->low ? time->high / time->low : most;
+    }
+  printf("\nThe same ratio was up to %.0f %% apart in single rounds.\n", 100 * (most - 1));
 }
 
-// A row for each library; ours with their speed as a part of that of the fastest of the others.
+// A figure, and behind one of ours the ratio to the fastest of the others.
+static void print_cell(int l, int cell, double figure, const char *form) {
+  printf(form, figure);
+  double part = l < ours ? ratio(l, cell, false) : 0;
+  if (part)
+    printf(" (%.2f)", part);
+}
+
+// A row for each library.
 static void print_table(int t) {
   const struct task *task = &TASKS[t];
   printf("\n%s:\n\n| | 128 | 160 | 256 | 320 |\n|---|---|---|---|---|\n", task->title);
@@ -505,48 +591,49 @@ static void print_table(int t) {
       continue;
     printf("| %s |", libraries[l].name);
     for (int v = 0; v < VARIANTS; v++) {
-      double taken = libraries[l].seconds[t][v], least = 0;
-      for (int other = ours; l < ours && other < count; other++) {
-        double theirs = libraries[other].seconds[t][v];
-        least = theirs && (!least || theirs < least) ? theirs : least;
-      }
+      int cell = t * VARIANTS + v;
+      double taken = libraries[l].times[cell].least;
       if (taken)
-        printf(" %.0f", task->in_ns ? 1e9 * taken / task->count
-                                    : task->size * task->count / taken / 1e6);
-      if (least)
-        printf(" (%.2f)", least / taken);
+        print_cell(l, cell,
+                   task->in_ns ? 1e9 * taken / task->count
+                               : task->size * task->count / taken / 1e6,
+                   " %.0f");
       printf(" |");
     }
     printf("\n");
   }
+  print_spread(t * VARIANTS, VARIANTS);
 }
 
-// The same of pieces.
+// A row for each call of pieces.
 static void print_pieces(void) {
-  printf("\nOne piece of a message, RIPEMD-160:\n\n| | 1 byte, ns | 64 bytes, ns | 4,096 bytes, ns "
-         "| 1 MiB, MB/s |\n|---|---|---|---|---|\n");
-  for (int l = 0; l < count; l++) {
-    if (!libraries[l].update)
-      continue;
-    printf("| %s |", libraries[l].name);
-    for (int p = 0; p < PIECES_COUNT; p++) {
-      double taken = libraries[l].piece_seconds[p];
-      printf(" %.0f", PIECES[p] == MIB ? MIB / taken / 1e6 : 1e9 * taken);
-      if (l < ours && libraries[count - 1].update)
-        printf(" (%.2f)", libraries[count - 1].piece_seconds[p] / taken);
+  printf("\nMessages in pieces, RIPEMD-160, ns for each call:\n\n| |");
+  for (int l = 0; l < count; l++)
+    if (libraries[l].update)
+      printf(" %s |", libraries[l].name);
+  printf("\n|---|");
+  for (int l = 0; l < count; l++)
+    if (libraries[l].update)
+      printf("---|");
+  for (int c = 0; c < CALLS_COUNT; c++) {
+    if (c < PIECES_COUNT)
+      printf("\n| update, %zu byte%s |", PIECES[c], PIECES[c] == 1 ? "" : "s");
+    else
+      printf("\n| init%s |", c == INIT_AND_FINAL ? " and final" : "");
+    for (int l = 0; l < count; l++) {
+      if (!libraries[l].update)
+        continue;
+      double taken = libraries[l].times[PIECE_CELLS + c].least;
+      print_cell(l, PIECE_CELLS + c, 1e9 * taken, taken < 1e-7 ? " %.1f" : " %.0f");
       printf(" |");
     }
-    printf("\n");
   }
+  printf("\n");
+  print_spread(PIECE_CELLS, CALLS_COUNT);
 }
 
-// The same of keys: the rounds of a key in a second, or of all keys of a list.
+// A row for each library: the rounds of a key in a second, or of all keys of a list.
 static void print_keys(void) {
-  double least[KEYS_COUNT] = {0}; // of the others
-  for (int l = ours; l < count; l++)
-    for (int k = 0; k < KEYS_COUNT; k++)
-      if (libraries[l].derive && (!least[k] || libraries[l].key_seconds[k] < least[k]))
-        least[k] = libraries[l].key_seconds[k];
   printf("\nKeys from passwords, PBKDF2 with HMAC and RIPEMD-160, thousands of rounds a second:\n\n"
          "| | 20 bytes | 64 bytes | 192 bytes | eight of 20 bytes, ours at once |\n"
          "|---|---|---|---|---|\n");
@@ -555,14 +642,13 @@ static void print_keys(void) {
       continue;
     printf("| %s |", libraries[l].name);
     for (int k = 0; k < KEYS_COUNT; k++) {
-      double taken = libraries[l].key_seconds[k];
-      printf(" %.0f", KEYS[k].count * KEY_ROUNDS / taken / 1e3);
-      if (l < ours && least[k])
-        printf(" (%.2f)", least[k] / taken);
+      double taken = libraries[l].times[KEY_CELLS + k].least;
+      print_cell(l, KEY_CELLS + k, KEYS[k].count * KEY_ROUNDS / taken / 1e3, " %.0f");
       printf(" |");
     }
     printf("\n");
   }
+  print_spread(KEY_CELLS, KEYS_COUNT);
 }
 
 int main(int argc, char **argv) {
@@ -599,21 +685,13 @@ int main(int argc, char **argv) {
   for (int l = 0; l < count; l++)
     if (libraries[l].derive)
       check_keys(&libraries[l]);
-  for (int round = 0; round < ROUNDS; round++) {
-    for (int p = 0; p < PIECES_COUNT; p++)
-      for (int l = 0; l < count; l++)
-        if (libraries[l].update)
-          measure_pieces(&libraries[l], p);
-    for (int k = 0; k < KEYS_COUNT; k++)
-      for (int l = 0; l < count; l++)
-        if (libraries[l].derive)
-          measure_keys(&libraries[l], k);
-    for (int t = 0; t < TASKS_COUNT; t++)
-      for (int v = 0; v < VARIANTS; v++)
-        for (int l = 0; l < count; l++)
-          if (has(&libraries[l], v, &TASKS[t]))
-            measure(&libraries[l], v, t);
+  int round = 0;
+  for (int still = 0; round < MOST_ROUNDS && (round < ROUNDS || still < 3); round++) {
+    fell = false;
+    measure_all();
+    still = fell ? 0 : still + 1;
   }
+  printf("%d rounds.\n", round);
   for (int t = 0; t < TASKS_COUNT; t++)
     print_table(t);
   print_pieces();

@@ -5,11 +5,11 @@
  * tested, replaces null pointers, hands lists on in groups, and chooses the variant where that is a
  * number. Each caller has to ensure this, which nothing checks:
  *
- * - A pointer leads to as many bytes, messages, digests or tags as the number after it says, or as its
- *   type or its size in brackets says; `keys` leads to `count * key_length` bytes. Each of these pieces
- *   of memory is smaller than 2^63 bytes.
- * - A pointer with a number after it may be null where the number is 0, and `keys` where that product
- *   is 0. No other pointer is null.
+ * - A pointer leads to as many bytes, messages, digests or tags as the length, size or count after it
+ *   says, or as its type or its size in brackets says; `keys` leads to `count * key_length` bytes. Each
+ *   of these pieces of memory is smaller than 2^63 bytes.
+ * - A pointer with a length, size or count after it may be null where that is 0, and `keys` where that
+ *   product is 0. No other pointer is null.
  * - What a call writes overlaps nothing else that it is given; what it only reads may overlap.
  * - While a call runs, no other thread writes what it reads, or reads or writes what it writes.
  *
@@ -338,7 +338,8 @@ size_t nattizhu_state_size(nattizhu_variant variant);
 size_t nattizhu_hmac_state_size(nattizhu_variant variant);
 
 /* A hash state of any variant: the size of its digests, and the state as the functions of the variant
- * have it. Bytes of the union behind a shorter state are zeros after init, and no call looks at them. */
+ * have it. Bytes of the union behind a shorter state are zeros after init, and no call looks at them. A
+ * size that no variant has is refused as a bad state is, and so are zeros before init. */
 typedef struct nattizhu_state {
   uint8_t size;
   union {

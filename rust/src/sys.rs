@@ -81,7 +81,7 @@ pub trait Variant: Clone + Send + Sync + 'static {
 }
 
 /// Whether this processor can run the build of the library for x86-64-v3, whose functions over many
-/// messages and over keys are about twice as fast. The standard library asks the processor; without `std`
+/// messages, and over many or long keys, are about twice as fast. The standard library asks the processor; without `std`
 /// the other build is taken.
 #[allow(unused_unsafe)] // `__cpuid` was unsafe in older versions of Rust.
 fn has_v3() -> bool {

@@ -1,13 +1,14 @@
 //! What a hasher and an HMAC have in common: they take a message in pieces, give their output at its
 //! end, and can be saved as bytes in between.
 
-ghost use Rattle.std.specs.Prelude.{◌≡◌, ◌≢◌, ℕ, List, [], ◌++◌, IfOk, IfErr, ⊤};
+ghost use Rattle.std.specs.Prelude.{◌≡◌, ◌≢◌, ℕ, List, [], ◌++◌, IfOk, IfErr, IsTrue, IsFalse, ⊤};
 ghost use Rattle.ripemd_block.specs.Standard.Hashing.{hash};
 ghost use Rattle.ripemd_block.specs.States.{IsHashState, core_and_tail, initial_state, fed, finish};
+ghost use Rattle.ripemd.specs.Saved.{IsAppended};
 
 use crate::digest::{Digest, OutputSizeUser, SerializableState};
 use crate::hashers::BlockHasher;
-use crate::state::DeserializeStateError;
+use crate::state::{DeserializeStateError, append_saved};
 use ripemd_block::block_api::{ListBlockFunction, ResumableFunction};
 
 /// A hasher or an HMAC: it takes a message in pieces, and gives its digest or its tag at the end. How
@@ -80,6 +81,14 @@ pub trait Resumable: Incremental {
         ensures err { IfErr result
             (λ _. (s : Self) → is_valid s → state_bytes s ≢ saved_bytes saved.now) };
 
+    /// Appends bytes to the message of a saved state within its saved bytes, which takes only its tail.
+    /// False, and nothing is written, if it cannot: if the bytes end a block, or no state is saved as
+    /// these. That it does so in all other cases is only tested.
+    fn append_saved(saved: &mut [u8], bytes: &[u8]) -> bool
+        ensures appended { IsTrue result
+            → IsAppended is_valid state_bytes Self.fed saved.old bytes.now saved.new }
+        ensures unchanged { IsFalse result → saved.new ≡ saved.old };
+
     // States that are saved as the same bytes are the same.
     ghost injective: { (s t : Self) → is_valid s → is_valid t
         → state_bytes s ≡ state_bytes t → s ≡ t };
@@ -130,6 +139,10 @@ impl<F: ResumableFunction> Resumable for BlockHasher<F> {
 
     fn load(saved: &F::SavedHasher) -> Result<BlockHasher<F>, DeserializeStateError> {
         BlockHasher::deserialize(saved)
+    }
+
+    fn append_saved(saved: &mut [u8], bytes: &[u8]) -> bool {
+        append_saved::<F>(saved, bytes)
     }
 
     ghost use Rattle.ripemd_block.specs.Laws.Saving.{core_and_tail_injective};

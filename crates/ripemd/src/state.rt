@@ -1,8 +1,11 @@
 //! Hashers saved as bytes, and loaded again.
 
-ghost use Rattle.std.specs.Prelude.{◌≡◌, ◌≢◌, ℕ, ◌-◌, ◌<◌, ◌↔◌, List, ◌∷◌, ◌++◌, length, replicate, IfSome, IfNone, IsTrue};
+ghost use Rattle.std.specs.Prelude.{◌≡◌, ◌≢◌, ℕ, ◌+◌, ◌-◌, ◌*◌, ◌<◌, ◌≤◌, ◌↔◌, List, ◌∷◌, ◌++◌, length, replicate, IfSome, IfNone, IsTrue, IsFalse};
+ghost use Rattle.std.specs.List.{All};
+ghost use Rattle.std.specs.Int.{to_le_bytes, w64};
 ghost use Rattle.ripemd_block.specs.Standard.Words.{block_size};
-ghost use Rattle.ripemd_block.specs.States.{IsTail, core_and_tail};
+ghost use Rattle.ripemd_block.specs.States.{IsHashState, IsTail, core_and_tail, fed};
+ghost use Rattle.ripemd.specs.Saved.{IsAppended, IsTailAppended};
 
 use crate::hashers::BlockHasher;
 pub use ripemd_block::block_api::DeserializeStateError;
@@ -80,10 +83,105 @@ fn load_tail(saved: &[u8]) -> Option<Buffer>
     Buffer::try_new(tail)
 }
 
-// Whether all bytes are zero.
+/// Appends bytes to the message of a saved hasher within its saved bytes, which takes only its tail.
+/// False, and nothing is written, if it cannot: if the bytes end a block, or no hasher is saved as
+/// these. That it does so in all other cases is only tested.
+pub fn append_saved<F: ResumableFunction>(saved: &mut [u8], bytes: &[u8]) -> bool
+    ensures appended { IsTrue result → IsAppended (IsHashState F.are_words) (core_and_tail F.output)
+        (fed F.step) saved.old bytes.now saved.new }
+    ensures unchanged { IsFalse result → saved.new ≡ saved.old }
+{
+    if saved.len() != <F::SavedHasher as ByteArray>::LEN {
+        return false;
+    }
+    let (core, tail) = saved.split_at_mut(<F::SavedCore as ByteArray>::LEN);
+    match BlockCore::<F>::load_slice(core) {
+        Ok(_core) => append_tail(tail, bytes),
+        Err(_) => false,
+    }
+}
+
+// The same of a saved tail.
+fn append_tail(saved: &mut [u8], bytes: &[u8]) -> bool
+    requires { length saved.old ≡ block_size }
+    ensures appended { IsTrue result → IsTailAppended saved.old bytes.now saved.new }
+    ensures unchanged { IsFalse result → saved.new ≡ saved.old }
+{
+    let len = saved[0] as usize;
+    if len >= 64 || bytes.len() >= 64 - len {
+        return false;
+    }
+    let (front, room) = saved.split_at_mut(1 + len);
+    if !are_zeros(room) {
+        return false;
+    }
+    bytes_in_range(front);
+    bytes_in_range(bytes);
+    room[..bytes.len()].copy_from_slice(bytes);
+    front[0] = (len + bytes.len()) as u8;
+    true
+}
+
+// Proof only: bytes are below 256.
+fn bytes_in_range(bytes: &[u8])
+    ensures { All (λ b. b < 256) bytes.now }
+{}
+
+// Whether all bytes are zero. Two blocks of one size, which may overlap, take few instructions.
 fn are_zeros(bytes: &[u8]) -> bool
     requires { length bytes.now < block_size }
     ensures { IsTrue result ↔ (bytes.now ≡ replicate (length bytes.now) 0) }
 {
-    bytes == &[0; 63][..bytes.len()]
+    let len = bytes.len();
+    if len >= 32 {
+        let (first, _) = bytes.split_at(32);
+        let (_, last) = bytes.split_at(len - 32);
+        are_32_zeros(first) && are_32_zeros(last)
+    } else if len >= 16 {
+        are_32_zeros(bytes)
+    } else {
+        bytes == &[0; 16][..len]
+    }
+}
+
+// The same of 16 to 32 bytes.
+#[inline(always)]
+fn are_32_zeros(bytes: &[u8]) -> bool
+    requires { (16 ≤ length bytes.now) × (length bytes.now ≤ 32) }
+    ensures { IsTrue result ↔ (bytes.now ≡ replicate (length bytes.now) 0) }
+{
+    let (first, _) = bytes.split_at(16);
+    let (_, last) = bytes.split_at(bytes.len() - 16);
+    are_16_zeros(first) && are_16_zeros(last)
+}
+
+// The same of 8 to 16 bytes.
+#[inline(always)]
+fn are_16_zeros(bytes: &[u8]) -> bool
+    requires { (8 ≤ length bytes.now) × (length bytes.now ≤ 16) }
+    ensures { IsTrue result ↔ (bytes.now ≡ replicate (length bytes.now) 0) }
+{
+    let (first, _) = bytes.split_at(8);
+    let (_, last) = bytes.split_at(bytes.len() - 8);
+    are_8_zeros(first) && are_8_zeros(last)
+}
+
+// The same of 8 bytes.
+#[inline(always)]
+fn are_8_zeros(bytes: &[u8]) -> bool
+    requires { length bytes.now ≡ 8 }
+    ensures { IsTrue result ↔ (bytes.now ≡ replicate (length bytes.now) 0) }
+{
+    number_of(bytes) == 0
+}
+
+// The number whose bytes these are, least first.
+#[inline(always)]
+fn number_of(bytes: &[u8]) -> u64
+    requires { length bytes.now ≡ 8 }
+    ensures { to_le_bytes w64 result ≡ bytes.now }
+{
+    let mut number = [0; 8];
+    number.copy_from_slice(bytes);
+    u64::from_le_bytes(number)
 }

@@ -2,6 +2,7 @@
 //! takes the prover long.
 
 use crate::lists::{TEXTS, What, agrees, hundredths, time_of_tag};
+use crate::pieces::print_updates;
 use crate::tags::print_verification;
 use ripemd::{Ripemd128, Ripemd160, Ripemd256, Ripemd320};
 use ripemd_batch::BatchDigest;
@@ -41,6 +42,8 @@ pub(super) enum Task<'a> {
     },
     // The time for each tag of many texts, in nanoseconds.
     TimeTags,
+    // Prints the time of updates by short pieces; 0.
+    Update,
     // Prints the time of verifying right and wrong tags; 0.
     Verify,
 }
@@ -69,6 +72,7 @@ fn work<D: BatchDigest>(
 ) -> io::Result<u64> {
     match task {
         Task::Hash { mebibytes } => hash_much::<D>(rt, *mebibytes)?,
+        Task::Update => print_updates::<D>(rt)?,
         Task::Verify => print_verification::<D>(rt)?,
         Task::TimeTags => return time_of_tag::<D>(rt, places),
         Task::Agree { what, messages }

@@ -1,6 +1,6 @@
 -- Saved bytes tell their state: what is loaded is what was saved, and what follows of it is saved again.
-use Rattle.std.proofs.Common.{◌≡◌, ◌↔◌, ℕ, List, ◌++◌, IsTrue, IsFalse, Bool, true, rules, sym, ap, subst, ◌∙◌}
-use Rattle.ripemd.specs.Saved.{IsSaved}
+use Rattle.std.proofs.Common.{◌≡◌, ◌↔◌, ℕ, List, ◌++◌, IsTrue, IsFalse, Bool, true, false, rules, refl, sym, ap, subst, ◌∙◌}
+use Rattle.ripemd.specs.Saved.{IsSaved, IsAppended}
 use Rattle.ripemd_c.specs.SavedStates.{Updates, Finalizes, Verifies}
 
 module _ {S : Type 0} {is_valid : S → Type 0} {state_bytes : S → List ℕ}
@@ -57,3 +57,13 @@ module _ {S : Type 0} {is_valid : S → Type 0} {state_bytes : S → List ℕ}
       → (o : Origin) (message : List ℕ) → IsSaved is_valid state_bytes (fed (new_state o) message) old
       → new ≡ whole o message
   finalizes_message new_state fed output ends done o message is = done ∙ ap output (one_saved is) ∙ ends o message
+
+-- the state after a piece that was appended in the saved bytes
+pub appended : {S : Type 0} {is_valid : S → Type 0} {state_bytes : S → List ℕ}
+    (injective : (s t : S) → is_valid s → is_valid t → state_bytes s ≡ state_bytes t → s ≡ t)
+    {fed : S → List ℕ → S} (twice : (s : S) (x y : List ℕ) → fed (fed s x) y ≡ fed s (x ++ y)) {old piece new : List ℕ}
+    (done : Bool) → IsTrue done → IsAppended is_valid state_bytes fed old piece new
+    → Updates (IsSaved is_valid state_bytes) fed old piece new done
+appended injective twice {piece = piece} true done added =
+    updates injective added.before.valid added.before.saved twice piece refl added.after.valid (sym added.after.saved)
+appended injective twice false done added = absurd (search (rules, done))

@@ -7,6 +7,16 @@ ghost use Rattle.ripemd_c.specs.SavedStates.{Updates, Finalizes};
 use ripemd::digest::OutputSizeUser;
 use ripemd::incremental::{Incremental, Resumable};
 
+/// Appends bytes in the saved bytes, if they end no block. False, and nothing is written, if they do, or no
+/// state is saved as these bytes.
+pub(crate) fn append_state<S: Resumable>(state: &mut [u8], bytes: &[u8]) -> bool
+    ensures appended { IsTrue result → Updates (IsSaved S.is_valid S.state_bytes) S.fed
+        state.old bytes.now state.new result }
+    ensures unchanged { IsFalse result → state.new ≡ state.old }
+{
+    S::append_saved(state, bytes)
+}
+
 /// Appends bytes. False exactly if no state is saved as these bytes, and then nothing is written.
 pub(crate) fn update_state<S: Resumable>(state: &mut S::Saved, bytes: &[u8]) -> bool
     ensures { Updates (IsSaved S.is_valid S.state_bytes) S.fed

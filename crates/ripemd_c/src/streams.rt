@@ -8,7 +8,7 @@ ghost use Rattle.ripemd.specs.States.{IsHashState, core_and_tail, fed, initial_s
 ghost use Rattle.ripemd.specs.Saved.{IsSaved};
 ghost use Rattle.ripemd_c.specs.SavedStates.{IsSavedState, IsSavedMessage, UpdatesState, FinalizesState};
 
-use crate::states::{final_state, update_state};
+use crate::states::{append_state, final_state, update_state};
 use ripemd::block_api::{
     ResumableFunction, Ripemd128Function, Ripemd160Function, Ripemd256Function, Ripemd320Function,
 };
@@ -30,7 +30,7 @@ pub extern "C" fn nattizhu_ripemd128_init(state: &mut [u8; 88])
 pub extern "C" fn nattizhu_ripemd128_update_nonnull(state: &mut [u8; 88], bytes: &[u8]) -> bool
     ensures { UpdatesState ripemd128 state.old bytes.now state.new result }
 {
-    update_state::<Ripemd128>(state, bytes)
+    append_state::<Ripemd128>(state, bytes) || update_state::<Ripemd128>(state, bytes)
 }
 
 /// Writes the RIPEMD-128 digest of the message so far. False exactly if the state is no hash state of
@@ -59,7 +59,7 @@ pub extern "C" fn nattizhu_ripemd160_init(state: &mut [u8; 92])
 pub extern "C" fn nattizhu_ripemd160_update_nonnull(state: &mut [u8; 92], bytes: &[u8]) -> bool
     ensures { UpdatesState ripemd160 state.old bytes.now state.new result }
 {
-    update_state::<Ripemd160>(state, bytes)
+    append_state::<Ripemd160>(state, bytes) || update_state::<Ripemd160>(state, bytes)
 }
 
 /// Writes the RIPEMD-160 digest of the message so far. False exactly if the state is no hash state of
@@ -88,7 +88,7 @@ pub extern "C" fn nattizhu_ripemd256_init(state: &mut [u8; 104])
 pub extern "C" fn nattizhu_ripemd256_update_nonnull(state: &mut [u8; 104], bytes: &[u8]) -> bool
     ensures { UpdatesState ripemd256 state.old bytes.now state.new result }
 {
-    update_state::<Ripemd256>(state, bytes)
+    append_state::<Ripemd256>(state, bytes) || update_state::<Ripemd256>(state, bytes)
 }
 
 /// Writes the RIPEMD-256 digest of the message so far. False exactly if the state is no hash state of
@@ -117,7 +117,7 @@ pub extern "C" fn nattizhu_ripemd320_init(state: &mut [u8; 112])
 pub extern "C" fn nattizhu_ripemd320_update_nonnull(state: &mut [u8; 112], bytes: &[u8]) -> bool
     ensures { UpdatesState ripemd320 state.old bytes.now state.new result }
 {
-    update_state::<Ripemd320>(state, bytes)
+    append_state::<Ripemd320>(state, bytes) || update_state::<Ripemd320>(state, bytes)
 }
 
 /// Writes the RIPEMD-320 digest of the message so far. False exactly if the state is no hash state of

@@ -9,7 +9,7 @@ ghost use Rattle.ripemd_mac.specs.Keyed.{StandsFor, fed_text, hmac, keyed_state,
 ghost use Rattle.ripemd_mac.specs.Saved.{IsKeyedState, hmac_bytes};
 ghost use Rattle.ripemd_c.specs.SavedStates.{IsSavedText, UpdatesHmac, FinalizesHmac, Verifies, VerifiesHmac};
 
-use crate::states::{final_state, update_state};
+use crate::states::{append_state, final_state, update_state};
 use ripemd::block_api::{
     ResumableFunction, Ripemd128Function, Ripemd160Function, Ripemd256Function, Ripemd320Function,
 };
@@ -54,7 +54,7 @@ pub extern "C" fn nattizhu_hmac_ripemd128_update_nonnull(
 ) -> bool
     ensures { UpdatesHmac ripemd128 state.old bytes.now state.new result }
 {
-    update_state::<Hmac<Ripemd128>>(state, bytes)
+    append_state::<Hmac<Ripemd128>>(state, bytes) || update_state::<Hmac<Ripemd128>>(state, bytes)
 }
 
 /// Writes the tag of the text so far. False exactly if the state is no HMAC state of RIPEMD-128, and
@@ -117,7 +117,7 @@ pub extern "C" fn nattizhu_hmac_ripemd160_update_nonnull(
 ) -> bool
     ensures { UpdatesHmac ripemd160 state.old bytes.now state.new result }
 {
-    update_state::<Hmac<Ripemd160>>(state, bytes)
+    append_state::<Hmac<Ripemd160>>(state, bytes) || update_state::<Hmac<Ripemd160>>(state, bytes)
 }
 
 /// Writes the tag of the text so far. False exactly if the state is no HMAC state of RIPEMD-160, and
@@ -180,7 +180,7 @@ pub extern "C" fn nattizhu_hmac_ripemd256_update_nonnull(
 ) -> bool
     ensures { UpdatesHmac ripemd256 state.old bytes.now state.new result }
 {
-    update_state::<Hmac<Ripemd256>>(state, bytes)
+    append_state::<Hmac<Ripemd256>>(state, bytes) || update_state::<Hmac<Ripemd256>>(state, bytes)
 }
 
 /// Writes the tag of the text so far. False exactly if the state is no HMAC state of RIPEMD-256, and
@@ -243,7 +243,7 @@ pub extern "C" fn nattizhu_hmac_ripemd320_update_nonnull(
 ) -> bool
     ensures { UpdatesHmac ripemd320 state.old bytes.now state.new result }
 {
-    update_state::<Hmac<Ripemd320>>(state, bytes)
+    append_state::<Hmac<Ripemd320>>(state, bytes) || update_state::<Hmac<Ripemd320>>(state, bytes)
 }
 
 /// Writes the tag of the text so far. False exactly if the state is no HMAC state of RIPEMD-320, and

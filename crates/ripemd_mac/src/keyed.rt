@@ -214,6 +214,17 @@ impl<F: ResumableFunction> Resumable for Hmac<BlockHasher<F>> {
         Hmac::load(saved)
     }
 
+    fn append_saved(saved: &mut [u8], bytes: &[u8]) -> bool {
+        if saved.len() != <F::SavedHmac as ByteArray>::LEN {
+            return false;
+        }
+        let (inner, outer) = saved.split_at_mut(<F::SavedHasher as ByteArray>::LEN);
+        match BlockHasher::<F>::load_slice(outer) {
+            Ok(_outer) => BlockHasher::<F>::append_saved(inner, bytes),
+            Err(_) => false,
+        }
+    }
+
     ghost use Rattle.ripemd_mac.specs.Laws.{hmac_bytes_injective};
 
     ghost injective = { hmac_bytes_injective F.injective_output };

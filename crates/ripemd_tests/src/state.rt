@@ -1,5 +1,6 @@
 //! Hashers saved as bytes.
 
+mod appended;
 mod refused;
 mod resumed;
 mod saved;
