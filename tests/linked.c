@@ -3,10 +3,10 @@
 //   linked LEVEL=FILE.so..      ours, as built for some levels of processors
 // A function is timed only after its digests were compared with a published one and, at many
 // lengths, with ours, its tags with a published one, and its keys with one of tests/keys.txt and with
-// ours. A figure is the best of many slices of some 10 ms, in the thread's processor time. The libraries
-// take turns, and the rounds are outermost: a disturbance of seconds spoils a round of all figures, not all
-// rounds of one. There are more rounds while figures still fall. Below each table stands how far its
-// ratios were apart in single rounds: little, where the machine was quiet.
+// ours. A figure is the best of many slices of some 10 ms, in the thread's processor time. The
+// libraries take turns, and the rounds are outermost: a disturbance of seconds spoils a round of all
+// figures, not all rounds of one. There are more rounds while figures still fall. Below each table
+// stands how far its ratios were apart in single rounds: little, where the machine was quiet.
 #include <dlfcn.h>
 #include <stdbool.h>
 #include <stdint.h>
@@ -44,8 +44,8 @@ static const struct task {
 };
 enum { TASKS_COUNT = sizeof TASKS / sizeof TASKS[0] };
 
-// Pieces of a message, each taken in by one call; then the call that begins a message, and that with the
-// one that ends it.
+// Pieces of a message, each taken in by one call; then the call that begins a message, and that with
+// the one that ends it.
 static const size_t PIECES[] = {1, 8, 16, 32, 64, 4096, MIB};
 enum {
   PIECES_COUNT = sizeof PIECES / sizeof PIECES[0],
@@ -100,8 +100,8 @@ struct library {
   bool (*derive_list)(const struct iovec *passwords, const struct iovec *salts, size_t count,
                       uint32_t rounds, uint8_t *keys, size_t key_length);
   struct time {
-    double least, in_round; // seconds, of all rounds and of this one
-    double low, high;       // the ratio to the fastest of the others in single rounds
+    double least, in_round;     // seconds, of all rounds and of this one
+    double ratios[MOST_ROUNDS]; // to the fastest of the others, of ours, in single rounds
   } times[CELLS];
 };
 
@@ -532,8 +532,8 @@ static void measure(struct library *by, int cell) {
     time->least = time->in_round;
 }
 
-// The time of the fastest of the others, divided by that of one of ours; 0 if there is none. Of this round,
-// or of all.
+// The time of the fastest of the others, divided by that of one of ours; 0 if there is none. Of this
+// round, or of all.
 static double ratio(int l, int cell, bool of_round) {
   double least = 0;
   for (int other = ours; other < count; other++) {
@@ -546,29 +546,38 @@ static double ratio(int l, int cell, bool of_round) {
 }
 
 // Measures all cells, the libraries in turn.
-static void measure_all(void) {
+static void measure_all(int round) {
   for (int cell = 0; cell < CELLS; cell++) {
     for (int l = 0; l < count; l++)
       if (has_cell(&libraries[l], cell))
         measure(&libraries[l], cell);
-    for (int l = 0; l < ours; l++) {
-      struct time *time = &libraries[l].times[cell];
-      double now = ratio(l, cell, true);
-      time->low = !time->low || now < time->low ? now : time->low;
-      time->high = now > time->high ? now : time->high;
-    }
+    for (int l = 0; l < ours; l++)
+      libraries[l].times[cell].ratios[round] = ratio(l, cell, true);
   }
 }
 
-// How far apart the ratios of some cells were in single rounds, at most.
-static void print_spread(int first, int cells) {
-  double most = 1;
+static int by_size(const void *one, const void *other) {
+  double difference = *(const double *)one - *(const double *)other;
+  return difference < 0 ? -1 : difference > 0;
+}
+
+// How far apart the ratios of one cell were in single rounds, at most: in all rounds, and in the half
+// of them that is in the middle.
+static void print_spread(int first, int cells, int rounds) {
+  double all = 1, middle = 1;
   for (int l = 0; l < ours; l++)
     for (int cell = first; cell < first + cells; cell++) {
-      const struct time *time = &libraries[l].times[cell];
-      most = time->low && time->high > most * time->low ? time->high / time->low : most;
+      double *ratios = libraries[l].times[cell].ratios;
+      qsort(ratios, rounds, sizeof *ratios, by_size);
+      if (!ratios[0])
+        continue; // no other library has it
+      double most = ratios[rounds - 1] / ratios[0];
+      double half = ratios[rounds - 1 - rounds / 4] / ratios[rounds / 4];
+      all = most > all ? most : all;
+      middle = half > middle ? half : middle;
     }
-  printf("\nThe same ratio was up to %.0f %% apart in single rounds.\n", 100 * (most - 1));
+  printf("\nA ratio was up to %.0f %% apart in %d rounds, up to %.0f %% in the middle half of them.\n",
+         100 * (all - 1), rounds, 100 * (middle - 1));
 }
 
 // A figure, and behind one of ours the ratio to the fastest of the others.
@@ -580,7 +589,7 @@ static void print_cell(int l, int cell, double figure, const char *form) {
 }
 
 // A row for each library.
-static void print_table(int t) {
+static void print_table(int t, int rounds) {
   const struct task *task = &TASKS[t];
   printf("\n%s:\n\n| | 128 | 160 | 256 | 320 |\n|---|---|---|---|---|\n", task->title);
   for (int l = 0; l < count; l++) {
@@ -602,11 +611,11 @@ static void print_table(int t) {
     }
     printf("\n");
   }
-  print_spread(t * VARIANTS, VARIANTS);
+  print_spread(t * VARIANTS, VARIANTS, rounds);
 }
 
 // A row for each call of pieces.
-static void print_pieces(void) {
+static void print_pieces(int rounds) {
   printf("\nMessages in pieces, RIPEMD-160, ns for each call:\n\n| |");
   for (int l = 0; l < count; l++)
     if (libraries[l].update)
@@ -629,11 +638,11 @@ static void print_pieces(void) {
     }
   }
   printf("\n");
-  print_spread(PIECE_CELLS, CALLS_COUNT);
+  print_spread(PIECE_CELLS, CALLS_COUNT, rounds);
 }
 
 // A row for each library: the rounds of a key in a second, or of all keys of a list.
-static void print_keys(void) {
+static void print_keys(int rounds) {
   printf("\nKeys from passwords, PBKDF2 with HMAC and RIPEMD-160, thousands of rounds a second:\n\n"
          "| | 20 bytes | 64 bytes | 192 bytes | eight of 20 bytes, ours at once |\n"
          "|---|---|---|---|---|\n");
@@ -648,7 +657,7 @@ static void print_keys(void) {
     }
     printf("\n");
   }
-  print_spread(KEY_CELLS, KEYS_COUNT);
+  print_spread(KEY_CELLS, KEYS_COUNT, rounds);
 }
 
 int main(int argc, char **argv) {
@@ -688,12 +697,11 @@ int main(int argc, char **argv) {
   int round = 0;
   for (int still = 0; round < MOST_ROUNDS && (round < ROUNDS || still < 3); round++) {
     fell = false;
-    measure_all();
+    measure_all(round);
     still = fell ? 0 : still + 1;
   }
-  printf("%d rounds.\n", round);
   for (int t = 0; t < TASKS_COUNT; t++)
-    print_table(t);
-  print_pieces();
-  print_keys();
+    print_table(t, round);
+  print_pieces(round);
+  print_keys(round);
 }
