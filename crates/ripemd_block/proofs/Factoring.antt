@@ -1,11 +1,12 @@
 -- The Boolean functions, factored as the code computes them, so that little waits for the newest
 -- word, which is x.
-use Rattle.std.proofs.Common.{◌≡◌, ℕ, ◌<◌, ◌^◌, bit_and, bit_or, bit_xor, arith, refl, ◌∙◌}
+use Rattle.std.proofs.Common.{◌≡◌, ℕ, ◌<◌, ◌+◌, ◌^◌, bit_and, bit_or, bit_xor, arith, refl, ◌∙◌}
 use Rattle.std.specs.Int.{w32, bit_not}
-use Rattle.std.specs.Int.Bits.{xor_assoc, xor_zero_r, and_zero_r, or_zero_r}
-use Rattle.std.proofs.lemmas.Nat.{and_mask, xor_comm, and_le_l, and_le_r, or_of_32, xor_of_32}
-use Rattle.std.proofs.lemmas.Nat.Bits.{same_from_bits_below, bit_at_and, bit_at_or, bit_at_xor, bit_at_not, bit_at-lt, bit_at_mask_inside}
+use Rattle.std.specs.Int.Bits.{xor_assoc, xor_zero_r, and_zero_r}
+use Rattle.std.proofs.lemmas.Nat.{and_mask, or_disjoint, xor_comm, and_le_l, and_le_r, or_of_32, xor_of_32}
+use Rattle.std.proofs.lemmas.Nat.Bits.{same_from_bits_below, bit_at_and, bit_at_or, bit_at_xor, bit_at_not, bit_at-lt, bit_at-zero}
 use Rattle.std.proofs.Math.Nat.{mod-eq_of_lt}
+use Rattle.ripemd_block.specs.Standard.Words.{◌⊞◌}
 use Rattle.ripemd_block.specs.Standard.Schedule.{f0, f1, f2, f3}
 
 pub f0_factored : (x y z : ℕ) → bit_xor x (bit_xor y z) ≡ f0 x y z
@@ -28,6 +29,18 @@ f3_factored x y z hz =
     (λ i h. simp (bit_at_xor, bit_at_or, bit_at_and, bit_at_not w32 z i hz h)
     (omega (arith, bit_at-lt x i, bit_at-lt y i, bit_at-lt z i)))
 
+-- the two parts of f3 have no bit in common, so that they may be added one after the other
+pub f3_in_parts : (u x y z : ℕ) → z < 2 ^ 32 → u ⊞ bit_and y (bit_not w32 z) ⊞ bit_and x z ≡ u ⊞ f3 x y z
+f3_in_parts u x y z hz =
+    let first : bit_and (bit_and x z) (bit_and y (bit_not w32 z)) < 2 ^ 32 =
+    omega (arith, and_le_l (bit_and x z) (bit_and y (bit_not w32 z)), and_le_r x z) in
+    let apart : bit_and (bit_and x z) (bit_and y (bit_not w32 z)) ≡ 0 =
+    same_from_bits_below 32 _ _ first (omega arith)
+    (λ i h. simp (bit_at_and, bit_at_not w32 z i hz h, bit_at-zero)
+    (omega (arith, bit_at-lt x i, bit_at-lt y i, bit_at-lt z i))) in
+    let sum : f3 x y z ≡ bit_and x z + bit_and y (bit_not w32 z) = or_disjoint _ _ apart in
+    rw sum (omega arith)
+
 -- x | !y, as a sum of bits
 or_not : (x y : ℕ) → x < 2 ^ 32 → y < 2 ^ 32
     → bit_xor (bit_and x y) (bit_not w32 y) ≡ bit_or x (bit_not w32 y)
@@ -47,27 +60,6 @@ f2_factored x y z hx hy =
 
 and_ones : (x : ℕ) → x < 2 ^ 32 → bit_and x 0xffff_ffff ≡ x
 and_ones x h = and_mask x 32 ∙ mod-eq_of_lt h
-
-or_ones : (x : ℕ) → x < 2 ^ 32 → bit_or x 0xffff_ffff ≡ 0xffff_ffff
-or_ones x h =
-    let all : 0xffff_ffff < 2 ^ 32 = omega arith in
-    same_from_bits_below 32 _ _ (or_of_32 _ _ h all) all
-    (λ i small. simp (bit_at_or, bit_at_mask_inside 0 32 i (omega arith) small) (omega (arith, bit_at-lt x i)))
-
-pub f0_of_ones : (x y z : ℕ) → x < 2 ^ 32 → y < 2 ^ 32 → z < 2 ^ 32
-    → bit_xor (bit_and x (bit_or z 0xffff_ffff)) (bit_xor y (bit_and z (bit_or y 0xffff_ffff))) ≡ f0 x y z
-f0_of_ones x y z hx hy hz = rw (or_ones z hz, or_ones y hy, and_ones x hx, and_ones z hz) (f0_factored x y z)
-
-pub f3_of_none : (x y z : ℕ) → x < 2 ^ 32 → y < 2 ^ 32 → z < 2 ^ 32
-    → bit_xor (bit_and x (bit_or z 0)) (bit_xor y (bit_and z (bit_or y 0))) ≡ f3 x y z
-f3_of_none x y z hx hy hz =
-    let chosen : bit_and x z < 2 ^ 32 = omega (arith, and_le_r x z) in
-    let other : bit_and z y < 2 ^ 32 = omega (arith, and_le_r z y) in
-    let kept : bit_and y (bit_not w32 z) < 2 ^ 32 = omega (arith, and_le_l y (bit_not w32 z)) in
-    rw (or_zero_r z, or_zero_r y)
-    (same_from_bits_below 32 _ _ (xor_of_32 _ _ chosen (xor_of_32 _ _ hy other)) (or_of_32 _ _ chosen kept)
-    (λ i h. simp (bit_at_xor, bit_at_or, bit_at_and, bit_at_not w32 z i hz h)
-    (omega (arith, bit_at-lt x i, bit_at-lt y i, bit_at-lt z i))))
 
 pub f1_of_ones : (x y z : ℕ) → x < 2 ^ 32 → z < 2 ^ 32
     → bit_xor (bit_and x (bit_xor y (bit_and z 0xffff_ffff))) (bit_xor z (bit_and (bit_not w32 y) 0)) ≡ f1 x y z

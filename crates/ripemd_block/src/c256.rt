@@ -10,6 +10,7 @@ ghost use Rattle.ripemd_block.specs.Code.Lines.{four_lefts, four_rights, lines_o
 use crate::four_registers::{exchange, round};
 use crate::message::raised_words;
 use crate::pair::Pair;
+use std::simd::prelude::*;
 
 // Where the lines start.
 #[inline(always)]
@@ -24,22 +25,20 @@ fn lines_from(state: [u32; 8]) -> [Pair; 4]
     ]
 }
 
-// The state that takes the registers of both lines in.
+// The state that takes the registers of both lines in, each line in one vector.
 #[inline(always)]
 fn double_state(state: [u32; 8], lines: [Pair; 4]) -> [u32; 8]
     ensures { result ≡ double_state state (four_lefts lines) (four_rights lines) }
 {
     let [a, b, c, d] = lines;
-    [
-        state[0].wrapping_add(a.left()),
-        state[1].wrapping_add(b.left()),
-        state[2].wrapping_add(c.left()),
-        state[3].wrapping_add(d.left()),
-        state[4].wrapping_add(a.right()),
-        state[5].wrapping_add(b.right()),
-        state[6].wrapping_add(c.right()),
-        state[7].wrapping_add(d.right()),
-    ]
+    let [s0, s1, s2, s3, s4, s5, s6, s7] = state;
+    let lefts = u32x4::from_array([s0, s1, s2, s3])
+        + u32x4::from_array([a.left(), b.left(), c.left(), d.left()]);
+    let rights = u32x4::from_array([s4, s5, s6, s7])
+        + u32x4::from_array([a.right(), b.right(), c.right(), d.right()]);
+    let [l0, l1, l2, l3] = lefts.to_array();
+    let [r0, r1, r2, r3] = rights.to_array();
+    [l0, l1, l2, l3, r0, r1, r2, r3]
 }
 
 /// Takes one block into the state. The registers that are exchanged are A, B, C and D in turn.

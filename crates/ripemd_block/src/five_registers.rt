@@ -61,7 +61,7 @@ fn step(r: usize, x: Pair, k: Pair, left: u32, right: u32, registers: [Pair; 5])
 {
     let [a, b, c, d, e] = registers;
     let sum = a.add(functions(r, b, c, d)).add(x).add(k);
-    let t = sum.rotate(left, right).add(e);
+    let t = Pair::rotate(sum, sum, left, right).add(e);
     [e, t, b, c.rotate10(), d]
 }
 

@@ -3,7 +3,7 @@
 
 ghost use Rattle.std.specs.Prelude.{◌≡◌, ◌<◌, ◌≤◌, ◌+◌, ◌-◌, ℕ, List, Some};
 ghost use Rattle.ripemd_block.specs.Standard.Words.{◌⊞◌};
-ghost use Rattle.ripemd_block.specs.Standard.Schedule.{boolean_function, left_line, right_line};
+ghost use Rattle.ripemd_block.specs.Standard.Schedule.{boolean_function, f0, f3, left_line, right_line};
 ghost use Rattle.ripemd_block.specs.Standard.Compression.{step, registers_after, round, exchange};
 ghost use Rattle.ripemd_block.specs.Code.Lines.{four_lefts, four_rights, lines_of_four_registers, raised_words};
 
@@ -13,23 +13,48 @@ use crate::textbook::{
     left_constant, left_number, right_constant_of_four_rounds, right_number, rotation,
 };
 
-// The Boolean functions of round `r`: number `r` of the left words, and number `3 - r` of the right
-// ones, all in the form `(x & m) ^ n`, so that little waits for `x`, the newest of them. Masks tell
-// the lines apart, since a processor runs more `and` and `or` at once than `select`.
+// The sums of `u` and the Boolean functions of round `r`: in the left word of the first pair that of
+// number `r`, and in the right word of the second that of number `3 - r`. Little waits for `x`, the newest
+// of the words. Where the lines differ in that, each has a pair of its own. In the other rounds masks tell
+// them apart, since a processor runs more `and` and `or` at once than `select`.
 #[inline(always)]
-fn functions(r: usize, x: Pair, y: Pair, z: Pair) -> Pair
+fn sums(r: usize, u: Pair, x: Pair, y: Pair, z: Pair) -> (Pair, Pair)
     requires { r < 4 }
-    ensures left { result.left ≡ boolean_function r x.left y.left z.left }
-    ensures right { result.right ≡ boolean_function (3 - r) x.right y.right z.right }
+    ensures left { result.0.left ≡ u.left ⊞ boolean_function r x.left y.left z.left }
+    ensures right { result.1.right ≡ u.right ⊞ boolean_function (3 - r) x.right y.right z.right }
 {
     let lefts = Pair::of(0xffff_ffff, 0);
     let rights = Pair::of(0, 0xffff_ffff);
     match r {
-        0 => x.and(z.or(lefts)).xor(y.xor(z.and(y.or(lefts)))),
-        1 => x.and(y.xor(z.and(lefts))).xor(z.xor(y.not().and(rights))),
-        2 => x.and(y.xor(z.and(rights))).xor(z.xor(y.not().and(lefts))),
-        _ => x.and(z.or(rights)).xor(y.xor(z.and(y.or(rights)))),
+        0 => (parity_sum(u, x, y, z), choice_sum(u, x, y, z)),
+        1 => {
+            let sum = u.add(x.and(y.xor(z.and(lefts))).xor(z.xor(y.not().and(rights))));
+            (sum, sum)
+        }
+        2 => {
+            let sum = u.add(x.and(y.xor(z.and(rights))).xor(z.xor(y.not().and(lefts))));
+            (sum, sum)
+        }
+        _ => (choice_sum(u, x, y, z), parity_sum(u, x, y, z)),
     }
+}
+
+// The sums of `u` and Boolean function 0.
+#[inline(always)]
+fn parity_sum(u: Pair, x: Pair, y: Pair, z: Pair) -> Pair
+    ensures left { result.left ≡ u.left ⊞ f0 x.left y.left z.left }
+    ensures right { result.right ≡ u.right ⊞ f0 x.right y.right z.right }
+{
+    u.add(x.xor(y.xor(z)))
+}
+
+// The sums of `u` and Boolean function 3, whose two parts have no bit in common.
+#[inline(always)]
+fn choice_sum(u: Pair, x: Pair, y: Pair, z: Pair) -> Pair
+    ensures left { result.left ≡ u.left ⊞ f3 x.left y.left z.left }
+    ensures right { result.right ≡ u.right ⊞ f3 x.right y.right z.right }
+{
+    u.add(y.and(z.not())).add(x.and(z))
 }
 
 // The constants of round `r`, with 1 taken off.
@@ -58,8 +83,8 @@ fn step(r: usize, x: Pair, k: Pair, left: u32, right: u32, registers: [Pair; 4])
         ≡ step (boolean_function (3 - r)) x.right k.right right (four_rights registers) }
 {
     let [a, b, c, d] = registers;
-    let sum = a.add(functions(r, b, c, d)).add(x).add(k);
-    let t = sum.rotate(left, right);
+    let (lefts, rights) = sums(r, a.add(x).add(k), b, c, d);
+    let t = Pair::rotate(lefts, rights, left, right);
     [d, t, b, c]
 }
 

@@ -162,16 +162,17 @@ impl Pair {
         u32x4::from_le_bytes(shifted.to_le_bytes())
     }
 
-    /// Each word rotated to the left, by an amount of its own.
+    /// The left word of one pair and the right word of another, each rotated to the left by an amount of
+    /// its own.
     #[inline(always)]
-    pub(crate) fn rotate(self, left: u32, right: u32) -> Self
+    pub(crate) fn rotate(lefts: Self, rights: Self, left: u32, right: u32) -> Self
         requires left { (0 < left) × (left < 32) }
         requires right { (0 < right) × (right < 32) }
-        ensures left { result.left ≡ rol self.left left }
-        ensures right { result.right ≡ rol self.right right }
+        ensures left { result.left ≡ rol lefts.left left }
+        ensures right { result.right ≡ rol rights.right right }
     {
-        let lefts = self.rotated_by(left);
-        let rights = self.rotated_by(right);
+        let lefts = lefts.rotated_by(left);
+        let rights = rights.rotated_by(right);
         Pair {
             lanes: lefts.shuffle(rights, [0, 0, 6, 6]),
         }
