@@ -4,7 +4,7 @@
 ghost use Rattle.std.specs.Prelude.{◌≡◌, ◌≢◌, ℕ, List, [], ◌++◌, IfOk, IfErr, IsTrue, IsFalse, ⊤};
 ghost use Rattle.ripemd_block.specs.Standard.Hashing.{hash};
 ghost use Rattle.ripemd_block.specs.States.{IsHashState, core_and_tail, initial_state, fed, finish};
-ghost use Rattle.ripemd.specs.Saved.{IsAppended};
+ghost use Rattle.ripemd.specs.Saved.{EndsBlock, IsAppended};
 
 use crate::digest::{Digest, OutputSizeUser, SerializableState};
 use crate::hashers::BlockHasher;
@@ -65,6 +65,9 @@ pub trait Resumable: Incremental {
     // The bytes that a state is saved as.
     ghost state_bytes: { Self → List ℕ };
 
+    // The bytes of the message after its whole blocks.
+    ghost tail_of: { Self → List ℕ };
+
     /// Saves the state.
     fn save(&self) -> Self::Saved
         ensures bytes { saved_bytes result ≡ state_bytes self.now }
@@ -82,11 +85,13 @@ pub trait Resumable: Incremental {
             (λ _. (s : Self) → is_valid s → state_bytes s ≢ saved_bytes saved.now) };
 
     /// Appends bytes to the message of a saved state within its saved bytes, which takes only its tail.
-    /// False, and nothing is written, if it cannot: if the bytes end a block, or no state is saved as
-    /// these. That it does so in all other cases is only tested.
+    /// False, and nothing is written, exactly if it cannot: if the bytes end a block, or no state is
+    /// saved as these.
     fn append_saved(saved: &mut [u8], bytes: &[u8]) -> bool
         ensures appended { IsTrue result
             → IsAppended is_valid state_bytes Self.fed saved.old bytes.now saved.new }
+        ensures refused { IsFalse result
+            → EndsBlock is_valid state_bytes tail_of saved.old bytes.now }
         ensures unchanged { IsFalse result → saved.new ≡ saved.old };
 
     // States that are saved as the same bytes are the same.
@@ -132,6 +137,8 @@ impl<F: ResumableFunction> Resumable for BlockHasher<F> {
     ghost is_valid = { IsHashState F.are_words };
 
     ghost state_bytes = { core_and_tail F.output };
+
+    ghost tail_of = { λ h. h.tail };
 
     fn save(&self) -> F::SavedHasher {
         self.serialize()

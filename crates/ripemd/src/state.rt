@@ -1,11 +1,12 @@
 //! Hashers saved as bytes, and loaded again.
 
-ghost use Rattle.std.specs.Prelude.{◌≡◌, ◌≢◌, ℕ, ◌+◌, ◌-◌, ◌*◌, ◌<◌, ◌≤◌, ◌↔◌, List, ◌∷◌, ◌++◌, length, replicate, IfSome, IfNone, IsTrue, IsFalse};
+ghost use Rattle.std.specs.Prelude.{◌≡◌, ◌≢◌, ℕ, ◌-◌, ◌<◌, ◌≤◌, ◌↔◌, List, ◌∷◌, ◌++◌, length, drop, replicate, IfSome, IfNone, IsTrue, IsFalse};
 ghost use Rattle.std.specs.List.{All};
 ghost use Rattle.std.specs.Int.{to_le_bytes, w64};
 ghost use Rattle.ripemd_block.specs.Standard.Words.{block_size};
-ghost use Rattle.ripemd_block.specs.States.{IsHashState, IsTail, core_and_tail, fed};
-ghost use Rattle.ripemd.specs.Saved.{IsAppended, IsTailAppended};
+ghost use Rattle.ripemd_block.specs.States.{HashState, IsHashState, IsTail, core_and_tail, fed};
+ghost use Rattle.ripemd_block.specs.Laws.Saving.{tail_bytes};
+ghost use Rattle.ripemd.specs.Saved.{EndsBlock, IsAppended, IsTailAppended};
 
 use crate::hashers::BlockHasher;
 pub use ripemd_block::block_api::DeserializeStateError;
@@ -84,11 +85,13 @@ fn load_tail(saved: &[u8]) -> Option<Buffer>
 }
 
 /// Appends bytes to the message of a saved hasher within its saved bytes, which takes only its tail.
-/// False, and nothing is written, if it cannot: if the bytes end a block, or no hasher is saved as
-/// these. That it does so in all other cases is only tested.
+/// False, and nothing is written, exactly if it cannot: if the bytes end a block, or no hasher is saved
+/// as these.
 pub fn append_saved<F: ResumableFunction>(saved: &mut [u8], bytes: &[u8]) -> bool
     ensures appended { IsTrue result → IsAppended (IsHashState F.are_words) (core_and_tail F.output)
         (fed F.step) saved.old bytes.now saved.new }
+    ensures refused { IsFalse result → EndsBlock (IsHashState F.are_words) (core_and_tail F.output)
+        (λ (h : HashState). h.tail) saved.old bytes.now }
     ensures unchanged { IsFalse result → saved.new ≡ saved.old }
 {
     if saved.len() != <F::SavedHasher as ByteArray>::LEN {
@@ -105,6 +108,8 @@ pub fn append_saved<F: ResumableFunction>(saved: &mut [u8], bytes: &[u8]) -> boo
 fn append_tail(saved: &mut [u8], bytes: &[u8]) -> bool
     requires { length saved.old ≡ block_size }
     ensures appended { IsTrue result → IsTailAppended saved.old bytes.now saved.new }
+    ensures refused { IsFalse result
+        → EndsBlock IsTail tail_bytes (λ (tail : List ℕ). tail) saved.old bytes.now }
     ensures unchanged { IsFalse result → saved.new ≡ saved.old }
 {
     let len = saved[0] as usize;
@@ -117,9 +122,22 @@ fn append_tail(saved: &mut [u8], bytes: &[u8]) -> bool
     }
     bytes_in_range(front);
     bytes_in_range(bytes);
-    room[..bytes.len()].copy_from_slice(bytes);
+    write(room, bytes);
     front[0] = (len + bytes.len()) as u8;
     true
+}
+
+// Writes bytes to the front. One byte alone takes no call of `memmove`.
+#[inline(always)]
+fn write(room: &mut [u8], bytes: &[u8])
+    requires { length bytes.now ≤ length room.old }
+    ensures { room.new ≡ bytes.now ++ drop (length bytes.now) room.old }
+{
+    if bytes.len() == 1 {
+        room[0] = bytes[0];
+    } else {
+        room[..bytes.len()].copy_from_slice(bytes);
+    }
 }
 
 // Proof only: bytes are below 256.
@@ -127,7 +145,9 @@ fn bytes_in_range(bytes: &[u8])
     ensures { All (λ b. b < 256) bytes.now }
 {}
 
-// Whether all bytes are zero. Two blocks of one size, which may overlap, take few instructions.
+// Whether all bytes are zero. Two blocks of one size, which may overlap, take few instructions, and `&`
+// takes no branch.
+#[inline(always)]
 fn are_zeros(bytes: &[u8]) -> bool
     requires { length bytes.now < block_size }
     ensures { IsTrue result ↔ (bytes.now ≡ replicate (length bytes.now) 0) }
@@ -139,8 +159,10 @@ fn are_zeros(bytes: &[u8]) -> bool
         are_32_zeros(first) && are_32_zeros(last)
     } else if len >= 16 {
         are_32_zeros(bytes)
+    } else if len >= 8 {
+        are_16_zeros(bytes)
     } else {
-        bytes == &[0; 16][..len]
+        bytes == &[0; 8][..len]
     }
 }
 
@@ -152,7 +174,7 @@ fn are_32_zeros(bytes: &[u8]) -> bool
 {
     let (first, _) = bytes.split_at(16);
     let (_, last) = bytes.split_at(bytes.len() - 16);
-    are_16_zeros(first) && are_16_zeros(last)
+    are_16_zeros(first) & are_16_zeros(last)
 }
 
 // The same of 8 to 16 bytes.
@@ -163,7 +185,7 @@ fn are_16_zeros(bytes: &[u8]) -> bool
 {
     let (first, _) = bytes.split_at(8);
     let (_, last) = bytes.split_at(bytes.len() - 8);
-    are_8_zeros(first) && are_8_zeros(last)
+    are_8_zeros(first) & are_8_zeros(last)
 }
 
 // The same of 8 bytes.

@@ -206,6 +206,8 @@ impl<F: ResumableFunction> Resumable for Hmac<BlockHasher<F>> {
 
     ghost state_bytes = { hmac_bytes F.output };
 
+    ghost tail_of = { λ state. state.inner.tail };
+
     fn save(&self) -> F::SavedHmac {
         Hmac::save(self)
     }

@@ -5,9 +5,9 @@ use Rattle.std.proofs.lemmas.Slice.Eq.{slice_eq-Decides}
 use Rattle.std.proofs.lemmas.List.{take-replicate}
 use Rattle.ripemd.proofs.state.are_zeros.Goals as goal
 
-pub returns-else-len-ge16 : goal.returns-else-len-ge16
-returns-else-len-ge16 c =
+pub returns-else-len-ge8 : goal.returns-else-len-ge8
+returns-else-len-ge8 c =
     let bytes : List ℕ = c.args.bytes.now in
-    let zeros : List ℕ = take (length bytes) (replicate 16 0) in
-    let same : zeros ≡ replicate (length bytes) 0 = take-replicate {X = ℕ} (length bytes) 16 0 (omega arith) in
+    let zeros : List ℕ = take (length bytes) (replicate 8 0) in
+    let same : zeros ≡ replicate (length bytes) 0 = take-replicate {X = ℕ} (length bytes) 8 0 (omega arith) in
     rw same at (slice_eq-Decides {A = ℕ} {E = eqb} Decides-eqb bytes zeros c.eq.result c.eq.ensures)
