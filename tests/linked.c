@@ -467,8 +467,6 @@ static double now(void) {
   return time.tv_sec + 1e-9 * time.tv_nsec;
 }
 
-// The first message of each call begins with bytes of the last digest, so no call runs ahead. The
-// clock is read after some 4,096 blocks.
 // Whether a library has what a cell times.
 static bool has_cell(const struct library *by, int cell) {
   return cell < PIECE_CELLS ? has(by, cell % VARIANTS, &TASKS[cell / VARIANTS])
@@ -476,27 +474,32 @@ static bool has_cell(const struct library *by, int cell) {
                             : by->derive != NULL;
 }
 
-// Does once what a cell times. What comes of it goes into what follows.
-static void do_cell(struct library *by, int cell) {
-  if (cell < PIECE_CELLS) {
-    perform(by, cell % VARIANTS, &TASKS[cell / VARIANTS]);
-    memcpy(bytes, digests, 8);
-  } else if (cell < KEY_CELLS) {
-    int c = cell - PIECE_CELLS;
-    if (c < PIECES_COUNT) {
+// Does so often what a cell times, in a loop for its kind. The first message of each call begins with
+// bytes of the last digest, so no call runs ahead.
+static void repeat(struct library *by, int cell, int times) {
+  int c = cell - PIECE_CELLS;
+  if (c < 0)
+    for (int i = 0; i < times; i++) {
+      perform(by, cell % VARIANTS, &TASKS[cell / VARIANTS]);
+      memcpy(bytes, digests, 8);
+    }
+  else if (c < PIECES_COUNT)
+    for (int i = 0; i < times; i++)
       by->update(by->state, bytes, PIECES[c]);
-    } else {
+  else if (c < CALLS_COUNT)
+    for (int i = 0; i < times; i++) {
       by->init(by->state);
       if (c == INIT_AND_FINAL)
         by->final(by->state, digests);
     }
-  } else {
-    derive(by, cell - KEY_CELLS);
-    memcpy(bytes, digests, PASSWORD);
-  }
+  else
+    for (int i = 0; i < times; i++) {
+      derive(by, cell - KEY_CELLS);
+      memcpy(bytes, digests, PASSWORD);
+    }
 }
 
-// How often before the clock is read again.
+// How often before the clock is read again: after some 4,096 blocks.
 static int batch_of(int cell) {
   if (cell >= KEY_CELLS)
     return 1;
@@ -520,8 +523,8 @@ static void measure(struct library *by, int cell) {
     double start = now(), taken;
     int calls = 0;
     do {
-      for (int i = 0; i < batch; i++, calls++)
-        do_cell(by, cell);
+      repeat(by, cell, batch);
+      calls += batch;
       taken = now() - start;
     } while (taken < 0.01);
     if (!time->in_round || taken / calls < time->in_round)

@@ -13,7 +13,7 @@ use crate::states::EightStates;
 use ripemd::digest::BlockDigest;
 use ripemd::padding::block_count;
 use ripemd::{Ripemd128, Ripemd160, Ripemd256, Ripemd320};
-use ripemd_block::block_api::{BlockFunction, ByteArray};
+use ripemd_block::block_api::{BlockFunction, ByteArray, walk_message};
 
 /// A hash function of which eight messages can be hashed at once. It has no functions of its own.
 pub trait BatchDigest: BlockDigest<Output: ByteArray> {
@@ -158,7 +158,7 @@ fn digest_group<D: BatchDigest>(
         (targets messages.now) }
 {
     if !fills_lanes(messages) {
-        digest_one_by_one::<D>(first, before, messages, digests);
+        ListHasher::<D>::after(first, before).hash_one_by_one(messages, digests);
         return;
     }
     let states: D::States = walk_group(first, before, messages);
@@ -190,25 +190,6 @@ fn fills_lanes(messages: &[&[u8]]) -> bool {
     sum / 4 >= most
 }
 
-// Writes the digests of messages, one after another.
-fn digest_one_by_one<D: BatchDigest>(
-    first: StateOf<D>,
-    before: u64,
-    messages: &[&[u8]],
-    digests: &mut [D::Output],
-)
-    requires valid { D.States.Function.is_state first }
-    requires length { length digests.old ≡ length messages.now }
-    ensures { map D.bytes_of digests.new
-        ≡ map (hash_after before (D.States.Function.list first) D.step D.output)
-        (targets messages.now) }
-{
-    for j in 0..messages.len() {
-        let digest = digest_one::<D>(first, before, message_at(messages, j));
-        digests[j] = digest;
-    }
-}
-
 // The digest of one message.
 pub(crate) fn digest_one<D: BatchDigest>(
     first: StateOf<D>,
@@ -232,14 +213,12 @@ pub(crate) fn last_state<D: BatchDigest>(
     ensures { D.output (D.States.Function.list result)
         ≡ hash_after before (D.States.Function.list first) D.step D.output message.now }
 {
-    let mut zeros = [[0; 64]; 2];
-    let blocks = MessageBlocks::of(before, message, &mut zeros);
-    blocks.walk::<FunctionOf<D>>(first)
+    walk_message::<FunctionOf<D>>(first, before, message)
 }
 
 // Message `i`.
 #[inline(always)]
-fn message_at<'a>(messages: &[&'a [u8]], i: usize) -> &'a [u8]
+pub(crate) fn message_at<'a>(messages: &[&'a [u8]], i: usize) -> &'a [u8]
     requires { i < length messages.now }
     ensures { result.now ≡ list_at (targets messages.now) i }
 {

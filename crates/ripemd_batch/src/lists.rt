@@ -3,9 +3,11 @@
 ghost use Rattle.std.specs.Prelude.{◌≡◌, ◌≤◌, length, map};
 ghost use Rattle.ripemd_block.specs.Standard.Hashing.{hash};
 ghost use Rattle.ripemd_mac.specs.Keyed.{hmac};
-ghost use Rattle.ripemd_batch.specs.Lanes.{made_by, targets};
+ghost use Rattle.ripemd_batch.specs.Lanes.{hash_after, made_by, targets};
 
-use crate::digests::{BatchDigest, FunctionOf, StateOf, digest_from, group_end};
+use crate::digests::{
+    BatchDigest, FunctionOf, StateOf, digest_from, digest_one, group_end, message_at,
+};
 use crate::tags::{digest_blocks, digests_in};
 use ripemd_block::block_api::{BlockFunction, walk};
 use ripemd_mac::keyed::masked_keys;
@@ -43,9 +45,19 @@ impl<D: BatchDigest> ListHasher<D> {
     pub fn new() -> ListHasher<D>
         ensures { made_by D.step D.output result ≡ hash D.start D.step D.output }
     {
+        ListHasher::after(FunctionOf::<D>::start(), 0)
+    }
+
+    // Of digests of messages, walked through from a state to which so many bytes before them led.
+    #[inline(always)]
+    pub(crate) fn after(first: StateOf<D>, before: u64) -> ListHasher<D>
+        requires { D.States.Function.is_state first }
+        ensures { made_by D.step D.output result
+            ≡ hash_after before (D.States.Function.list first) D.step D.output }
+    {
         ListHasher {
-            first: FunctionOf::<D>::start(),
-            before: 0,
+            first,
+            before,
             outer: None,
         }
     }
@@ -69,6 +81,11 @@ impl<D: BatchDigest> ListHasher<D> {
         ensures { map D.bytes_of outputs.new
             ≡ map (made_by D.step D.output self.now) (targets messages.now) }
     {
+        // So few leave most lanes without work.
+        if messages.len() < 4 {
+            self.hash_one_by_one(messages, outputs);
+            return;
+        }
         if self.outer.is_none() {
             digest_from::<D>(self.first, self.before, messages, outputs);
             return;
@@ -76,6 +93,31 @@ impl<D: BatchDigest> ListHasher<D> {
         for g in 0..messages.len().div_ceil(8) {
             let end = group_end(messages.len(), g);
             self.hash_group(&messages[8 * g..end], &mut outputs[8 * g..end]);
+        }
+    }
+
+    // The same, one message after another.
+    #[inline(always)]
+    pub(crate) fn hash_one_by_one(&self, messages: &[&[u8]], outputs: &mut [D::Output])
+        requires { length outputs.old ≡ length messages.now }
+        ensures { map D.bytes_of outputs.new
+            ≡ map (made_by D.step D.output self.now) (targets messages.now) }
+    {
+        for j in 0..messages.len() {
+            let output = self.hash_one(message_at(messages, j));
+            outputs[j] = output;
+        }
+    }
+
+    // What is made of one message.
+    #[inline(always)]
+    fn hash_one(&self, message: &[u8]) -> D::Output
+        ensures { D.bytes_of result ≡ made_by D.step D.output self.now message.now }
+    {
+        let digest = digest_one::<D>(self.first, self.before, message);
+        match self.outer {
+            Some(outer) => digest_one::<D>(outer, 64, D::output_bytes(&digest)),
+            None => digest,
         }
     }
 

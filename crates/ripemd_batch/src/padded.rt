@@ -2,11 +2,10 @@
 
 ghost use Rattle.std.specs.Prelude.{◌≡◌, ◌-◌, ◌<◌, [], ◌∷◌, ◌++◌, length, take, replicate, slice_index_or};
 ghost use Rattle.ripemd_block.specs.Standard.Words.{block_size, eight_bytes};
-ghost use Rattle.ripemd_block.specs.Standard.Hashing.{length_place, with_padding, blocks, walk};
+ghost use Rattle.ripemd_block.specs.Standard.Hashing.{length_place, with_padding, blocks};
 ghost use Rattle.ripemd_batch.specs.Lanes.{padded_after};
 
 use ripemd::padding::whole_blocks;
-use ripemd_block::block_api::{BlockFunction, ListBlockFunction, walk};
 use std::marker::Model;
 
 /// The blocks of a message with its padding: the whole ones, and the last one or two. Contracts see
@@ -45,14 +44,6 @@ impl<'a, 'b> MessageBlocks<'a, 'b> {
             whole,
             last: last_blocks(tail, bit_len, zeros),
         }
-    }
-
-    /// The state after all of them.
-    pub(crate) fn walk<F: ListBlockFunction>(&self, first: F::State) -> F::State
-        requires { F.is_state first }
-        ensures { result ≡ walk F.step_of first self.now }
-    {
-        walk::<F>(walk::<F>(first, self.whole), self.last)
     }
 
     /// How many there are.

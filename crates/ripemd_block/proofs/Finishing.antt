@@ -1,7 +1,7 @@
 -- A finished state is the output of the walk through the last blocks.
 use Rattle.std.proofs.Common.{◌≡◌, ℕ, ◌+◌, ◌*◌, ◌%◌, ◌^◌, List, length, refl}
 use Rattle.std.proofs.lemmas.List.Sums.{fold-append}
-use Rattle.ripemd_block.specs.Standard.Hashing.{with_padding, blocks, partial_block, walk, hash}
+use Rattle.ripemd_block.specs.Standard.Hashing.{with_padding, blocks, partial_block, walk}
 use Rattle.ripemd_block.specs.Laws.Pieces.{with_padding_rest}
 use Rattle.ripemd_block.specs.States.{HashState, with_tail, finish}
 
@@ -13,16 +13,14 @@ pub finish_of_blocks : {D : Type 0} (step : List ℕ → List ℕ → List ℕ) 
 unfolding finish
 finish_of_blocks step output h tail blocks_are length_is = rw (blocks_are, length_is) refl
 
--- the hash of a message is the output after the walk through its whole blocks and then the last ones
-pub hash_of_blocks : {D : Type 0} (start : List ℕ) (step : List ℕ → List ℕ → List ℕ) (output : List ℕ → D)
-    (m tail : List ℕ) (n : ℕ) (whole last : List (List ℕ))
+-- a walk through the whole blocks of a message and then through the last ones is one through all
+pub walk_of_blocks : (first : List ℕ) (step : List ℕ → List ℕ → List ℕ) (before n : ℕ) (m tail : List ℕ) (whole last : List (List ℕ))
     → whole ≡ blocks m
     → tail ≡ partial_block m
-    → n ≡ 8 * length m % 2 ^ 64
+    → n ≡ 8 * (before + length m) % 2 ^ 64
     → last ≡ blocks (with_padding tail n)
-    → output (walk step (walk step start whole) last) ≡ hash start step output m
-unfolding hash
-hash_of_blocks start step output m tail n whole last of_whole of_tail bits of_last =
-    let bit_length : ℕ = 8 * length m % 2 ^ 64 in
-    let walks = fold-append step start (blocks m) (blocks (with_padding (partial_block m) bit_length)) in
+    → walk step (walk step first whole) last ≡ walk step first (blocks (with_padding m (8 * (before + length m) % 2 ^ 64)))
+walk_of_blocks first step before n m tail whole last of_whole of_tail bits of_last =
+    let bit_length : ℕ = 8 * (before + length m) % 2 ^ 64 in
+    let walks = fold-append step first (blocks m) (blocks (with_padding (partial_block m) bit_length)) in
     rw (of_whole, of_last, of_tail, bits, with_padding_rest m bit_length, walks) refl

@@ -1,8 +1,8 @@
 //! The block core: a state of a block function, and the count of the blocks that it took in.
 
-ghost use Rattle.std.specs.Prelude.{◌≡◌, List, [], ◌∷◌, length, ⊤};
+ghost use Rattle.std.specs.Prelude.{◌≡◌, ◌+◌, ◌*◌, ◌%◌, ◌^◌, List, [], ◌∷◌, length, ⊤};
 ghost use Rattle.std.specs.Option.{option_to_list};
-ghost use Rattle.ripemd_block.specs.Standard.Hashing.{walk, hash};
+ghost use Rattle.ripemd_block.specs.Standard.Hashing.{with_padding, blocks, walk, hash};
 ghost use Rattle.ripemd_block.specs.States.{HashState, IsWithoutTail, output_and_count};
 ghost use Rattle.ripemd_block.specs.States.{initial_state, after_blocks, with_tail, finish};
 
@@ -213,14 +213,26 @@ pub fn digest_message<F: ListBlockFunction>(message: &[u8]) -> F::Digest
         ≡ hash (F.list F.start_of) F.step F.output message.now }
     ensures size { length (F.Digest.bytes result) ≡ F.Digest.LEN }
 {
-    let (whole, tail) = whole_blocks(message);
-    let bit_len = (message.len() as u64).wrapping_mul(8);
-    let mut state = walk::<F>(F::start(), whole);
-    walk_last::<F>(&mut state, &last_blocks(tail, bit_len));
-    let digest = F::output(state);
+    let digest = F::output(walk_message::<F>(F::start(), 0, message));
     // Proof only: its contract gives the size of the digest.
     digest.as_bytes();
     digest
+}
+
+/// The state after the blocks of a message with its padding, from a state to which so many bytes
+/// before the message led, which count in its length.
+#[inline(always)]
+pub fn walk_message<F: ListBlockFunction>(first: F::State, before: u64, message: &[u8]) -> F::State
+    requires { F.is_state first }
+    ensures value { F.list result ≡ walk F.step (F.list first)
+        (blocks (with_padding message.now (8 * (before + length message.now) % 2 ^ 64))) }
+    ensures valid { F.is_state result }
+{
+    let (whole, tail) = whole_blocks(message);
+    let bit_len = before.wrapping_add(message.len() as u64).wrapping_mul(8);
+    let mut state = walk::<F>(first, whole);
+    walk_last::<F>(&mut state, &last_blocks(tail, bit_len));
+    state
 }
 
 impl<F: ResumableFunction> SerializableState for BlockCore<F> {
