@@ -162,7 +162,7 @@ fn are_zeros(bytes: &[u8]) -> bool
     } else if len >= 8 {
         are_16_zeros(bytes)
     } else {
-        bytes == &[0; 8][..len]
+        bytes.iter().all(|byte| *byte == 0)
     }
 }
 
