@@ -84,8 +84,18 @@ impl<D: BatchDigest> ListHasher<D> {
         // So few leave most lanes without work.
         if messages.len() < 4 {
             self.hash_one_by_one(messages, outputs);
-            return;
+        } else {
+            self.hash_groups(messages, outputs);
         }
+    }
+
+    // The same in groups of eight. Not inlined, so that few messages take none of its stack.
+    #[inline(never)]
+    fn hash_groups(&self, messages: &[&[u8]], outputs: &mut [D::Output])
+        requires { length outputs.old ≡ length messages.now }
+        ensures { map D.bytes_of outputs.new
+            ≡ map (made_by D.step D.output self.now) (targets messages.now) }
+    {
         if self.outer.is_none() {
             digest_from::<D>(self.first, self.before, messages, outputs);
             return;

@@ -1,7 +1,7 @@
 -- What is made of the groups so far is written.
 use Rattle.std.proofs.Common.{◌≡◌, ◌*◌, length, map, take}
 use Rattle.ripemd_batch.specs.Lanes.{made_by, targets}
-use Rattle.ripemd_batch.proofs.lists.ListHasher.hash_each.Given as goal
+use Rattle.ripemd_batch.proofs.lists.ListHasher.hash_groups.Given as goal
 
 abbrev pub invariant-loop-g : goal.invariant-loop-g
 invariant-loop-g g l = record {

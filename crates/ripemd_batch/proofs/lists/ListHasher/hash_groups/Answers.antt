@@ -1,7 +1,7 @@
 use Rattle.std.proofs.Common.{◌≡◌, ℕ, ◌+◌, ◌-◌, ◌*◌, List, length, arith, rules, refl, ◌∙◌}
 use Rattle.ripemd_batch.specs.Lanes.{made_by}
 use Rattle.ripemd_batch.proofs.Placing.{put_group, length-put}
-use Rattle.ripemd_batch.proofs.lists.ListHasher.hash_each.Goals as goal
+use Rattle.ripemd_batch.proofs.lists.ListHasher.hash_groups.Goals as goal
 
 pub loop-g-preserved : goal.loop-g-preserved
 loop-g-preserved g c =
