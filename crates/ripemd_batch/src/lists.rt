@@ -76,6 +76,7 @@ impl<D: BatchDigest> ListHasher<D> {
 
     /// Writes what is made of each message to the place in `outputs` that the message has in
     /// `messages`. There must be as many places as messages. Nothing is allocated.
+    #[inline(always)]
     pub fn hash_each(&self, messages: &[&[u8]], outputs: &mut [D::Output])
         requires { length outputs.old ≡ length messages.now }
         ensures { map D.bytes_of outputs.new
