@@ -7,10 +7,9 @@ ghost use Rattle.ripemd_block.specs.Standard.Compression.{compress, ripemd256};
 ghost use Rattle.ripemd_block.specs.States.{AreWords};
 ghost use Rattle.ripemd_block.specs.Code.Lines.{four_lefts, four_rights, lines_of_four_registers};
 
-use crate::four_registers::{exchange, round};
+use crate::four_registers::{exchange, lefts, rights, round};
 use crate::message::raised_words;
-use crate::pair::Pair;
-use std::simd::prelude::*;
+use crate::pair::{Pair, four_sums};
 
 // Where the lines start.
 #[inline(always)]
@@ -30,14 +29,8 @@ fn lines_from(state: [u32; 8]) -> [Pair; 4]
 fn double_state(state: [u32; 8], lines: [Pair; 4]) -> [u32; 8]
     ensures { result ≡ double_state state (four_lefts lines) (four_rights lines) }
 {
-    let [a, b, c, d] = lines;
-    let [s0, s1, s2, s3, s4, s5, s6, s7] = state;
-    let lefts = u32x4::from_array([s0, s1, s2, s3])
-        + u32x4::from_array([a.left(), b.left(), c.left(), d.left()]);
-    let rights = u32x4::from_array([s4, s5, s6, s7])
-        + u32x4::from_array([a.right(), b.right(), c.right(), d.right()]);
-    let [l0, l1, l2, l3] = lefts.to_array();
-    let [r0, r1, r2, r3] = rights.to_array();
+    let [l0, l1, l2, l3] = four_sums(&state[..4], lefts(lines));
+    let [r0, r1, r2, r3] = four_sums(&state[4..], rights(lines));
     [l0, l1, l2, l3, r0, r1, r2, r3]
 }
 

@@ -7,9 +7,9 @@ ghost use Rattle.ripemd_block.specs.Standard.Compression.{compress, ripemd320};
 ghost use Rattle.ripemd_block.specs.States.{AreWords};
 ghost use Rattle.ripemd_block.specs.Code.Lines.{five_lefts, five_rights, lines_of_five_registers};
 
-use crate::five_registers::{exchange, round};
+use crate::five_registers::{exchange, lefts, rights, round};
 use crate::message::raised_words;
-use crate::pair::Pair;
+use crate::pair::{Pair, four_sums};
 
 // Where the lines start.
 #[inline(always)]
@@ -30,19 +30,13 @@ fn lines_from(state: [u32; 10]) -> [Pair; 5]
 fn double_state(state: [u32; 10], lines: [Pair; 5]) -> [u32; 10]
     ensures { result ≡ double_state state (five_lefts lines) (five_rights lines) }
 {
-    let [a, b, c, d, e] = lines;
-    [
-        state[0].wrapping_add(a.left()),
-        state[1].wrapping_add(b.left()),
-        state[2].wrapping_add(c.left()),
-        state[3].wrapping_add(d.left()),
-        state[4].wrapping_add(e.left()),
-        state[5].wrapping_add(a.right()),
-        state[6].wrapping_add(b.right()),
-        state[7].wrapping_add(c.right()),
-        state[8].wrapping_add(d.right()),
-        state[9].wrapping_add(e.right()),
-    ]
+    let [a, b, c, d, e] = lefts(lines);
+    let [l0, l1, l2, l3] = four_sums(&state[..4], [a, b, c, d]);
+    let l4 = state[4].wrapping_add(e);
+    let [a, b, c, d, e] = rights(lines);
+    let [r0, r1, r2, r3] = four_sums(&state[5..9], [a, b, c, d]);
+    let r4 = state[9].wrapping_add(e);
+    [l0, l1, l2, l3, l4, r0, r1, r2, r3, r4]
 }
 
 /// Takes one block into the state. The registers that are exchanged are B, D, A, C and E in turn.

@@ -132,3 +132,21 @@ pub(crate) fn exchange(j: usize, registers: [Pair; 5]) -> [Pair; 5]
     registers[j] = registers[j].swap();
     registers
 }
+
+/// The registers of the left line.
+#[inline(always)]
+pub(crate) fn lefts(registers: [Pair; 5]) -> [u32; 5]
+    ensures { result ≡ five_lefts registers }
+{
+    let [a, b, c, d, e] = registers;
+    [a.left(), b.left(), c.left(), d.left(), e.left()]
+}
+
+/// The registers of the right line.
+#[inline(always)]
+pub(crate) fn rights(registers: [Pair; 5]) -> [u32; 5]
+    ensures { result ≡ five_rights registers }
+{
+    let [a, b, c, d, e] = registers;
+    [a.right(), b.right(), c.right(), d.right(), e.right()]
+}

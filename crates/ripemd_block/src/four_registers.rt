@@ -155,3 +155,21 @@ pub(crate) fn exchange(j: usize, registers: [Pair; 4]) -> [Pair; 4]
     registers[j] = registers[j].swap();
     registers
 }
+
+/// The registers of the left line.
+#[inline(always)]
+pub(crate) fn lefts(registers: [Pair; 4]) -> [u32; 4]
+    ensures { result ≡ four_lefts registers }
+{
+    let [a, b, c, d] = registers;
+    [a.left(), b.left(), c.left(), d.left()]
+}
+
+/// The registers of the right line.
+#[inline(always)]
+pub(crate) fn rights(registers: [Pair; 4]) -> [u32; 4]
+    ensures { result ≡ four_rights registers }
+{
+    let [a, b, c, d] = registers;
+    [a.right(), b.right(), c.right(), d.right()]
+}

@@ -5,9 +5,10 @@
 //! two shifts and a sum: a doubled word, shifted to the right, ends in the word rotated.
 
 ghost use Rattle.std.specs.Prelude.{◌≡◌, ◌<◌, ◌^◌, ◌%◌, bit_xor, bit_and, bit_or};
-ghost use Rattle.std.specs.Prelude.{[], ◌∷◌, slice_index};
+ghost use Rattle.std.specs.Prelude.{[], ◌∷◌, length, slice_index};
 ghost use Rattle.std.specs.Int.{w32, bit_not};
 ghost use Rattle.ripemd_block.specs.Standard.Words.{◌⊞◌, rol};
+ghost use Rattle.ripemd_block.specs.Standard.Compression.{word_sums};
 ghost use Rattle.ripemd_block.specs.Code.Pairs.{doubled};
 
 use std::marker::Model;
@@ -188,4 +189,13 @@ impl Pair {
             lanes: self.rotated_by(10).swizzle([0, 0, 2, 2]),
         }
     }
+}
+
+/// The sums, modulo 2^32, of four words and of four others, in one vector.
+#[inline(always)]
+pub(crate) fn four_sums(words: &[u32], others: [u32; 4]) -> [u32; 4]
+    requires { length words.now ≡ 4 }
+    ensures { result ≡ word_sums words.now others }
+{
+    (u32x4::from_slice(words) + u32x4::from_array(others)).to_array()
 }
