@@ -4,6 +4,5 @@ pub mod Finishing
 pub mod LastBlocks
 pub mod PaddedBlocks
 pub mod Reading
-pub mod Rotating
 pub mod Stepping
 pub mod Tables

@@ -6,28 +6,32 @@ use Rattle.ripemd_block.specs.Standard.Words.{◌⊞◌, message_word}
 use Rattle.ripemd_block.specs.Standard.Schedule.{Line, left_line, right_line, rotation}
 use Rattle.ripemd_block.specs.Standard.Compression.{Parameters, Lines, step, registers_after, round}
 use Rattle.ripemd_block.specs.Standard.Compression.{word_sums, exchange, lines_after, lines_from, compress}
-use Rattle.ripemd_block.specs.Code.Lines.{raised_words}
+use Rattle.ripemd_block.specs.Code.Lines.{words_with, words_of_rounds}
 use Rattle.ripemd_block.proofs.Tables.{value_at}
 
--- the raised word at a place of all sixteen
-pub raised_word_at : {words : List ℕ} (block : List ℕ) (j d : ℕ) → words ≡ raised_words block → j < 16
-    → get_or words j d ≡ message_word block j ⊞ 1
-unfolding raised_words
-raised_word_at block j d all h = rw all (value_at (λ j. message_word block j ⊞ 1) 16 j d h)
+-- the word at a place of a round, with the constant in it
+pub word_with_constant : {rows : List (List ℕ)} (line : Line) (rounds : ℕ) (block : List ℕ) (r j d : ℕ)
+    → rows ≡ words_of_rounds line rounds block → r < rounds → j < 16
+    → get_or (get_or rows r []) j d ≡ message_word block j ⊞ line.constant r
+unfolding words_of_rounds words_with
+word_with_constant line rounds block r j d all round word =
+    rw all
+    (ap (λ (row : List ℕ). get_or row j d) (value_at (λ r. words_with (line.constant r) block) rounds r [] round)
+    ∙ value_at (λ j. message_word block j ⊞ line.constant r) 16 j d word)
 
-same_sum : (u x k : ℕ) → u ⊞ (x ⊞ 1) ⊞ k ≡ u ⊞ x ⊞ (k ⊞ 1)
+same_sum : (u x k : ℕ) → u ⊞ (x ⊞ k) ⊞ 0 ≡ u ⊞ x ⊞ k
 same_sum u x k = omega arith
 
--- a step may take 1 from its message word to its constant
-pub lowered_step : (f : ℕ → ℕ → ℕ → ℕ) (x k s : ℕ) (registers : List ℕ)
-    → step f (x ⊞ 1) k s registers ≡ step f x (k ⊞ 1) s registers
-lowered_step f x k s [] = refl
-lowered_step f x k s (a ∷ []) = refl
-lowered_step f x k s (a ∷ b ∷ []) = refl
-lowered_step f x k s (a ∷ b ∷ c ∷ []) = refl
-lowered_step f x k s (a ∷ b ∷ c ∷ d ∷ []) = rw (same_sum (a ⊞ f b c d) x k) refl
-lowered_step f x k s (a ∷ b ∷ c ∷ d ∷ e ∷ []) = rw (same_sum (a ⊞ f b c d) x k) refl
-lowered_step f x k s (a ∷ b ∷ c ∷ d ∷ e ∷ g ∷ more) = refl
+-- a step may take the sum of its message word and its constant
+pub joined_step : (f : ℕ → ℕ → ℕ → ℕ) (x k s : ℕ) (registers : List ℕ)
+    → step f (x ⊞ k) 0 s registers ≡ step f x k s registers
+joined_step f x k s [] = refl
+joined_step f x k s (a ∷ []) = refl
+joined_step f x k s (a ∷ b ∷ []) = refl
+joined_step f x k s (a ∷ b ∷ c ∷ []) = refl
+joined_step f x k s (a ∷ b ∷ c ∷ d ∷ []) = rw (same_sum (a ⊞ f b c d) x k) refl
+joined_step f x k s (a ∷ b ∷ c ∷ d ∷ e ∷ []) = rw (same_sum (a ⊞ f b c d) x k) refl
+joined_step f x k s (a ∷ b ∷ c ∷ d ∷ e ∷ g ∷ more) = refl
 
 -- one more step of a line, where j is the number of its message word x, k the constant and s the rotation
 pub one_more_step : (line : Line) (block : List ℕ) (r n : ℕ) (start before after : List ℕ) (j x k s : ℕ)
@@ -42,19 +46,19 @@ unfolding registers_after
 one_more_step line block r n start before after j x k s number word constant amount so_far made =
     rw (add-one, ← so_far, ← number, ← word, ← constant, ← amount) made
 
--- the same, where 1 is added to the message word and taken off the constant
-pub one_more_raised_step : (line : Line) (block : List ℕ) (r n : ℕ) (start before after : List ℕ) (j x k s : ℕ)
+-- the same, where the constant is added to the message word
+pub one_more_joined_step : (line : Line) (block : List ℕ) (r n : ℕ) (start before after : List ℕ) (j x s : ℕ)
     → j ≡ line.word_number r n
-    → x ≡ message_word block j ⊞ 1
-    → k ⊞ 1 ≡ line.constant r
+    → x ≡ message_word block j ⊞ line.constant r
     → s ≡ rotation r j
     → before ≡ registers_after line block r n start
-    → after ≡ step (line.function r) x k s before
+    → after ≡ step (line.function r) x 0 s before
     → after ≡ registers_after line block r (n + 1) start
-one_more_raised_step line block r n start before after j x k s number word constant amount so_far made =
-    one_more_step line block r n start before after j (message_word block j) (k ⊞ 1) s number refl constant amount so_far
-    (made ∙ ap (λ (w : ℕ). step (line.function r) w k s before) word
-    ∙ lowered_step (line.function r) (message_word block j) k s before)
+one_more_joined_step line block r n start before after j x s number word amount so_far made =
+    one_more_step line block r n start before after j (message_word block j) (line.constant r) s number refl refl
+    amount so_far
+    (made ∙ ap (λ (w : ℕ). step (line.function r) w 0 s before) word
+    ∙ joined_step (line.function r) (message_word block j) (line.constant r) s before)
 
 -- the lines after the first n rounds on a block, from where the state has them start
 pub record AfterRounds (v : Parameters) (state block : List ℕ) (n : ℕ) (lines : Lines) : Type 0 where

@@ -1,3 +1,2 @@
 -- What the code's own types stand for.
 pub mod Lines
-pub mod Pairs

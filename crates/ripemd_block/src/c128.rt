@@ -5,38 +5,35 @@ ghost use Rattle.std.specs.Prelude.{◌≡◌};
 ghost use Rattle.ripemd_block.specs.Standard.Compression.{lines_from, joint_state};
 ghost use Rattle.ripemd_block.specs.Standard.Compression.{compress, ripemd128};
 ghost use Rattle.ripemd_block.specs.States.{AreWords};
-ghost use Rattle.ripemd_block.specs.Code.Lines.{four_lefts, four_rights, lines_of_four_registers};
+ghost use Rattle.ripemd_block.specs.Code.Lines.{both_lines};
 
-use crate::four_registers::round;
-use crate::message::raised_words;
-use crate::pair::Pair;
+use crate::four_registers::{Lines, round, words_of_rounds};
+use std::simd::prelude::*;
 
 // Where the lines start.
 #[inline(always)]
-fn lines_from(state: [u32; 4]) -> [Pair; 4]
-    ensures { lines_of_four_registers result ≡ lines_from ripemd128 state }
+fn lines_from(state: [u32; 4]) -> Lines
+    ensures { both_lines result.left result.right ≡ lines_from ripemd128 state }
 {
-    let [a, b, c, d] = state;
-    [
-        Pair::of(a, a),
-        Pair::of(b, b),
-        Pair::of(c, c),
-        Pair::of(d, d),
-    ]
+    Lines {
+        left: state,
+        right: state,
+    }
 }
 
-// The state that takes the registers of both lines in.
+// The state that takes the registers of both lines in. It is one vector, so that it needs none of the
+// general registers: of them the lines need nearly all, if the compiler is to leave their steps in turn.
 #[inline(always)]
-fn joint_state(state: [u32; 4], lines: [Pair; 4]) -> [u32; 4]
-    ensures { result ≡ joint_state state (four_lefts lines) (four_rights lines) }
+fn joint_state(state: [u32; 4], end: Lines) -> [u32; 4]
+    ensures { result ≡ joint_state state end.left end.right }
 {
-    let [a, b, c, d] = lines;
-    [
-        state[1].wrapping_add(c.left()).wrapping_add(d.right()),
-        state[2].wrapping_add(d.left()).wrapping_add(a.right()),
-        state[3].wrapping_add(a.left()).wrapping_add(b.right()),
-        state[0].wrapping_add(b.left()).wrapping_add(c.right()),
-    ]
+    let [l0, l1, l2, l3] = end.left;
+    let [r0, r1, r2, r3] = end.right;
+    let [s0, s1, s2, s3] = state;
+    let sums = u32x4::from_array([s1, s2, s3, s0])
+        + u32x4::from_array([l2, l3, l0, l1])
+        + u32x4::from_array([r3, r0, r1, r2]);
+    sums.to_array()
 }
 
 /// Takes one block into the state.
@@ -45,7 +42,7 @@ pub(crate) fn compress(state: &mut [u32; 4], block: &[u8; 64])
     ensures old_words { AreWords 4 state.old }
     ensures new_words { AreWords 4 state.new }
 {
-    let words = raised_words(block);
+    let words = words_of_rounds(block);
     let lines = lines_from(*state);
     let lines = round(0, &words, lines);
     let lines = round(1, &words, lines);

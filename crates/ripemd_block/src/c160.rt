@@ -5,39 +5,34 @@ ghost use Rattle.std.specs.Prelude.{◌≡◌};
 ghost use Rattle.ripemd_block.specs.Standard.Compression.{lines_from, joint_state};
 ghost use Rattle.ripemd_block.specs.Standard.Compression.{compress, ripemd160};
 ghost use Rattle.ripemd_block.specs.States.{AreWords};
-ghost use Rattle.ripemd_block.specs.Code.Lines.{five_lefts, five_rights, lines_of_five_registers};
+ghost use Rattle.ripemd_block.specs.Code.Lines.{both_lines};
 
-use crate::five_registers::round;
-use crate::message::raised_words;
-use crate::pair::Pair;
+use crate::five_registers::{Lines, round, words_of_rounds};
 
 // Where the lines start.
 #[inline(always)]
-fn lines_from(state: [u32; 5]) -> [Pair; 5]
-    ensures { lines_of_five_registers result ≡ lines_from ripemd160 state }
+fn lines_from(state: [u32; 5]) -> Lines
+    ensures { both_lines result.left result.right ≡ lines_from ripemd160 state }
 {
-    let [a, b, c, d, e] = state;
-    [
-        Pair::of(a, a),
-        Pair::of(b, b),
-        Pair::of(c, c),
-        Pair::of(d, d),
-        Pair::of(e, e),
-    ]
+    Lines {
+        left: state,
+        right: state,
+    }
 }
 
 // The state that takes the registers of both lines in.
 #[inline(always)]
-fn joint_state(state: [u32; 5], lines: [Pair; 5]) -> [u32; 5]
-    ensures { result ≡ joint_state state (five_lefts lines) (five_rights lines) }
+fn joint_state(state: [u32; 5], end: Lines) -> [u32; 5]
+    ensures { result ≡ joint_state state end.left end.right }
 {
-    let [a, b, c, d, e] = lines;
+    let [l0, l1, l2, l3, l4] = end.left;
+    let [r0, r1, r2, r3, r4] = end.right;
     [
-        state[1].wrapping_add(c.left()).wrapping_add(d.right()),
-        state[2].wrapping_add(d.left()).wrapping_add(e.right()),
-        state[3].wrapping_add(e.left()).wrapping_add(a.right()),
-        state[4].wrapping_add(a.left()).wrapping_add(b.right()),
-        state[0].wrapping_add(b.left()).wrapping_add(c.right()),
+        state[1].wrapping_add(l2).wrapping_add(r3),
+        state[2].wrapping_add(l3).wrapping_add(r4),
+        state[3].wrapping_add(l4).wrapping_add(r0),
+        state[4].wrapping_add(l0).wrapping_add(r1),
+        state[0].wrapping_add(l1).wrapping_add(r2),
     ]
 }
 
@@ -47,7 +42,7 @@ pub(crate) fn compress(state: &mut [u32; 5], block: &[u8; 64])
     ensures old_words { AreWords 5 state.old }
     ensures new_words { AreWords 5 state.new }
 {
-    let words = raised_words(block);
+    let words = words_of_rounds(block);
     let lines = lines_from(*state);
     let lines = round(0, &words, lines);
     let lines = round(1, &words, lines);

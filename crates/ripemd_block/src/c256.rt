@@ -5,33 +5,39 @@ ghost use Rattle.std.specs.Prelude.{◌≡◌};
 ghost use Rattle.ripemd_block.specs.Standard.Compression.{lines_from, double_state};
 ghost use Rattle.ripemd_block.specs.Standard.Compression.{compress, ripemd256};
 ghost use Rattle.ripemd_block.specs.States.{AreWords};
-ghost use Rattle.ripemd_block.specs.Code.Lines.{four_lefts, four_rights, lines_of_four_registers};
+ghost use Rattle.ripemd_block.specs.Code.Lines.{both_lines};
 
-use crate::four_registers::{exchange, lefts, rights, round};
-use crate::message::raised_words;
-use crate::pair::{Pair, four_sums};
+use crate::four_registers::{Lines, exchange, round, words_of_rounds};
 
 // Where the lines start.
 #[inline(always)]
-fn lines_from(state: [u32; 8]) -> [Pair; 4]
-    ensures { lines_of_four_registers result ≡ lines_from ripemd256 state }
+fn lines_from(state: [u32; 8]) -> Lines
+    ensures { both_lines result.left result.right ≡ lines_from ripemd256 state }
 {
-    [
-        Pair::of(state[0], state[4]),
-        Pair::of(state[1], state[5]),
-        Pair::of(state[2], state[6]),
-        Pair::of(state[3], state[7]),
-    ]
+    let [s0, s1, s2, s3, s4, s5, s6, s7] = state;
+    Lines {
+        left: [s0, s1, s2, s3],
+        right: [s4, s5, s6, s7],
+    }
 }
 
-// The state that takes the registers of both lines in, each line in one vector.
+// The state that takes the registers of both lines in.
 #[inline(always)]
-fn double_state(state: [u32; 8], lines: [Pair; 4]) -> [u32; 8]
-    ensures { result ≡ double_state state (four_lefts lines) (four_rights lines) }
+fn double_state(state: [u32; 8], end: Lines) -> [u32; 8]
+    ensures { result ≡ double_state state end.left end.right }
 {
-    let [l0, l1, l2, l3] = four_sums(&state[..4], lefts(lines));
-    let [r0, r1, r2, r3] = four_sums(&state[4..], rights(lines));
-    [l0, l1, l2, l3, r0, r1, r2, r3]
+    let [l0, l1, l2, l3] = end.left;
+    let [r0, r1, r2, r3] = end.right;
+    [
+        state[0].wrapping_add(l0),
+        state[1].wrapping_add(l1),
+        state[2].wrapping_add(l2),
+        state[3].wrapping_add(l3),
+        state[4].wrapping_add(r0),
+        state[5].wrapping_add(r1),
+        state[6].wrapping_add(r2),
+        state[7].wrapping_add(r3),
+    ]
 }
 
 /// Takes one block into the state. The registers that are exchanged are A, B, C and D in turn.
@@ -40,7 +46,7 @@ pub(crate) fn compress(state: &mut [u32; 8], block: &[u8; 64])
     ensures old_words { AreWords 8 state.old }
     ensures new_words { AreWords 8 state.new }
 {
-    let words = raised_words(block);
+    let words = words_of_rounds(block);
     let lines = lines_from(*state);
     let lines = exchange(0, round(0, &words, lines));
     let lines = exchange(1, round(1, &words, lines));

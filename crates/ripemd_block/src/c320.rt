@@ -5,38 +5,41 @@ ghost use Rattle.std.specs.Prelude.{◌≡◌};
 ghost use Rattle.ripemd_block.specs.Standard.Compression.{lines_from, double_state};
 ghost use Rattle.ripemd_block.specs.Standard.Compression.{compress, ripemd320};
 ghost use Rattle.ripemd_block.specs.States.{AreWords};
-ghost use Rattle.ripemd_block.specs.Code.Lines.{five_lefts, five_rights, lines_of_five_registers};
+ghost use Rattle.ripemd_block.specs.Code.Lines.{both_lines};
 
-use crate::five_registers::{exchange, lefts, rights, round};
-use crate::message::raised_words;
-use crate::pair::{Pair, four_sums};
+use crate::five_registers::{Lines, exchange, round, words_of_rounds};
 
 // Where the lines start.
 #[inline(always)]
-fn lines_from(state: [u32; 10]) -> [Pair; 5]
-    ensures { lines_of_five_registers result ≡ lines_from ripemd320 state }
+fn lines_from(state: [u32; 10]) -> Lines
+    ensures { both_lines result.left result.right ≡ lines_from ripemd320 state }
 {
-    [
-        Pair::of(state[0], state[5]),
-        Pair::of(state[1], state[6]),
-        Pair::of(state[2], state[7]),
-        Pair::of(state[3], state[8]),
-        Pair::of(state[4], state[9]),
-    ]
+    let [s0, s1, s2, s3, s4, s5, s6, s7, s8, s9] = state;
+    Lines {
+        left: [s0, s1, s2, s3, s4],
+        right: [s5, s6, s7, s8, s9],
+    }
 }
 
 // The state that takes the registers of both lines in.
 #[inline(always)]
-fn double_state(state: [u32; 10], lines: [Pair; 5]) -> [u32; 10]
-    ensures { result ≡ double_state state (five_lefts lines) (five_rights lines) }
+fn double_state(state: [u32; 10], end: Lines) -> [u32; 10]
+    ensures { result ≡ double_state state end.left end.right }
 {
-    let [a, b, c, d, e] = lefts(lines);
-    let [l0, l1, l2, l3] = four_sums(&state[..4], [a, b, c, d]);
-    let l4 = state[4].wrapping_add(e);
-    let [a, b, c, d, e] = rights(lines);
-    let [r0, r1, r2, r3] = four_sums(&state[5..9], [a, b, c, d]);
-    let r4 = state[9].wrapping_add(e);
-    [l0, l1, l2, l3, l4, r0, r1, r2, r3, r4]
+    let [l0, l1, l2, l3, l4] = end.left;
+    let [r0, r1, r2, r3, r4] = end.right;
+    [
+        state[0].wrapping_add(l0),
+        state[1].wrapping_add(l1),
+        state[2].wrapping_add(l2),
+        state[3].wrapping_add(l3),
+        state[4].wrapping_add(l4),
+        state[5].wrapping_add(r0),
+        state[6].wrapping_add(r1),
+        state[7].wrapping_add(r2),
+        state[8].wrapping_add(r3),
+        state[9].wrapping_add(r4),
+    ]
 }
 
 /// Takes one block into the state. The registers that are exchanged are B, D, A, C and E in turn.
@@ -45,7 +48,7 @@ pub(crate) fn compress(state: &mut [u32; 10], block: &[u8; 64])
     ensures old_words { AreWords 10 state.old }
     ensures new_words { AreWords 10 state.new }
 {
-    let words = raised_words(block);
+    let words = words_of_rounds(block);
     let lines = lines_from(*state);
     let lines = exchange(1, round(0, &words, lines));
     let lines = exchange(3, round(1, &words, lines));

@@ -15,7 +15,7 @@ mod five_registers;
 mod four_registers;
 pub mod message;
 pub mod padding;
-mod pair;
+mod steps;
 pub mod textbook;
 mod traits;
 mod variants;

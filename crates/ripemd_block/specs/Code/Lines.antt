@@ -1,40 +1,23 @@
--- The registers of both lines side by side, and the message words that their steps take.
-use Rattle.std.specs.Prelude.{ℕ, List, [], ◌∷◌, map, slice_index_or}
+-- The message words that the steps of both lines take, with the constants of the rounds.
+use Rattle.std.specs.Prelude.{ℕ, ◌≡◌, List, map}
 use Rattle.std.specs.List.{range_with_len}
 use Rattle.ripemd_block.specs.Standard.Words.{◌⊞◌, message_word}
+use Rattle.ripemd_block.specs.Standard.Schedule.{Line, left_line, right_line}
 use Rattle.ripemd_block.specs.Standard.Compression.{Lines}
-use Rattle.ripemd_block.specs.Code.Pairs.{WordPair}
 
--- register i of both lines
-abbrev pub register : List WordPair → ℕ → WordPair
-register v i = slice_index_or v i (record { left = 0; right = 0 })
+-- both lines
+abbrev pub both_lines : List ℕ → List ℕ → Lines
+both_lines l r = record { left = l; right = r }
 
--- four registers of the left line, and of the right line
-abbrev pub four_lefts : List WordPair → List ℕ
-four_lefts v = (register v 0).left ∷ (register v 1).left ∷ (register v 2).left ∷ (register v 3).left ∷ []
+-- the sixteen message words of a block, each with k added
+unfoldable pub words_with : ℕ → List ℕ → List ℕ
+words_with k block = map (λ j. message_word block j ⊞ k) (range_with_len 0 16)
 
-abbrev pub four_rights : List WordPair → List ℕ
-four_rights v = (register v 0).right ∷ (register v 1).right ∷ (register v 2).right ∷ (register v 3).right ∷ []
+-- these with the constant of each round of a line
+unfoldable pub words_of_rounds : Line → ℕ → List ℕ → List (List ℕ)
+words_of_rounds line rounds block = map (λ r. words_with (line.constant r) block) (range_with_len 0 rounds)
 
--- both lines of four registers
-abbrev pub lines_of_four_registers : List WordPair → Lines
-lines_of_four_registers v = record { left = four_lefts v; right = four_rights v }
-
--- five registers of the left line, and of the right line
-abbrev pub five_lefts : List WordPair → List ℕ
-five_lefts v =
-    (register v 0).left ∷ (register v 1).left ∷ (register v 2).left ∷ (register v 3).left
-    ∷ (register v 4).left ∷ []
-
-abbrev pub five_rights : List WordPair → List ℕ
-five_rights v =
-    (register v 0).right ∷ (register v 1).right ∷ (register v 2).right ∷ (register v 3).right
-    ∷ (register v 4).right ∷ []
-
--- both lines of five registers
-abbrev pub lines_of_five_registers : List WordPair → Lines
-lines_of_five_registers v = record { left = five_lefts v; right = five_rights v }
-
--- the sixteen message words of a block, each with 1 added
-unfoldable pub raised_words : List ℕ → List ℕ
-raised_words block = map (λ j. message_word block j ⊞ 1) (range_with_len 0 16)
+-- the words of both lines of a variant with this many rounds are those of a block
+pub record HasWords (rounds : ℕ) (ls rs : List (List ℕ)) (block : List ℕ) : Type 0 where
+  pub left : ls ≡ words_of_rounds left_line rounds block
+  pub right : rs ≡ words_of_rounds (right_line rounds) rounds block

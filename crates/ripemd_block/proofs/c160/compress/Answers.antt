@@ -1,11 +1,11 @@
-use Rattle.std.proofs.Common.{refl, ◌∙◌}
+use Rattle.std.proofs.Common.{refl, ◌∙◌, arith}
 use Rattle.ripemd_block.specs.Standard.Compression.{ripemd160}
-use Rattle.ripemd_block.proofs.Stepping.{no_rounds, next_round, compress_from}
+use Rattle.ripemd_block.proofs.Stepping.{no_rounds, next_round, compress_from, word_sums_fit}
 use Rattle.ripemd_block.proofs.c160.compress.Goals as goal
 
 pub returns-clause-state : goal.returns-clause-state
 returns-clause-state c =
-    let words = c.raised_words-words.ensures in
+    let words = c.words_of_rounds-words.ensures in
     c.joint_state.ensures ∙ compress_from (next_round (next_round (next_round (next_round (next_round
     (no_rounds ripemd160 c.args.state.now c.args.block.now c.lines_from-lines.ensures)
     c.round-lines.ensures.left c.round-lines.ensures.right refl words)
@@ -13,3 +13,6 @@ returns-clause-state c =
     c.round-lines-3.ensures.left c.round-lines-3.ensures.right refl words)
     c.round-lines-4.ensures.left c.round-lines-4.ensures.right refl words)
     c.round-lines-5.ensures.left c.round-lines-5.ensures.right refl words)
+
+pub returns-clause-new_words : goal.returns-clause-new_words
+returns-clause-new_words c = record { count = omega arith; fit = rw c.joint_state.ensures (word_sums_fit _ _) }

@@ -5,7 +5,7 @@ use Rattle.ripemd_block.proofs.c320.compress.Goals as goal
 
 pub returns-clause-state : goal.returns-clause-state
 returns-clause-state c =
-    let words = c.raised_words-words.ensures in
+    let words = c.words_of_rounds-words.ensures in
     c.double_state.ensures ∙ compress_from (next_round (next_round (next_round (next_round (next_round
     (no_rounds ripemd320 c.args.state.now c.args.block.now c.lines_from-lines.ensures)
     c.round.ensures.left c.round.ensures.right c.exchange-lines.ensures words)
