@@ -7,8 +7,8 @@
 #   make bench         the program's speed on 256 MiB in memory, beside the library's and that of other
 #                      programs, as a table; then, with a C compiler, the speed of the functions that C
 #                      calls beside those of other libraries; that of lists of messages, at once
-#                      and one by one; and the time of updates by short pieces, and of verifying right and
-#                      wrong tags. It leaves a picture, crates/ripemd_bench/out/speed.svg
+#                      and one by one; and the time of a block, of updates by short pieces, and of
+#                      verifying right and wrong tags. It leaves a picture, crates/ripemd_bench/out/speed.svg
 #   make library       builds the library for C, proved, with a C compiler: libnattizhu.a and the shared
 #                      object libnattizhu.so, in crates/ripemd_c/out, for the toolchain's default
 #                      processors and for x86-64-v3
@@ -78,6 +78,7 @@ bench: all
 	@tests/linked | tee $(SPEED).txt
 	@! grep -q '^One message' $(SPEED).txt || tests/picture $(SPEED).txt >$(SPEED).svg
 	@echo && crates/ripemd_bench/out/ripemd_bench lists
+	@echo && crates/ripemd_bench/out/ripemd_bench blocks
 	@echo && crates/ripemd_bench/out/ripemd_bench pieces
 	@echo && crates/ripemd_bench/out/ripemd_bench tags
 

@@ -2,11 +2,13 @@
 //!
 //!     ripemd_bench 128|160|256|320   hashes 256 MiB and prints the digest
 //!     ripemd_bench lists             measures digests and tags of lists, at once and one by one
+//!     ripemd_bench blocks            measures one block, by a step and by walk_on
 //!     ripemd_bench pieces            measures updates by short pieces
 //!     ripemd_bench tags              measures the verification of right and wrong tags
 //!     ripemd_bench                   hashes 1 MiB, and counts the lists that agree both ways
 #![tactic(auto)]
 
+mod blocks;
 mod lists;
 mod pieces;
 mod tags;
@@ -42,6 +44,7 @@ fn perform(rt: &HostRuntime) -> io::Result<ExitCode> {
             println!(rt; "")?;
             lists::print_times(rt)?;
         }
+        "blocks" => blocks::print_times(rt)?,
         "pieces" => drop(of_variant(rt, Variant::R160, &Task::Update)?),
         "tags" => drop(of_variant(rt, Variant::R160, &Task::Verify)?),
         _ => return Ok(ExitCode::from(2)),

@@ -6,3 +6,4 @@ pub mod PaddedBlocks
 pub mod Reading
 pub mod Stepping
 pub mod Tables
+pub mod TwoLanes

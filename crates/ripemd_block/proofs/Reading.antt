@@ -1,4 +1,4 @@
--- Message words, read sixteen bytes at a time.
+-- Message words, read as vectors.
 use Rattle.std.proofs.Common.{◌≡◌, ℕ, ◌<◌, ◌≤◌, ◌+◌, ◌*◌, ◌-◌, List, [], ◌∷◌, length, take, drop, ap, ◌∙◌, sym, arith, w32}
 use Rattle.std.specs.Int.{from_le_bytes}
 use Rattle.std.specs.Simd.Lanes.{number_l, chunk}
@@ -26,8 +26,13 @@ within block i k small =
     ∙ take-take 4 (16 - 4 * k) (drop (4 * k) (drop (16 * i) block)) (omega arith)
     ∙ ap (take 4) (drop-drop (4 * k) (16 * i) block ∙ ap (λ (n : ℕ). drop n block) place)
 
+-- message word j, from its bytes
+pub word_of_bytes : (block : List ℕ) (j : ℕ) → 4 * j + 4 ≤ length block
+    → number_l 256 (chunk (4 * j) 4 block) ≡ message_word block j
+word_of_bytes block j size = four_bytes (take 4 (drop (4 * j) block)) (length-chunk (4 * j) 4 block size)
+
 pub word_in_chunk : (block : List ℕ) (i k : ℕ) → k < 4 → 16 * i + 16 ≤ length block
     → number_l 256 (chunk (4 * k) 4 (chunk (16 * i) 16 block)) ≡ message_word block (4 * i + k)
 word_in_chunk block i k small size =
     ap (number_l 256) (within block i k small)
-    ∙ four_bytes (take 4 (drop (4 * (4 * i + k)) block)) (length-chunk (4 * (4 * i + k)) 4 block (omega arith))
+    ∙ word_of_bytes block (4 * i + k) (omega arith)

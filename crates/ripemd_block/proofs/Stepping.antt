@@ -6,14 +6,20 @@ use Rattle.ripemd_block.specs.Standard.Words.{◌⊞◌, message_word}
 use Rattle.ripemd_block.specs.Standard.Schedule.{Line, left_line, right_line, rotation}
 use Rattle.ripemd_block.specs.Standard.Compression.{Parameters, Lines, step, registers_after, round}
 use Rattle.ripemd_block.specs.Standard.Compression.{word_sums, exchange, lines_after, lines_from, compress}
-use Rattle.ripemd_block.specs.Code.Lines.{words_with, words_of_rounds}
+use Rattle.ripemd_block.specs.Code.Lines.{message_words, words_with, words_of_rounds}
 use Rattle.ripemd_block.proofs.Tables.{value_at}
+
+-- the message word that a step takes
+pub word_of_step : {words : List ℕ} (block : List ℕ) (i n d : ℕ) → words ≡ message_words block → i < 16 → i ≡ n
+    → get_or words i d ≡ message_word block n
+unfolding message_words
+word_of_step block i n d all within same = rw (all, ← same) (value_at (message_word block) 16 i d within)
 
 -- the word at a place of a round, with the constant in it
 pub word_with_constant : {rows : List (List ℕ)} (line : Line) (rounds : ℕ) (block : List ℕ) (r j d : ℕ)
     → rows ≡ words_of_rounds line rounds block → r < rounds → j < 16
     → get_or (get_or rows r []) j d ≡ message_word block j ⊞ line.constant r
-unfolding words_of_rounds words_with
+unfolding words_of_rounds words_with message_words
 word_with_constant line rounds block r j d all round word =
     rw all
     (ap (λ (row : List ℕ). get_or row j d) (value_at (λ r. words_with (line.constant r) block) rounds r [] round)
@@ -60,23 +66,23 @@ one_more_joined_step line block r n start before after j x s number word amount 
     (made ∙ ap (λ (w : ℕ). step (line.function r) w 0 s before) word
     ∙ joined_step (line.function r) (message_word block j) (line.constant r) s before)
 
--- the lines after the first n rounds on a block, from where the state has them start
-pub record AfterRounds (v : Parameters) (state block : List ℕ) (n : ℕ) (lines : Lines) : Type 0 where
-  pub same : lines ≡ lines_after v block n (lines_from v state)
+-- the lines are those after the first n rounds on a block
+pub record AfterRounds (v : Parameters) (start : Lines) (block : List ℕ) (n : ℕ) (lines : Lines) : Type 0 where
+  pub same : lines ≡ lines_after v block n start
 
--- before the first round
+-- before the first round, where the state has them start
 pub no_rounds : {lines : Lines} (v : Parameters) (state block : List ℕ) → lines ≡ lines_from v state
-    → AfterRounds v state block 0 lines
+    → AfterRounds v (lines_from v state) block 0 lines
 unfolding lines_after
 no_rounds v state block start = record { same = start }
 
 -- one more round of both lines on the block whose words the code has, and the exchange after it
-pub next_round : {v : Parameters} {state block left right : List ℕ} {n : ℕ} {before after : Lines}
-    {HasWords : List ℕ → Type 0} → AfterRounds v state block n before
+pub next_round : {v : Parameters} {start : Lines} {block left right : List ℕ} {n : ℕ} {before after : Lines}
+    {HasWords : List ℕ → Type 0} → AfterRounds v start block n before
     → ((b : List ℕ) → HasWords b → left ≡ round left_line b n before.left)
     → ((b : List ℕ) → HasWords b → right ≡ round (right_line v.rounds) b n before.right)
     → after ≡ exchange (slice_get v.exchanges n) (record { left = left; right = right })
-    → HasWords block → AfterRounds v state block (suc n) after
+    → HasWords block → AfterRounds v start block (suc n) after
 unfolding lines_after
 next_round {v = v} {block = block} {right = right} {n = n} {before = before} so_far of_left of_right made words =
     let exchanged : List ℕ → List ℕ → Lines =
@@ -91,7 +97,8 @@ next_round {v = v} {block = block} {right = right} {n = n} {before = before} so_
     }
 
 -- the state after a block, from the lines after all rounds
-pub compress_from : {v : Parameters} {state block : List ℕ} {end : Lines} → AfterRounds v state block v.rounds end
+pub compress_from : {v : Parameters} {state block : List ℕ} {end : Lines}
+    → AfterRounds v (lines_from v state) block v.rounds end
     → v.combination state end.left end.right ≡ compress v state block
 unfolding compress
 compress_from {v = v} {state = state} all = ap (λ (l : Lines). v.combination state l.left l.right) all.same

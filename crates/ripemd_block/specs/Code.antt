@@ -1,2 +1,3 @@
 -- What the code's own types stand for.
 pub mod Lines
+pub mod Lanes

@@ -133,7 +133,7 @@ impl<F: ListBlockFunction> UpdateCore for BlockCore<F> {
 
     fn update_blocks(&mut self, blocks: &[[u8; 64]]) {
         if !blocks.is_empty() {
-            walk_on::<F>(&mut self.state, blocks);
+            F::walk_on(&mut self.state, blocks);
         }
         self.block_count = self.block_count.wrapping_add(blocks.len() as u64);
     }
@@ -173,24 +173,9 @@ pub fn walk<F: ListBlockFunction>(state: F::State, blocks: &[[u8; 64]]) -> F::St
 {
     let mut last = state;
     if !blocks.is_empty() {
-        walk_on::<F>(&mut last, blocks);
+        F::walk_on(&mut last, blocks);
     }
     last
-}
-
-// Takes blocks into a state in order. Not inlined, so that a hash function's steps stand once in a
-// program.
-#[inline(never)]
-fn walk_on<F: ListBlockFunction>(first: &mut F::State, blocks: &[[u8; 64]])
-    requires { F.is_state first.old }
-    ensures value { first.new ≡ walk F.step_of first.old blocks.now }
-    ensures valid { F.is_state first.new }
-{
-    let mut state = *first;
-    for block in blocks {
-        state = F::step(state, block);
-    }
-    *first = state;
 }
 
 // Takes the last blocks of a message into a state.
@@ -201,9 +186,9 @@ fn walk_last<F: ListBlockFunction>(state: &mut F::State, last: &Padded)
     ensures valid { F.is_state state.new }
 {
     let first = last.first;
-    walk_on::<F>(state, &[first]);
+    F::walk_on(state, &[first]);
     if let Some(second) = last.second {
-        walk_on::<F>(state, &[second]);
+        F::walk_on(state, &[second]);
     }
 }
 

@@ -2,43 +2,11 @@
 //! half of the state, and after each round the lines exchange a register.
 
 ghost use Rattle.std.specs.Prelude.{◌≡◌};
-ghost use Rattle.ripemd_block.specs.Standard.Compression.{lines_from, double_state};
 ghost use Rattle.ripemd_block.specs.Standard.Compression.{compress, ripemd256};
 ghost use Rattle.ripemd_block.specs.States.{AreWords};
-ghost use Rattle.ripemd_block.specs.Code.Lines.{both_lines};
 
-use crate::four_registers::{Lines, exchange, round, words_of_rounds};
-
-// Where the lines start.
-#[inline(always)]
-fn lines_from(state: [u32; 8]) -> Lines
-    ensures { both_lines result.left result.right ≡ lines_from ripemd256 state }
-{
-    let [s0, s1, s2, s3, s4, s5, s6, s7] = state;
-    Lines {
-        left: [s0, s1, s2, s3],
-        right: [s4, s5, s6, s7],
-    }
-}
-
-// The state that takes the registers of both lines in.
-#[inline(always)]
-fn double_state(state: [u32; 8], end: Lines) -> [u32; 8]
-    ensures { result ≡ double_state state end.left end.right }
-{
-    let [l0, l1, l2, l3] = end.left;
-    let [r0, r1, r2, r3] = end.right;
-    [
-        state[0].wrapping_add(l0),
-        state[1].wrapping_add(l1),
-        state[2].wrapping_add(l2),
-        state[3].wrapping_add(l3),
-        state[4].wrapping_add(r0),
-        state[5].wrapping_add(r1),
-        state[6].wrapping_add(r2),
-        state[7].wrapping_add(r3),
-    ]
-}
+use crate::chaining::{double_state_of_four, lines_of_256};
+use crate::lanes::{lane_of_four, lanes_of_four, lines_after};
 
 /// Takes one block into the state. The registers that are exchanged are A, B, C and D in turn.
 pub(crate) fn compress(state: &mut [u32; 8], block: &[u8; 64])
@@ -46,11 +14,8 @@ pub(crate) fn compress(state: &mut [u32; 8], block: &[u8; 64])
     ensures old_words { AreWords 8 state.old }
     ensures new_words { AreWords 8 state.new }
 {
-    let words = words_of_rounds(block);
-    let lines = lines_from(*state);
-    let lines = exchange(0, round(0, &words, lines));
-    let lines = exchange(1, round(1, &words, lines));
-    let lines = exchange(2, round(2, &words, lines));
-    let lines = exchange(3, round(3, &words, lines));
-    *state = double_state(*state, lines);
+    let (left, right) = lines_of_256(*state);
+    let start = lanes_of_four(left, right);
+    let end = lines_after(&[0, 1, 2, 3], block, start);
+    *state = double_state_of_four(*state, lane_of_four(end, 0), lane_of_four(end, 1));
 }

@@ -2,6 +2,7 @@
 
 ghost use Rattle.std.specs.Prelude.{◌≡◌, ◌<◌, ◌+◌, ◌*◌, ℕ, length, slice_index};
 ghost use Rattle.ripemd_block.specs.Standard.Words.{message_word};
+ghost use Rattle.ripemd_block.specs.Code.Lines.{message_words};
 
 use std::simd::prelude::*;
 
@@ -15,4 +16,13 @@ pub fn four_words(block: &[u8], i: usize) -> u32x4
         → slice_index result k ≡ message_word block.now (4 * i + k) }
 {
     u32x4::from_le_bytes(u8x16::from_slice(&block[16 * i..]))
+}
+
+/// The sixteen message words of a block.
+#[inline(always)]
+pub(crate) fn message_words(block: &[u8]) -> u32x16
+    requires { length block.now ≡ 64 }
+    ensures { result ≡ message_words block.now }
+{
+    u32x16::from_le_bytes(u8x64::from_slice(block))
 }

@@ -3,6 +3,7 @@
 ghost use Rattle.std.specs.Prelude.{◌≡◌, ◌≢◌, ℕ, ◌+◌, ◌≤◌, List, [], ◌++◌, length, IfOk, IfErr, IfSome, IfNone, true};
 ghost use Rattle.std.specs.Fmt.{WritesOnOk, WritesStyledOnOk};
 ghost use Rattle.ripemd_block.specs.Standard.Words.{block_size};
+ghost use Rattle.ripemd_block.specs.Standard.Hashing.{walk};
 ghost use Rattle.ripemd_block.specs.States.{HashState, IsTail};
 ghost use Rattle.ripemd_block.specs.OverLists.{IsOverLists, IsInjectiveOutput};
 
@@ -239,6 +240,20 @@ pub trait ListBlockFunction: BlockFunction<Digest: ByteArray> {
 
     // The bytes of the output of a list.
     ghost output: { List ℕ → List ℕ };
+
+    /// Takes blocks into a state in order. A block function may have a faster body than a step for
+    /// each block.
+    #[inline(never)]
+    fn walk_on(first: &mut Self::State, blocks: &[[u8; 64]])
+        ensures value { first.new ≡ walk Self.step_of first.old blocks.now }
+        ensures valid { Self.is_state first.old → Self.is_state first.new }
+    {
+        let mut state = *first;
+        for block in blocks {
+            state = Self::step(state, block);
+        }
+        *first = state;
+    }
 
     // They are those of the block function.
     ghost over_lists: { IsOverLists list Self.is_state Self.step_of Self.output_of

@@ -9,7 +9,7 @@ ghost use Rattle.ripemd_block.specs.States.{AreWords};
 use crate::arrays::{read_words, write_words};
 use crate::block_core::BlockCore;
 use crate::traits::{AlgorithmName, BlockFunction, ListBlockFunction, ResumableFunction};
-use crate::{c128, c160, c256, c320};
+use crate::{c128, c160, c256, c320, registers};
 use std::fmt;
 
 /// The block function of RIPEMD-128: four words, and a digest of 16 bytes.
@@ -83,6 +83,11 @@ impl ListBlockFunction for Ripemd128Function {
     ghost step = { compress ripemd128 };
 
     ghost output = { word_bytes };
+
+    #[inline(never)]
+    fn walk_on(first: &mut [u32; 4], blocks: &[[u8; 64]]) {
+        registers::walk_on::<Ripemd128Function>(first, blocks);
+    }
 
     ghost use Rattle.std.proofs.Common.{rules};
     ghost use Rattle.ripemd_block.specs.OverLists.{of_arrays};
@@ -180,6 +185,11 @@ impl ListBlockFunction for Ripemd160Function {
     ghost step = { compress ripemd160 };
 
     ghost output = { word_bytes };
+
+    #[inline(never)]
+    fn walk_on(first: &mut [u32; 5], blocks: &[[u8; 64]]) {
+        registers::walk_on::<Ripemd160Function>(first, blocks);
+    }
 
     ghost use Rattle.std.proofs.Common.{rules};
     ghost use Rattle.ripemd_block.specs.OverLists.{of_arrays};
@@ -280,6 +290,11 @@ impl ListBlockFunction for Ripemd256Function {
     ghost step = { compress ripemd256 };
 
     ghost output = { word_bytes };
+
+    #[inline(never)]
+    fn walk_on(first: &mut [u32; 8], blocks: &[[u8; 64]]) {
+        registers::walk_on::<Ripemd256Function>(first, blocks);
+    }
 
     ghost use Rattle.std.proofs.Common.{rules};
     ghost use Rattle.ripemd_block.specs.OverLists.{of_arrays};
@@ -382,6 +397,11 @@ impl ListBlockFunction for Ripemd320Function {
     ghost step = { compress ripemd320 };
 
     ghost output = { word_bytes };
+
+    #[inline(never)]
+    fn walk_on(first: &mut [u32; 10], blocks: &[[u8; 64]]) {
+        registers::walk_on::<Ripemd320Function>(first, blocks);
+    }
 
     ghost use Rattle.std.proofs.Common.{rules};
     ghost use Rattle.ripemd_block.specs.OverLists.{of_arrays};

@@ -15,6 +15,8 @@ mod mac;
 #[cfg(test)]
 mod names;
 #[cfg(test)]
+mod random;
+#[cfg(test)]
 mod replay;
 #[cfg(test)]
 mod state;

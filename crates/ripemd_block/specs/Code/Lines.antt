@@ -9,9 +9,13 @@ use Rattle.ripemd_block.specs.Standard.Compression.{Lines}
 abbrev pub both_lines : List ℕ → List ℕ → Lines
 both_lines l r = record { left = l; right = r }
 
--- the sixteen message words of a block, each with k added
+-- the sixteen message words of a block
+unfoldable pub message_words : List ℕ → List ℕ
+message_words block = map (message_word block) (range_with_len 0 16)
+
+-- these, each with k added
 unfoldable pub words_with : ℕ → List ℕ → List ℕ
-words_with k block = map (λ j. message_word block j ⊞ k) (range_with_len 0 16)
+words_with k block = map (λ w. w ⊞ k) (message_words block)
 
 -- these with the constant of each round of a line
 unfoldable pub words_of_rounds : Line → ℕ → List ℕ → List (List ℕ)

@@ -5,6 +5,7 @@ use crate::digits::{
     MILLION_128, MILLION_160, MILLION_256, MILLION_320, TWO_BLOCKS, TWO_BLOCKS_128, TWO_BLOCKS_160,
     TWO_BLOCKS_256, TWO_BLOCKS_320, is_written,
 };
+use crate::random::Random;
 use ripemd_block::block_api::{
     BlockCore, BlockFunction, BufferKindUser, ByteArray, Eager, FixedOutputCore, HashMarker,
     HashMeaning, ListBlockFunction, Reset, ResumableFunction, Ripemd128Core, Ripemd128Function,
@@ -97,6 +98,42 @@ fn million_letters(rt: HostRuntime) {
     assert!(rt; takes_a_million::<Ripemd160Function>(MILLION_160));
     assert!(rt; takes_a_million::<Ripemd256Function>(MILLION_256));
     assert!(rt; takes_a_million::<Ripemd320Function>(MILLION_320));
+}
+
+// Whether a core that takes random blocks at once, 0 to 9 of them, comes to the state to which the
+// steps of its block function lead, one after another.
+fn steps_like_a_core<F: ResumableFunction>(random: &mut Random) -> bool {
+    let mut blocks = [[0; 64]; 9];
+    for block in &mut blocks {
+        for byte in block {
+            *byte = random.below(256) as u8;
+        }
+    }
+    let mut state = F::start();
+    for count in 0..10 {
+        let mut core = BlockCore::<F>::default();
+        core.update_blocks(&blocks[..count]);
+        let saved = core.serialize();
+        let words = F::output(state);
+        if !saved.as_bytes().starts_with(words.as_bytes()) {
+            return false;
+        }
+        if let Some(block) = blocks.get(count) {
+            state = F::step(state, block);
+        }
+    }
+    true
+}
+
+#[test]
+fn steps_and_walks_agree(rt: HostRuntime) {
+    let mut random = Random::new();
+    for _ in 0..100 {
+        assert!(rt; steps_like_a_core::<Ripemd128Function>(&mut random));
+        assert!(rt; steps_like_a_core::<Ripemd160Function>(&mut random));
+        assert!(rt; steps_like_a_core::<Ripemd256Function>(&mut random));
+        assert!(rt; steps_like_a_core::<Ripemd320Function>(&mut random));
+    }
 }
 
 // The bytes 0, 1, 2 and so on, in two blocks.

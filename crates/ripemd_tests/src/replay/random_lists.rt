@@ -4,6 +4,7 @@ ghost use Rattle.std.specs.Prelude.{◌<◌};
 
 mod plain;
 
+use crate::random::Random;
 use plain::plain_replay;
 use ripemd::block_api::{
     ByteArray, Ripemd128Function, Ripemd160Function, Ripemd256Function, Ripemd320Function,
@@ -13,36 +14,6 @@ use ripemd::replay::{Command, ReplayError, replay};
 use ripemd::{BlockHasher, Digest, ResumableFunction};
 use std::alloc::{AllocError, Global};
 use std::test::Fail;
-
-// Numbers from a linear congruence.
-#[derive(Drop)]
-struct Random {
-    state: u64,
-}
-
-impl Random {
-    // The next number, below `end`.
-    fn below(&mut self, end: usize) -> usize
-        requires { 0 < end }
-        ensures { result < end }
-    {
-        self.state = self
-            .state
-            .wrapping_mul(6_364_136_223_846_793_005)
-            .wrapping_add(1_442_695_040_888_963_407);
-        (self.state >> 33) as usize % end
-    }
-
-    // Mostly one of the numbers from 0 that so many things have.
-    fn number(&mut self, count: usize) -> usize {
-        let stray = self.below(100) == 0;
-        if count == 0 || stray {
-            count.saturating_add(self.below(3))
-        } else {
-            self.below(count)
-        }
-    }
-}
 
 // A state to hand in: what is saved of a hasher that took in `text`, or what no state is saved as.
 #[derive(Drop)]
@@ -232,7 +203,7 @@ fn run_lists<F: ResumableFunction>(
     alloc: Global,
     list_count: usize,
 ) -> Result<Outcomes, AllocError> {
-    let mut random = Random { state: 1 };
+    let mut random = Random::new();
     let mut text = [0; 400];
     for byte in text.iter_mut() {
         *byte = random.below(256) as u8;

@@ -1,17 +1,17 @@
 use Rattle.std.proofs.Common.{refl, ◌∙◌, arith}
 use Rattle.ripemd_block.specs.Standard.Compression.{ripemd128}
-use Rattle.ripemd_block.proofs.Stepping.{no_rounds, next_round, compress_from, word_sums_fit}
+use Rattle.ripemd_block.proofs.Stepping.{word_sums_fit}
+use Rattle.ripemd_block.proofs.TwoLanes.{compress_in_lanes}
 use Rattle.ripemd_block.proofs.c128.compress.Goals as goal
 
 pub returns-clause-state : goal.returns-clause-state
 returns-clause-state c =
-    let words = c.words_of_rounds-words.ensures in
-    c.joint_state.ensures ∙ compress_from (next_round (next_round (next_round (next_round
-    (no_rounds ripemd128 c.args.state.now c.args.block.now c.lines_from-lines.ensures)
-    c.round-lines.ensures.left c.round-lines.ensures.right refl words)
-    c.round-lines-2.ensures.left c.round-lines-2.ensures.right refl words)
-    c.round-lines-3.ensures.left c.round-lines-3.ensures.right refl words)
-    c.round-lines-4.ensures.left c.round-lines-4.ensures.right refl words)
+    let start = c.lanes_of_four-start in
+    let end = c.lines_after-end in
+    c.joint_state_of_four.ensures
+    ∙ compress_in_lanes ripemd128 c.args.block.now start.result end.result c.lines_of_128.ensures
+    start.ensures.left start.ensures.right (end.ensures ripemd128 refl refl) c.lane_of_four.ensures
+    c.lane_of_four-2.ensures
 
 pub returns-clause-new_words : goal.returns-clause-new_words
-returns-clause-new_words c = record { count = omega arith; fit = rw c.joint_state.ensures (word_sums_fit _ _) }
+returns-clause-new_words c = record { count = omega arith; fit = rw c.joint_state_of_four.ensures (word_sums_fit _ _) }

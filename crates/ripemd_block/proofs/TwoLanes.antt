@@ -1,0 +1,32 @@
+-- Vectors of two lanes.
+use Rattle.std.proofs.Common.{◌≡◌, ℕ, zero, suc, ◌<◌, ap, ◌∙◌, arith}
+use Rattle.std.proofs.Common.{List}
+use Rattle.ripemd_block.specs.Standard.Compression.{Parameters, lines_after, lines_from, compress}
+use Rattle.ripemd_block.specs.Code.Lines.{both_lines}
+use Rattle.ripemd_block.specs.Code.Lanes.{lane}
+use Rattle.ripemd_block.proofs.Stepping.{compress_from}
+
+-- what holds of both lanes holds of each
+pub each_lane : (P : ℕ → Type 0) → P 0 → P 1 → (j : ℕ) → j < 2 → P j
+each_lane P left right zero small = left
+each_lane P left right (suc zero) small = right
+each_lane P left right (suc (suc j)) small = absurd (omega arith)
+
+-- the state after a block, from the registers of both lines before and after all rounds
+pub compress_in_lanes : {state left right last_left last_right : List ℕ}
+    (v : Parameters) (block : List ℕ) (start end : List (List ℕ))
+    → both_lines left right ≡ lines_from v state
+    → lane start 0 ≡ left → lane start 1 ≡ right
+    → both_lines (lane end 0) (lane end 1)
+    ≡ lines_after v block v.rounds (both_lines (lane start 0) (lane start 1))
+    → last_left ≡ lane end 0 → last_right ≡ lane end 1
+    → v.combination state last_left last_right ≡ compress v state block
+compress_in_lanes {state = state} {left = left} {last_right = last_right} v block start end from
+    left_start right_start after left_end right_end =
+    ap (λ l. v.combination state l last_right) left_end
+    ∙ ap (v.combination state (lane end 0)) right_end
+    ∙ compress_from (record {
+      same = after
+          ∙ ap (lines_after v block v.rounds)
+          (ap (λ l. both_lines l (lane start 1)) left_start ∙ ap (both_lines left) right_start ∙ from);
+    })

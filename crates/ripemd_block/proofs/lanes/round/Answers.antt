@@ -1,0 +1,33 @@
+use Rattle.std.proofs.Common.{◌<◌, refl, arith}
+use Rattle.ripemd_block.specs.Standard.Schedule.{left_line, right_line}
+use Rattle.ripemd_block.specs.Standard.Compression.{registers_after}
+use Rattle.ripemd_block.proofs.Stepping.{word_of_step, one_more_step}
+use Rattle.ripemd_block.proofs.TwoLanes.{each_lane}
+use Rattle.ripemd_block.proofs.lanes.round.Goals as goal
+
+pub step-next-requires-clause-amounts : goal.step-next-requires-clause-amounts
+step-next-requires-clause-amounts g c = each_lane _ c.rotation.ensures.range c.rotation-in-loop-i.ensures.range
+
+pub loop-i-init : goal.loop-i-init
+unfolding registers_after
+loop-i-init g c block words j small = refl
+
+pub loop-i-preserved : goal.loop-i-preserved
+loop-i-preserved g c block words =
+    let lane = g.R.Registers.lane in
+    let rounds = g.R.Registers.ROUNDS in
+    let r = c.args.r in
+    let i = c.loop-i.i in
+    let left = c.left_number-left.ensures in
+    let right = c.right_number-right.ensures in
+    let in_left : 0 < 2 = omega arith in
+    let in_right : 1 < 2 = omega arith in
+    each_lane _
+    (one_more_step left_line block r i (lane c.args.start 0) (lane c.loop-i.registers 0) (lane c.step-next.result 0)
+    c.left_number-left.result _ _ _ left.value (word_of_step block _ _ _ words left.small refl)
+    (c.constants-k.ensures 0 in_left) c.rotation.ensures.value (c.loop-i.invariant block words 0 in_left)
+    (c.step-next.ensures 0 in_left))
+    (one_more_step (right_line rounds) block r i (lane c.args.start 1) (lane c.loop-i.registers 1) (lane c.step-next.result 1)
+    c.right_number-right.result _ _ _ (right.value rounds) (word_of_step block _ _ _ words right.small refl)
+    (c.constants-k.ensures 1 in_right) c.rotation-in-loop-i.ensures.value (c.loop-i.invariant block words 1 in_right)
+    (c.step-next.ensures 1 in_right))

@@ -1,0 +1,11 @@
+-- In each lane the registers are those after the steps so far.
+use Rattle.std.proofs.Common.{◌≡◌, ◌<◌, ℕ, List}
+use Rattle.ripemd_block.specs.Standard.Compression.{registers_after}
+use Rattle.ripemd_block.specs.Code.Lines.{message_words}
+use Rattle.ripemd_block.specs.Code.Lanes.{line_of_lane}
+use Rattle.ripemd_block.proofs.lanes.round.Given as goal
+
+abbrev pub invariant-loop-i : goal.invariant-loop-i
+invariant-loop-i g l = (block : List ℕ) → l.words ≡ message_words block → (j : ℕ) → j < 2
+    → g.R.Registers.lane l.registers j
+    ≡ registers_after (line_of_lane g.R.Registers.ROUNDS j) block l.r l.i (g.R.Registers.lane l.fn.start j)

@@ -1,0 +1,281 @@
+//! Both lines of a block in lockstep, in the two lanes of vectors: lane 0 runs the left line, lane 1
+//! the right one, and each register is such a vector.
+
+ghost use Rattle.std.specs.Prelude.{◌≡◌, ◌<◌, ◌≤◌, ℕ, List, Some, length, slice_index};
+ghost use Rattle.std.specs.List.{All};
+ghost use Rattle.ripemd_block.specs.Standard.Words.{◌⊞◌, rol};
+ghost use Rattle.ripemd_block.specs.Standard.Schedule.{boolean_function};
+ghost use Rattle.ripemd_block.specs.Standard.Compression.{Parameters, step, round, exchange, lines_after};
+ghost use Rattle.ripemd_block.specs.Code.Lines.{both_lines, message_words};
+ghost use Rattle.ripemd_block.specs.Code.Lanes.{line_of_lane, lane};
+
+use crate::message::message_words;
+use crate::textbook::{
+    left_constant, left_number, right_constant_of_five_rounds, right_constant_of_four_rounds,
+    right_number, rotation,
+};
+use std::simd::prelude::*;
+
+/// The registers of both lines: as many vectors as a line has registers, which are as many as its
+/// rounds.
+pub(crate) trait Registers: Copy {
+    // The registers of the line in lane `j`.
+    ghost lane: { Self → ℕ → List ℕ };
+
+    ghost ROUNDS: { ℕ };
+
+    /// How many rounds a line runs.
+    const ROUNDS: usize;
+
+    /// The constants of round `r`.
+    fn constants(r: usize) -> u32x2
+        requires { r < ROUNDS }
+        ensures { (j : ℕ) → j < 2
+            → slice_index result j ≡ (line_of_lane ROUNDS j).constant r };
+
+    /// A step of both lines in round `r`, with the message words `x`, the constants `k` and rotations
+    /// by `s` bits.
+    fn step(self, r: usize, x: u32x2, k: u32x2, s: u32x2) -> Self
+        requires round { r < ROUNDS }
+        requires amounts { (j : ℕ) → j < 2 → (0 < slice_index s j) × (slice_index s j < 32) }
+        ensures { (j : ℕ) → j < 2 → lane result j
+            ≡ step ((line_of_lane ROUNDS j).function r) (slice_index x j) (slice_index k j)
+            (slice_index s j) (lane self j) };
+
+    /// The lines with register `i` exchanged between them.
+    fn exchange(self, i: usize) -> Self
+        requires { i < ROUNDS }
+        ensures { both_lines (lane result 0) (lane result 1)
+            ≡ exchange (Some i) (both_lines (lane self 0) (lane self 1)) };
+}
+
+// Boolean function `k` of three words, in each lane (1996, Boolean functions).
+#[inline(always)]
+fn boolean_function(k: usize, x: u32x2, y: u32x2, z: u32x2) -> u32x2
+    requires { k < 5 }
+    ensures { (j : ℕ) → j < 2 → slice_index result j
+        ≡ boolean_function k (slice_index x j) (slice_index y j) (slice_index z j) }
+{
+    match k {
+        0 => x ^ y ^ z,
+        1 => (x & y) | (!x & z),
+        2 => (x | !y) ^ z,
+        3 => (x & z) | (y & !z),
+        _ => x ^ (y | !z),
+    }
+}
+
+// Boolean function `left` in lane 0, and function `right` in lane 1.
+#[inline(always)]
+fn functions(left: usize, right: usize, x: u32x2, y: u32x2, z: u32x2) -> u32x2
+    requires left { left < 5 }
+    requires right { right < 5 }
+    ensures left { slice_index result 0
+        ≡ boolean_function left (slice_index x 0) (slice_index y 0) (slice_index z 0) }
+    ensures right { slice_index result 1
+        ≡ boolean_function right (slice_index x 1) (slice_index y 1) (slice_index z 1) }
+{
+    let is_left = u32x2::from_array([0, 1]).simd_eq(u32x2::splat(0));
+    let lefts = boolean_function(left, x, y, z);
+    let rights = boolean_function(right, x, y, z);
+    is_left.select(lefts, rights)
+}
+
+// The sums of two words, modulo 2^32, in each lane.
+#[inline(always)]
+fn sum(x: u32x2, y: u32x2) -> u32x2
+    ensures { (j : ℕ) → j < 2 → slice_index result j ≡ slice_index x j ⊞ slice_index y j }
+{
+    x + y
+}
+
+// Each word rotated to the left by the amount in its lane.
+#[inline(always)]
+fn rotate(words: u32x2, amounts: u32x2) -> u32x2
+    requires { (j : ℕ) → j < 2
+        → (0 < slice_index amounts j) × (slice_index amounts j < 32) }
+    ensures { (j : ℕ) → j < 2
+        → slice_index result j ≡ rol (slice_index words j) (slice_index amounts j) }
+{
+    (words << amounts) | (words >> (u32x2::splat(32) - amounts))
+}
+
+// The two lanes of a vector, swapped.
+#[inline(always)]
+fn swap(words: u32x2) -> u32x2
+    ensures left { slice_index result 0 ≡ slice_index words 1 }
+    ensures right { slice_index result 1 ≡ slice_index words 0 }
+{
+    words.reverse()
+}
+
+impl Registers for [u32x2; 4] {
+    ghost lane = { lane };
+
+    ghost ROUNDS = { 4 };
+
+    const ROUNDS: usize = 4;
+
+    #[inline(always)]
+    fn constants(r: usize) -> u32x2 {
+        u32x2::from_array([left_constant(r), right_constant_of_four_rounds(r)])
+    }
+
+    #[inline(always)]
+    fn step(self, r: usize, x: u32x2, k: u32x2, s: u32x2) -> [u32x2; 4] {
+        let [a, b, c, d] = self;
+        let t = rotate(sum(sum(sum(a, functions(r, 3 - r, b, c, d)), x), k), s);
+        [d, t, b, c]
+    }
+
+    #[inline(always)]
+    fn exchange(self, i: usize) -> [u32x2; 4] {
+        let [a, b, c, d] = self;
+        match i {
+            0 => [swap(a), b, c, d],
+            1 => [a, swap(b), c, d],
+            2 => [a, b, swap(c), d],
+            _ => [a, b, c, swap(d)],
+        }
+    }
+}
+
+impl Registers for [u32x2; 5] {
+    ghost lane = { lane };
+
+    ghost ROUNDS = { 5 };
+
+    const ROUNDS: usize = 5;
+
+    #[inline(always)]
+    fn constants(r: usize) -> u32x2 {
+        u32x2::from_array([left_constant(r), right_constant_of_five_rounds(r)])
+    }
+
+    #[inline(always)]
+    fn step(self, r: usize, x: u32x2, k: u32x2, s: u32x2) -> [u32x2; 5] {
+        let [a, b, c, d, e] = self;
+        let t = rotate(sum(sum(sum(a, functions(r, 4 - r, b, c, d)), x), k), s);
+        [e, sum(t, e), b, rotate(c, u32x2::splat(10)), d]
+    }
+
+    #[inline(always)]
+    fn exchange(self, i: usize) -> [u32x2; 5] {
+        let [a, b, c, d, e] = self;
+        match i {
+            0 => [swap(a), b, c, d, e],
+            1 => [a, swap(b), c, d, e],
+            2 => [a, b, swap(c), d, e],
+            3 => [a, b, c, swap(d), e],
+            _ => [a, b, c, d, swap(e)],
+        }
+    }
+}
+
+/// The registers of both lines, of four each.
+#[inline(always)]
+pub(crate) fn lanes_of_four(left: [u32; 4], right: [u32; 4]) -> [u32x2; 4]
+    ensures left { lane result 0 ≡ left }
+    ensures right { lane result 1 ≡ right }
+{
+    let [l0, l1, l2, l3] = left;
+    let [r0, r1, r2, r3] = right;
+    [
+        u32x2::from_array([l0, r0]),
+        u32x2::from_array([l1, r1]),
+        u32x2::from_array([l2, r2]),
+        u32x2::from_array([l3, r3]),
+    ]
+}
+
+/// The registers of both lines, of five each.
+#[inline(always)]
+pub(crate) fn lanes_of_five(left: [u32; 5], right: [u32; 5]) -> [u32x2; 5]
+    ensures left { lane result 0 ≡ left }
+    ensures right { lane result 1 ≡ right }
+{
+    let [l0, l1, l2, l3, l4] = left;
+    let [r0, r1, r2, r3, r4] = right;
+    [
+        u32x2::from_array([l0, r0]),
+        u32x2::from_array([l1, r1]),
+        u32x2::from_array([l2, r2]),
+        u32x2::from_array([l3, r3]),
+        u32x2::from_array([l4, r4]),
+    ]
+}
+
+/// The four registers of the line in lane `j`.
+#[inline(always)]
+pub(crate) fn lane_of_four(registers: [u32x2; 4], j: usize) -> [u32; 4]
+    requires { j < 2 }
+    ensures { result ≡ lane registers j }
+{
+    let [a, b, c, d] = registers;
+    [
+        a.to_array()[j],
+        b.to_array()[j],
+        c.to_array()[j],
+        d.to_array()[j],
+    ]
+}
+
+/// The five registers of the line in lane `j`.
+#[inline(always)]
+pub(crate) fn lane_of_five(registers: [u32x2; 5], j: usize) -> [u32; 5]
+    requires { j < 2 }
+    ensures { result ≡ lane registers j }
+{
+    let [a, b, c, d, e] = registers;
+    [
+        a.to_array()[j],
+        b.to_array()[j],
+        c.to_array()[j],
+        d.to_array()[j],
+        e.to_array()[j],
+    ]
+}
+
+// Round `r` of both lines: sixteen steps.
+#[inline(always)]
+fn round<R: Registers>(r: usize, words: &[u32; 16], start: R) -> R
+    requires round { r < R.ROUNDS }
+    requires most { R.ROUNDS ≤ 5 }
+    ensures { (block : List ℕ) → words.now ≡ message_words block → (j : ℕ) → j < 2
+        → R.lane result j ≡ round (line_of_lane R.ROUNDS j) block r (R.lane start j) }
+{
+    let k = R::constants(r);
+    let mut registers = start;
+    for i in 0..16 {
+        let left = left_number(r, i);
+        let right = right_number(r, i);
+        let x = u32x2::from_array([words[left], words[right]]);
+        let s = u32x2::from_array([rotation(r, left), rotation(r, right)]);
+        let next = registers.step(r, x, k, s);
+        registers = next;
+    }
+    registers
+}
+
+/// Both lines through their rounds on a block, with an exchange of one register after each round where
+/// `exchanges` has one for it.
+#[inline(always)]
+pub(crate) fn lines_after<R: Registers>(exchanges: &[usize], block: &[u8; 64], start: R) -> R
+    requires exchanges { All (λ i. i < R.ROUNDS) exchanges.now }
+    requires most { R.ROUNDS ≤ 5 }
+    ensures { (v : Parameters) → v.rounds ≡ R.ROUNDS → v.exchanges ≡ exchanges.now
+        → both_lines (R.lane result 0) (R.lane result 1)
+        ≡ lines_after v block.now v.rounds (both_lines (R.lane start 0) (R.lane start 1)) }
+{
+    let words = message_words(block).to_array();
+    let mut registers = start;
+    for r in 0..R::ROUNDS {
+        let next = round(r, &words, registers);
+        registers = next;
+        if let Some(i) = exchanges.get(r) {
+            let next = registers.exchange(*i);
+            registers = next;
+        }
+    }
+    registers
+}
