@@ -11,8 +11,8 @@ ghost use Rattle.ripemd_block.specs.Code.Lanes.{line_of_lane, lane};
 
 use crate::message::message_words;
 use crate::textbook::{
-    left_constant, left_number, right_constant_of_five_rounds, right_constant_of_four_rounds,
-    right_number, rotation,
+    amounts, left_constant, left_number, right_constant_of_five_rounds,
+    right_constant_of_four_rounds, right_number,
 };
 use std::simd::prelude::*;
 
@@ -250,8 +250,8 @@ fn round<R: Registers>(r: usize, words: &[u32; 16], start: R) -> R
         let left = left_number(r, i);
         let right = right_number(r, i);
         let x = u32x2::from_array([words[left], words[right]]);
-        let s = u32x2::from_array([rotation(r, left), rotation(r, right)]);
-        let next = registers.step(r, x, k, s);
+        let s = amounts(r, i);
+        let next = registers.step(r, x, k, u32x2::from_array(s));
         registers = next;
     }
     registers

@@ -7,7 +7,7 @@ ghost use Rattle.ripemd_block.specs.Code.Lines.{both_lines, HasWords};
 
 use super::steps::{sum, words_with};
 use crate::textbook::{
-    left_constant, left_number, right_constant_of_four_rounds, right_number, rotation,
+    amounts, left_constant, left_number, right_constant_of_four_rounds, right_number,
 };
 
 /// The registers of both lines.
@@ -73,8 +73,7 @@ fn step_at(r: usize, i: usize, words: &Words, lines: Lines) -> Lines
 {
     let left = left_number(r, i);
     let right = right_number(r, i);
-    let left_amount = rotation(r, left);
-    let right_amount = rotation(r, right);
+    let [left_amount, right_amount] = amounts(r, i);
     Lines {
         left: step(r, words.left[r][left], left_amount, lines.left),
         right: step(3 - r, words.right[r][right], right_amount, lines.right),

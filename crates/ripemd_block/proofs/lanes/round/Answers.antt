@@ -6,7 +6,7 @@ use Rattle.ripemd_block.proofs.TwoLanes.{each_lane}
 use Rattle.ripemd_block.proofs.lanes.round.Goals as goal
 
 pub step-next-requires-clause-amounts : goal.step-next-requires-clause-amounts
-step-next-requires-clause-amounts g c = each_lane _ c.rotation.ensures.range c.rotation-in-loop-i.ensures.range
+step-next-requires-clause-amounts g c = each_lane _ c.amounts-s.ensures.left_range c.amounts-s.ensures.right_range
 
 pub loop-i-init : goal.loop-i-init
 unfolding registers_after
@@ -24,10 +24,10 @@ loop-i-preserved g c block words =
     let in_right : 1 < 2 = omega arith in
     each_lane _
     (one_more_step left_line block r i (lane c.args.start 0) (lane c.loop-i.registers 0) (lane c.step-next.result 0)
-    c.left_number-left.result _ _ _ left.value (word_of_step block _ _ _ words left.small refl)
-    (c.constants-k.ensures 0 in_left) c.rotation.ensures.value (c.loop-i.invariant block words 0 in_left)
+    (left_line.word_number r i) _ _ _ refl (word_of_step block _ _ _ words left.small left.value)
+    (c.constants-k.ensures 0 in_left) c.amounts-s.ensures.left (c.loop-i.invariant block words 0 in_left)
     (c.step-next.ensures 0 in_left))
     (one_more_step (right_line rounds) block r i (lane c.args.start 1) (lane c.loop-i.registers 1) (lane c.step-next.result 1)
-    c.right_number-right.result _ _ _ (right.value rounds) (word_of_step block _ _ _ words right.small refl)
-    (c.constants-k.ensures 1 in_right) c.rotation-in-loop-i.ensures.value (c.loop-i.invariant block words 1 in_right)
+    ((right_line rounds).word_number r i) _ _ _ refl (word_of_step block _ _ _ words right.small (right.value rounds))
+    (c.constants-k.ensures 1 in_right) (c.amounts-s.ensures.right rounds) (c.loop-i.invariant block words 1 in_right)
     (c.step-next.ensures 1 in_right))
