@@ -80,25 +80,29 @@ enum {
   CELLS = KEY_CELLS + KEYS_COUNT
 };
 
-// A library's functions by variant, NULL where it has none, and the times of each cell. A tag
-// is made from a copy of the state after the key, which the library keeps; ours hashes the key once
-// for a list. The functions of messages in pieces and of keys are those of RIPEMD-160.
+// A library's functions, NULL where it has none, and the times of each cell. They have the arguments of
+// ours, the variant and lengths of what is written among them, of which others take what they need. A tag
+// is made from a copy of the state after the key, which the library keeps; ours hashes the key once for a
+// list. The functions of messages in pieces and of keys are those of RIPEMD-160.
 struct library {
   char name[80];
-  void (*digest[VARIANTS])(const uint8_t *message, size_t length, uint8_t *digest);
-  void (*tag[VARIANTS])(const uint8_t *text, size_t length, uint8_t *tag);
-  bool (*each[VARIANTS])(const uint8_t *bytes, size_t length, size_t size, uint8_t *digests,
-                         size_t count);
-  bool (*tag_each[VARIANTS])(const uint8_t *key, size_t key_length, const uint8_t *bytes,
-                             size_t length, size_t size, uint8_t *tags, size_t count);
+  bool all; // the variants, or RIPEMD-160 alone
+  bool (*digest)(int variant, const uint8_t *message, size_t length, uint8_t *digest,
+                 size_t digest_length);
+  void (*tag)(const uint8_t *text, size_t length, uint8_t *tag);
+  bool (*each)(int variant, const uint8_t *records, size_t length, size_t size, uint8_t *digests,
+               size_t digests_length);
+  bool (*tag_each)(int variant, const uint8_t *key, size_t key_length, const uint8_t *records,
+                   size_t length, size_t size, uint8_t *tags, size_t tags_length);
   void *state;
-  void (*init)(void *state);
+  bool (*init)(int variant, void *state);
   bool (*update)(void *state, const uint8_t *bytes, size_t length);
-  bool (*final)(void *state, uint8_t *digest);
-  bool (*derive)(const uint8_t *password, size_t password_length, const uint8_t *salt,
+  bool (*final)(void *state, uint8_t *digest, size_t digest_length);
+  bool (*derive)(int variant, const uint8_t *password, size_t password_length, const uint8_t *salt,
                  size_t salt_length, uint32_t rounds, uint8_t *key, size_t key_length);
-  bool (*derive_list)(const struct iovec *passwords, const struct iovec *salts, size_t count,
-                      uint32_t rounds, uint8_t *keys, size_t key_length);
+  bool (*derive_list)(int variant, const struct iovec *passwords, size_t count,
+                      const struct iovec *salts, size_t salt_count, uint32_t rounds, size_t size,
+                      uint8_t *keys, size_t keys_length);
   struct time {
     double least, in_round;     // seconds, of all rounds and of this one
     double ratios[MOST_ROUNDS]; // to the fastest of the others, of ours, in single rounds
@@ -146,17 +150,23 @@ static void *rhash_context;
 static void (*rhash_reset)(void *);
 static int (*rhash_update)(void *, const void *, size_t);
 static int (*rhash_final)(void *, unsigned char *);
-static void by_rhash(const uint8_t *message, size_t length, uint8_t *digest) {
+static bool by_rhash(int variant, const uint8_t *message, size_t length, uint8_t *digest,
+                     size_t digest_length) {
   rhash_reset(rhash_context);
   rhash_update(rhash_context, message, length);
-  rhash_final(rhash_context, digest);
+  return !rhash_final(rhash_context, digest);
 }
 
-static void rhash_begin(void *context) { rhash_reset(context); }
+static bool rhash_begin(int variant, void *context) {
+  rhash_reset(context);
+  return true;
+}
 static bool rhash_piece(void *context, const uint8_t *bytes, size_t length) {
   return !rhash_update(context, bytes, length);
 }
-static bool rhash_end(void *context, uint8_t *digest) { return !rhash_final(context, digest); }
+static bool rhash_end(void *context, uint8_t *digest, size_t digest_length) {
+  return !rhash_final(context, digest);
+}
 
 static void add_rhash(void *from) {
   void (*rhash_library_init)(void);
@@ -171,7 +181,7 @@ static void add_rhash(void *from) {
   snprintf(version, sizeof version, "%u.%u.%u", number >> 24, number >> 16 & 255,
            number >> 8 & 255);
   struct library *rhash = add("RHash", version);
-  rhash->digest[1] = by_rhash;
+  rhash->digest = by_rhash;
   rhash->state = rhash_context;
   rhash->init = rhash_begin;
   rhash->update = rhash_piece;
@@ -179,8 +189,10 @@ static void add_rhash(void *from) {
 }
 
 static void (*gcry_md_hash_buffer)(int, void *, const void *, size_t);
-static void by_gcrypt(const uint8_t *message, size_t length, uint8_t *digest) {
+static bool by_gcrypt(int variant, const uint8_t *message, size_t length, uint8_t *digest,
+                      size_t digest_length) {
   gcry_md_hash_buffer(3, digest, message, length); // RIPEMD-160
+  return true;
 }
 
 static void *gcrypt_keyed;
@@ -195,8 +207,9 @@ static void tag_by_gcrypt(const uint8_t *text, size_t length, uint8_t *tag) {
 
 static unsigned (*gcry_kdf_derive)(const void *, size_t, int, int, const void *, size_t,
                                    unsigned long, size_t, void *);
-static bool derive_by_gcrypt(const uint8_t *password, size_t password_length, const uint8_t *salt,
-                             size_t salt_length, uint32_t rounds, uint8_t *key, size_t key_length) {
+static bool derive_by_gcrypt(int variant, const uint8_t *password, size_t password_length,
+                             const uint8_t *salt, size_t salt_length, uint32_t rounds, uint8_t *key,
+                             size_t key_length) {
   return !gcry_kdf_derive(password, password_length, 34, 3, salt, salt_length, rounds, key_length,
                           key); // 34: PBKDF2
 }
@@ -213,10 +226,10 @@ static void add_gcrypt(void *from) {
   struct library *gcrypt = add("libgcrypt", gcry_check_version(NULL));
   gcry_control(37, 0); // no secure memory
   gcry_control(38, 0); // initialized
-  gcrypt->digest[1] = by_gcrypt;
+  gcrypt->digest = by_gcrypt;
   if (gcry_md_open(&gcrypt_keyed, 3, 2) || gcry_md_setkey(gcrypt_keyed, key, sizeof key)) // HMAC
     fail("libgcrypt", "it takes no key");
-  gcrypt->tag[1] = tag_by_gcrypt;
+  gcrypt->tag = tag_by_gcrypt;
   gcrypt->derive = derive_by_gcrypt;
 }
 
@@ -224,16 +237,13 @@ static void *av_context;
 static int (*av_ripemd_init)(void *, int);
 static void (*av_ripemd_update)(void *, const uint8_t *, size_t);
 static void (*av_ripemd_final)(void *, uint8_t *);
-#define BY_AVUTIL(bits)                                                                            \
-  static void by_avutil_##bits(const uint8_t *message, size_t length, uint8_t *digest) {           \
-    av_ripemd_init(av_context, bits);                                                              \
-    av_ripemd_update(av_context, message, length);                                                 \
-    av_ripemd_final(av_context, digest);                                                           \
-  }
-BY_AVUTIL(128)
-BY_AVUTIL(160)
-BY_AVUTIL(256)
-BY_AVUTIL(320)
+static bool by_avutil(int variant, const uint8_t *message, size_t length, uint8_t *digest,
+                      size_t digest_length) {
+  av_ripemd_init(av_context, variant);
+  av_ripemd_update(av_context, message, length);
+  av_ripemd_final(av_context, digest);
+  return true;
+}
 
 static void add_avutil(void *from) {
   void *(*av_ripemd_alloc)(void);
@@ -242,18 +252,17 @@ static void add_avutil(void *from) {
   TAKE(from, av_ripemd_final), TAKE(from, av_version_info);
   av_context = av_ripemd_alloc();
   struct library *avutil = add("libavutil", av_version_info());
-  avutil->digest[0] = by_avutil_128;
-  avutil->digest[1] = by_avutil_160;
-  avutil->digest[2] = by_avutil_256;
-  avutil->digest[3] = by_avutil_320;
+  avutil->all = true;
+  avutil->digest = by_avutil;
 }
 
 static void (*nettle_hmac_ripemd160_set_key)(void *, size_t, const uint8_t *);
 static void *nettle_hmac_ripemd160_update, *nettle_hmac_ripemd160_digest;
 static void (*nettle_pbkdf2)(void *, void *, void *, size_t, unsigned, size_t, const uint8_t *,
                              size_t, uint8_t *);
-static bool derive_by_nettle(const uint8_t *password, size_t password_length, const uint8_t *salt,
-                             size_t salt_length, uint32_t rounds, uint8_t *key, size_t key_length) {
+static bool derive_by_nettle(int variant, const uint8_t *password, size_t password_length,
+                             const uint8_t *salt, size_t salt_length, uint32_t rounds, uint8_t *key,
+                             size_t key_length) {
   uint64_t context[128]; // more than an HMAC state has
   nettle_hmac_ripemd160_set_key(context, password_length, password);
   nettle_pbkdf2(context, nettle_hmac_ripemd160_update, nettle_hmac_ripemd160_digest, 20, rounds,
@@ -272,8 +281,9 @@ static void add_nettle(void *from) {
 }
 
 static unsigned char *(*RIPEMD160)(const unsigned char *, size_t, unsigned char *);
-static void by_openssl(const uint8_t *message, size_t length, uint8_t *digest) {
-  RIPEMD160(message, length, digest);
+static bool by_openssl(int variant, const uint8_t *message, size_t length, uint8_t *digest,
+                       size_t digest_length) {
+  return RIPEMD160(message, length, digest);
 }
 
 static void *openssl_keyed;
@@ -290,21 +300,21 @@ static const void *(*EVP_ripemd160)(void);
 static int (*EVP_DigestInit_ex)(void *, const void *, void *);
 static int (*EVP_DigestUpdate)(void *, const void *, size_t);
 static int (*EVP_DigestFinal_ex)(void *, unsigned char *, unsigned *);
-static void openssl_init(void *context) {
-  EVP_DigestInit_ex(context, EVP_ripemd160(), NULL);
+static bool openssl_init(int variant, void *context) {
+  return EVP_DigestInit_ex(context, EVP_ripemd160(), NULL);
 }
 static bool openssl_update(void *context, const uint8_t *bytes, size_t length) {
   return EVP_DigestUpdate(context, bytes, length);
 }
-static bool openssl_final(void *context, uint8_t *digest) {
+static bool openssl_final(void *context, uint8_t *digest, size_t digest_length) {
   return EVP_DigestFinal_ex(context, digest, NULL);
 }
 
 static int (*PKCS5_PBKDF2_HMAC)(const void *, int, const unsigned char *, int, int, const void *,
                                 int, unsigned char *);
-static bool derive_by_openssl(const uint8_t *password, size_t password_length, const uint8_t *salt,
-                              size_t salt_length, uint32_t rounds, uint8_t *key,
-                              size_t key_length) {
+static bool derive_by_openssl(int variant, const uint8_t *password, size_t password_length,
+                              const uint8_t *salt, size_t salt_length, uint32_t rounds,
+                              uint8_t *key, size_t key_length) {
   return PKCS5_PBKDF2_HMAC(password, password_length, salt, salt_length, rounds, EVP_ripemd160(),
                            key_length, key);
 }
@@ -317,10 +327,10 @@ static void add_openssl(void *from) {
   TAKE(from, HMAC_Final), TAKE(from, EVP_MD_CTX_new), TAKE(from, EVP_DigestInit_ex);
   TAKE(from, EVP_DigestUpdate), TAKE(from, EVP_DigestFinal_ex), TAKE(from, PKCS5_PBKDF2_HMAC);
   struct library *openssl = add("OpenSSL", OpenSSL_version(6)); // 6: the number alone
-  openssl->digest[1] = by_openssl;
+  openssl->digest = by_openssl;
   openssl_keyed = HMAC_CTX_new();
   if (HMAC_Init_ex(openssl_keyed, key, sizeof key, EVP_ripemd160(), NULL)) {
-    openssl->tag[1] = tag_by_openssl;
+    openssl->tag = tag_by_openssl;
     openssl->derive = derive_by_openssl;
   }
   openssl->state = EVP_MD_CTX_new();
@@ -341,67 +351,66 @@ static void add_ours(char *argument) {
   if (!from)
     fail(file, dlerror());
   struct library *added = add("ours, built for", argument);
-  for (int v = 0; v < VARIANTS; v++) {
-    char name[40];
-    snprintf(name, sizeof name, "nattizhu_ripemd%d", 8 * SIZES[v]);
-    *(void **)&added->digest[v] = function(from, name);
-    snprintf(name, sizeof name, "nattizhu_ripemd%d_each", 8 * SIZES[v]);
-    *(void **)&added->each[v] = function(from, name);
-    snprintf(name, sizeof name, "nattizhu_hmac_ripemd%d_each", 8 * SIZES[v]);
-    *(void **)&added->tag_each[v] = function(from, name);
-  }
-  static uint8_t states[MOST][92];
+  added->all = true;
+  *(void **)&added->digest = function(from, "nattizhu_digest");
+  *(void **)&added->each = function(from, "nattizhu_each");
+  *(void **)&added->tag_each = function(from, "nattizhu_hmac_each");
+  static uint8_t states[MOST][113];
   added->state = states[added - libraries];
-  *(void **)&added->init = function(from, "nattizhu_ripemd160_init");
-  *(void **)&added->update = function(from, "nattizhu_ripemd160_update");
-  *(void **)&added->final = function(from, "nattizhu_ripemd160_final");
-  *(void **)&added->derive = function(from, "nattizhu_pbkdf2_ripemd160");
-  *(void **)&added->derive_list = function(from, "nattizhu_pbkdf2_ripemd160_list");
+  *(void **)&added->init = function(from, "nattizhu_init");
+  *(void **)&added->update = function(from, "nattizhu_update");
+  *(void **)&added->final = function(from, "nattizhu_final");
+  *(void **)&added->derive = function(from, "nattizhu_pbkdf2");
+  *(void **)&added->derive_list = function(from, "nattizhu_pbkdf2_list");
 }
 
 // ---- what they answer, and how fast
 
 static void perform(const struct library *by, int v, const struct task *task) {
-  size_t length = task->count * task->size;
-  if (task->keyed && by->tag_each[v])
-    by->tag_each[v](key, sizeof key, bytes, length, task->size, digests, task->count);
-  else if (!task->keyed && by->each[v] && task->count > 1)
-    by->each[v](bytes, length, task->size, digests, task->count);
+  size_t length = task->count * task->size, size = SIZES[v], all = task->count * size;
+  if (task->keyed && by->tag_each)
+    by->tag_each(8 * size, key, sizeof key, bytes, length, task->size, digests, all);
+  else if (!task->keyed && by->each && task->count > 1)
+    by->each(8 * size, bytes, length, task->size, digests, all);
   else
     for (size_t i = 0; i < task->count; i++)
-      (task->keyed ? by->tag : by->digest)[v](bytes + i * task->size, task->size,
-                                              digests + i * SIZES[v]);
+      if (task->keyed)
+        by->tag(bytes + i * task->size, task->size, digests + i * size);
+      else
+        by->digest(8 * size, bytes + i * task->size, task->size, digests + i * size, size);
 }
 
 // Whether the library has a function for it.
 static int has(const struct library *by, int v, const struct task *task) {
-  return task->keyed ? by->tag[v] || by->tag_each[v] : by->digest[v] != NULL;
+  return (by->all || v == 1) && (task->keyed ? by->tag || by->tag_each : by->digest != NULL);
 }
 
-static void check_tag(const struct library *by, int v) {
-  uint8_t tag[40], wanted[20];
+static void check_tag(const struct library *by) {
+  uint8_t tag[20], wanted[20];
   for (int i = 0; i < 20; i++)
     sscanf(TAG + 2 * i, "%2hhx", &wanted[i]);
   for (int again = 0; again < 2; again++) {
-    if (by->tag_each[v])
-      by->tag_each[v](key, sizeof key, (const uint8_t *)TEXT, strlen(TEXT), strlen(TEXT), tag, 1);
+    if (by->tag_each)
+      by->tag_each(160, key, sizeof key, (const uint8_t *)TEXT, strlen(TEXT), strlen(TEXT), tag,
+                   20);
     else
-      by->tag[v]((const uint8_t *)TEXT, strlen(TEXT), tag);
+      by->tag((const uint8_t *)TEXT, strlen(TEXT), tag);
     if (memcmp(tag, wanted, 20))
       fail(by->name, "a wrong tag");
   }
 }
 
 static void check(const struct library *by, int v) {
+  const int size = SIZES[v], bits = 8 * size;
   uint8_t digest[40], wanted[40];
-  for (int i = 0; i < SIZES[v]; i++)
+  for (int i = 0; i < size; i++)
     sscanf(DIGESTS[v] + 2 * i, "%2hhx", &wanted[i]);
-  by->digest[v]((const uint8_t *)MESSAGE, strlen(MESSAGE), digest);
-  int wrong = memcmp(digest, wanted, SIZES[v]);
+  by->digest(bits, (const uint8_t *)MESSAGE, strlen(MESSAGE), digest, size);
+  int wrong = memcmp(digest, wanted, size);
   for (size_t length = 0; length < 300; length++) {
-    by->digest[v](bytes + length, length, digest);
-    libraries[0].digest[v](bytes + length, length, wanted);
-    wrong |= memcmp(digest, wanted, SIZES[v]);
+    by->digest(bits, bytes + length, length, digest, size);
+    libraries[0].digest(bits, bytes + length, length, wanted, size);
+    wrong |= memcmp(digest, wanted, size);
   }
   for (int t = 0; t < TASKS_COUNT; t++) {
     if (TASKS[t].keyed)
@@ -409,8 +418,8 @@ static void check(const struct library *by, int v) {
     memset(digests, 0, sizeof digests);
     perform(by, v, &TASKS[t]);
     for (size_t i = 0; i < TASKS[t].count; i++) {
-      libraries[0].digest[v](bytes + i * TASKS[t].size, TASKS[t].size, wanted);
-      wrong |= memcmp(digests + i * SIZES[v], wanted, SIZES[v]);
+      libraries[0].digest(bits, bytes + i * TASKS[t].size, TASKS[t].size, wanted, size);
+      wrong |= memcmp(digests + i * size, wanted, size);
     }
   }
   if (wrong)
@@ -422,20 +431,20 @@ static void check_pieces(const struct library *by) {
   uint8_t digest[20], wanted[20];
   for (int i = 0; i < 20; i++)
     sscanf(DIGESTS[1] + 2 * i, "%2hhx", &wanted[i]);
-  by->init(by->state);
+  by->init(160, by->state);
   for (const char *at = MESSAGE; *at; at++)
     by->update(by->state, (const uint8_t *)at, 1);
-  if (!by->final(by->state, digest) || memcmp(digest, wanted, 20))
+  if (!by->final(by->state, digest, 20) || memcmp(digest, wanted, 20))
     fail(by->name, "a wrong digest of pieces");
 }
 
 static void derive(const struct library *by, int k) {
-  size_t length = KEYS[k].length;
-  if (by->derive_list && KEYS[k].count > 1)
-    by->derive_list(passwords, salts, KEYS[k].count, KEY_ROUNDS, digests, length);
+  size_t length = KEYS[k].length, n = KEYS[k].count;
+  if (by->derive_list && n > 1)
+    by->derive_list(160, passwords, n, salts, n, KEY_ROUNDS, length, digests, n * length);
   else
-    for (size_t i = 0; i < KEYS[k].count; i++)
-      by->derive(passwords[i].iov_base, PASSWORD, salts[i].iov_base, PASSWORD, KEY_ROUNDS,
+    for (size_t i = 0; i < n; i++)
+      by->derive(160, passwords[i].iov_base, PASSWORD, salts[i].iov_base, PASSWORD, KEY_ROUNDS,
                  digests + i * length, length);
 }
 
@@ -445,15 +454,15 @@ static void check_keys(const struct library *by) {
     password[i] = i + 1, salt[i] = i;
   for (int i = 0; i < DERIVED_SIZE; i++)
     sscanf(DERIVED + 2 * i, "%2hhx", &wanted[i]);
-  int wrong = !by->derive(password, PASSWORD, salt, PASSWORD, 3, derived, DERIVED_SIZE) ||
+  int wrong = !by->derive(160, password, PASSWORD, salt, PASSWORD, 3, derived, DERIVED_SIZE) ||
               memcmp(derived, wanted, DERIVED_SIZE);
   for (int k = 0; k < KEYS_COUNT; k++) {
     size_t length = KEYS[k].length;
     memset(digests, 0, sizeof digests);
     derive(by, k);
     for (size_t i = 0; i < KEYS[k].count; i++) {
-      libraries[0].derive(passwords[i].iov_base, PASSWORD, salts[i].iov_base, PASSWORD, KEY_ROUNDS,
-                          wanted, length);
+      libraries[0].derive(160, passwords[i].iov_base, PASSWORD, salts[i].iov_base, PASSWORD,
+                          KEY_ROUNDS, wanted, length);
       wrong |= memcmp(digests + i * length, wanted, length);
     }
   }
@@ -488,9 +497,9 @@ static void repeat(struct library *by, int cell, int times) {
       by->update(by->state, bytes, PIECES[c]);
   else if (c < CALLS_COUNT)
     for (int i = 0; i < times; i++) {
-      by->init(by->state);
+      by->init(160, by->state);
       if (c == INIT_AND_FINAL)
-        by->final(by->state, digests);
+        by->final(by->state, digests, 20);
     }
   else
     for (int i = 0; i < times; i++) {
@@ -518,7 +527,7 @@ static void measure(struct library *by, int cell) {
   int batch = batch_of(cell);
   time->in_round = 0;
   if (cell >= PIECE_CELLS && cell < KEY_CELLS)
-    by->init(by->state);
+    by->init(160, by->state);
   for (int s = 0; s < SLICES; s++) {
     double start = now(), taken;
     int calls = 0;
@@ -686,11 +695,11 @@ int main(int argc, char **argv) {
     add_openssl(found);
   for (int v = 0; v < VARIANTS; v++)
     for (int l = 0; l < count; l++)
-      if (libraries[l].digest[v])
+      if (has(&libraries[l], v, &TASKS[0]))
         check(&libraries[l], v);
   for (int l = 0; l < count; l++)
-    if (libraries[l].tag[1] || libraries[l].tag_each[1])
-      check_tag(&libraries[l], 1);
+    if (libraries[l].tag || libraries[l].tag_each)
+      check_tag(&libraries[l]);
   for (int l = 0; l < count; l++)
     if (libraries[l].update)
       check_pieces(&libraries[l]);

@@ -1,20 +1,45 @@
-/* The functions of nattizhu.h over the proved ones of this crate, whose names end in `_nonnull`: they
- * put a pointer that is not null in place of one that leads to nothing, or choose the variant. All
- * others (init and final) are those of the crate. */
+/* The functions of nattizhu.h over the proved ones of this crate, whose names end in `_nonnull`:
+ * they put a pointer that is not null in place of one that leads to nothing, and hand lists on in
+ * groups. */
 #include "nattizhu.h"
-
-#include <string.h>
 
 /* Messages that are handed on at once. */
 enum { GROUP = 128 };
 
-const char *nattizhu_version(void) { return NATTIZHU_VERSION; }
+bool nattizhu_digest_nonnull(nattizhu_variant, const uint8_t *, size_t, uint8_t *, size_t);
+bool nattizhu_each_nonnull(nattizhu_variant, const uint8_t *, size_t, size_t, uint8_t *, size_t);
+bool nattizhu_list_nonnull(nattizhu_variant, const nattizhu_message *, size_t, uint8_t *, size_t);
+bool nattizhu_update_nonnull(nattizhu_state *, const uint8_t *, size_t);
+bool nattizhu_final_nonnull(const nattizhu_state *, uint8_t *, size_t);
+bool nattizhu_hmac_nonnull(nattizhu_variant, const uint8_t *, size_t, const uint8_t *, size_t,
+                           uint8_t *, size_t);
+bool nattizhu_hmac_verify_text_nonnull(nattizhu_variant, const uint8_t *, size_t, const uint8_t *,
+                                       size_t, const uint8_t *, size_t);
+bool nattizhu_hmac_each_nonnull(nattizhu_variant, const uint8_t *, size_t, const uint8_t *, size_t,
+                                size_t, uint8_t *, size_t);
+bool nattizhu_hmac_list_nonnull(nattizhu_variant, const uint8_t *, size_t, const nattizhu_message *,
+                                size_t, uint8_t *, size_t);
+bool nattizhu_hmac_init_nonnull(nattizhu_variant, nattizhu_hmac_state *, const uint8_t *, size_t);
+bool nattizhu_hmac_update_nonnull(nattizhu_hmac_state *, const uint8_t *, size_t);
+bool nattizhu_hmac_final_nonnull(const nattizhu_hmac_state *, uint8_t *, size_t);
+bool nattizhu_hmac_verify_nonnull(const nattizhu_hmac_state *, const uint8_t *, size_t);
+bool nattizhu_pbkdf2_nonnull(nattizhu_variant, const uint8_t *, size_t, const uint8_t *, size_t,
+                             uint32_t, uint8_t *, size_t);
+bool nattizhu_pbkdf2_list_nonnull(nattizhu_variant, const nattizhu_message *, size_t,
+                                  const nattizhu_message *, size_t, uint32_t, size_t, uint8_t *,
+                                  size_t);
 
 /* A pointer that is not null, in place of one that leads to no bytes. */
 static const uint8_t *some(const uint8_t *bytes) { return bytes ? bytes : (const uint8_t *)""; }
 
-/* The messages of a list from a place on, a group at most, with no null pointer among them. Returns how
- * many. */
+/* The same of a place to which nothing is written. */
+static uint8_t *place(uint8_t *bytes) {
+  static uint8_t none[1];
+  return bytes ? bytes : none;
+}
+
+/* The messages of a list from a place on, a group at most, with no null pointer among them. Returns
+ * how many. */
 static size_t next_group(nattizhu_message group[GROUP], const nattizhu_message *messages, size_t at,
                          size_t count) {
   size_t n = count - at < GROUP ? count - at : GROUP;
@@ -25,330 +50,133 @@ static size_t next_group(nattizhu_message group[GROUP], const nattizhu_message *
   return n;
 }
 
-#define FUNCTIONS(bits, SIZE)                                                                      \
-  void nattizhu_ripemd##bits##_nonnull(const uint8_t *, size_t, uint8_t *);                        \
-  bool nattizhu_ripemd##bits##_each_nonnull(const uint8_t *, size_t, size_t, uint8_t(*)[SIZE],     \
-                                            size_t);                                               \
-  bool nattizhu_ripemd##bits##_list_nonnull(const nattizhu_message *, size_t, uint8_t(*)[SIZE],    \
-                                            size_t);                                               \
-  bool nattizhu_ripemd##bits##_update_nonnull(nattizhu_ripemd##bits##_state *, const uint8_t *,    \
-                                              size_t);                                             \
-  void nattizhu_hmac_ripemd##bits##_nonnull(const uint8_t *, size_t, const uint8_t *, size_t,      \
-                                            uint8_t *);                                            \
-  bool nattizhu_hmac_ripemd##bits##_verify_text_nonnull(const uint8_t *, size_t, const uint8_t *,  \
-                                                        size_t, const uint8_t *, size_t);          \
-  bool nattizhu_hmac_ripemd##bits##_each_nonnull(const uint8_t *, size_t, const uint8_t *, size_t, \
-                                                 size_t, uint8_t(*)[SIZE], size_t);                \
-  bool nattizhu_hmac_ripemd##bits##_list_nonnull(                                                  \
-      const uint8_t *, size_t, const nattizhu_message *, size_t, uint8_t(*)[SIZE], size_t);        \
-  void nattizhu_hmac_ripemd##bits##_init_nonnull(nattizhu_hmac_ripemd##bits##_state *,             \
-                                                 const uint8_t *, size_t);                         \
-  bool nattizhu_hmac_ripemd##bits##_update_nonnull(nattizhu_hmac_ripemd##bits##_state *,           \
-                                                   const uint8_t *, size_t);                       \
-  bool nattizhu_hmac_ripemd##bits##_verify_nonnull(const nattizhu_hmac_ripemd##bits##_state *,     \
-                                                   const uint8_t *, size_t);                       \
-  bool nattizhu_pbkdf2_ripemd##bits##_nonnull(const uint8_t *, size_t, const uint8_t *, size_t,    \
-                                              uint32_t, uint8_t *, size_t);                        \
-  bool nattizhu_pbkdf2_ripemd##bits##_list_nonnull(const nattizhu_message *, size_t,               \
-                                                   const nattizhu_message *, size_t, uint32_t,     \
-                                                   size_t, uint8_t *, size_t);                     \
-                                                                                                   \
-  void nattizhu_ripemd##bits(const uint8_t *message, size_t length, uint8_t digest[SIZE]) {        \
-    nattizhu_ripemd##bits##_nonnull(some(message), length, digest);                                \
-  }                                                                                                \
-                                                                                                   \
-  bool nattizhu_ripemd##bits##_each(const uint8_t *bytes, size_t length, size_t size,              \
-                                    uint8_t (*digests)[SIZE], size_t count) {                      \
-    uint8_t none[1][SIZE];                                                                         \
-    return nattizhu_ripemd##bits##_each_nonnull(some(bytes), length, size,                         \
-                                                digests ? digests : none, count);                  \
-  }                                                                                                \
-                                                                                                   \
-  void nattizhu_ripemd##bits##_list(const nattizhu_message *messages, size_t count,                \
-                                    uint8_t (*digests)[SIZE]) {                                    \
-    nattizhu_message group[GROUP];                                                                 \
-    for (size_t at = 0, n; at < count; at += n) {                                                  \
-      n = next_group(group, messages, at, count);                                                  \
-      nattizhu_ripemd##bits##_list_nonnull(group, n, digests + at, n);                             \
-    }                                                                                              \
-  }                                                                                                \
-                                                                                                   \
-  bool nattizhu_ripemd##bits##_update(nattizhu_ripemd##bits##_state *state, const uint8_t *bytes,  \
-                                      size_t length) {                                             \
-    return nattizhu_ripemd##bits##_update_nonnull(state, some(bytes), length);                     \
-  }                                                                                                \
-                                                                                                   \
-  void nattizhu_hmac_ripemd##bits(const uint8_t *key, size_t key_length, const uint8_t *text,      \
-                                  size_t text_length, uint8_t tag[SIZE]) {                         \
-    nattizhu_hmac_ripemd##bits##_nonnull(some(key), key_length, some(text), text_length, tag);     \
-  }                                                                                                \
-                                                                                                   \
-  bool nattizhu_hmac_ripemd##bits##_verify_text(const uint8_t *key, size_t key_length,             \
-                                                const uint8_t *text, size_t text_length,           \
-                                                const uint8_t *tag, size_t tag_length) {           \
-    return nattizhu_hmac_ripemd##bits##_verify_text_nonnull(some(key), key_length, some(text),     \
-                                                            text_length, some(tag), tag_length);   \
-  }                                                                                                \
-                                                                                                   \
-  bool nattizhu_hmac_ripemd##bits##_each(const uint8_t *key, size_t key_length,                    \
-                                         const uint8_t *bytes, size_t length, size_t size,         \
-                                         uint8_t (*tags)[SIZE], size_t count) {                    \
-    uint8_t none[1][SIZE];                                                                         \
-    return nattizhu_hmac_ripemd##bits##_each_nonnull(some(key), key_length, some(bytes), length,   \
-                                                     size, tags ? tags : none, count);             \
-  }                                                                                                \
-                                                                                                   \
-  /* A long key is replaced by its digest first (RFC 2104), so that no group hashes it again. */   \
-  void nattizhu_hmac_ripemd##bits##_list(const uint8_t *key, size_t key_length,                    \
-                                         const nattizhu_message *texts, size_t count,              \
-                                         uint8_t (*tags)[SIZE]) {                                  \
-    nattizhu_message group[GROUP];                                                                 \
-    uint8_t digest[SIZE];                                                                          \
-    if (key_length > NATTIZHU_BLOCK_SIZE) {                                                        \
-      nattizhu_ripemd##bits##_nonnull(key, key_length, digest);                                    \
-      key = digest;                                                                                \
-      key_length = SIZE;                                                                           \
-    }                                                                                              \
-    for (size_t at = 0, n; at < count; at += n) {                                                  \
-      n = next_group(group, texts, at, count);                                                     \
-      nattizhu_hmac_ripemd##bits##_list_nonnull(some(key), key_length, group, n, tags + at, n);    \
-    }                                                                                              \
-  }                                                                                                \
-                                                                                                   \
-  void nattizhu_hmac_ripemd##bits##_init(nattizhu_hmac_ripemd##bits##_state *state,                \
-                                         const uint8_t *key, size_t length) {                      \
-    nattizhu_hmac_ripemd##bits##_init_nonnull(state, some(key), length);                           \
-  }                                                                                                \
-                                                                                                   \
-  bool nattizhu_hmac_ripemd##bits##_update(nattizhu_hmac_ripemd##bits##_state *state,              \
-                                           const uint8_t *bytes, size_t length) {                  \
-    return nattizhu_hmac_ripemd##bits##_update_nonnull(state, some(bytes), length);                \
-  }                                                                                                \
-                                                                                                   \
-  bool nattizhu_hmac_ripemd##bits##_verify(const nattizhu_hmac_ripemd##bits##_state *state,        \
-                                           const uint8_t *tag, size_t length) {                    \
-    return nattizhu_hmac_ripemd##bits##_verify_nonnull(state, some(tag), length);                  \
-  }                                                                                                \
-                                                                                                   \
-  bool nattizhu_pbkdf2_ripemd##bits(const uint8_t *password, size_t password_length,               \
-                                    const uint8_t *salt, size_t salt_length, uint32_t rounds,      \
-                                    uint8_t *key, size_t key_length) {                             \
-    uint8_t none[1];                                                                               \
-    return nattizhu_pbkdf2_ripemd##bits##_nonnull(some(password), password_length, some(salt),     \
-                                                  salt_length, rounds, key ? key : none,           \
-                                                  key_length);                                     \
-  }                                                                                                \
-                                                                                                   \
-  /* The first group says whether the rounds and the length are allowed, in an empty list too. */  \
-  bool nattizhu_pbkdf2_ripemd##bits##_list(const nattizhu_message *passwords,                      \
-                                           const nattizhu_message *salts, size_t count,            \
-                                           uint32_t rounds, uint8_t *keys, size_t key_length) {    \
-    nattizhu_message password_group[GROUP], salt_group[GROUP];                                     \
-    uint8_t none[1];                                                                               \
-    size_t at = 0, n;                                                                              \
-    if (key_length && count > SIZE_MAX / key_length)                                               \
-      return false;                                                                                \
-    do {                                                                                           \
-      n = next_group(password_group, passwords, at, count);                                        \
-      next_group(salt_group, salts, at, count);                                                    \
-      if (!nattizhu_pbkdf2_ripemd##bits##_list_nonnull(                                            \
-              password_group, n, salt_group, n, rounds, key_length,                                \
-              keys ? keys + at * key_length : none, n * key_length))                               \
-        return false;                                                                              \
-      at += n;                                                                                     \
-    } while (at < count);                                                                          \
-    return true;                                                                                   \
-  }
-
-FUNCTIONS(128, NATTIZHU_RIPEMD128_SIZE)
-FUNCTIONS(160, NATTIZHU_RIPEMD160_SIZE)
-FUNCTIONS(256, NATTIZHU_RIPEMD256_SIZE)
-FUNCTIONS(320, NATTIZHU_RIPEMD320_SIZE)
-
-/* ---- The variant chosen while a program runs */
-
-/* CASE(bits) for each variant. */
-#define EACH_VARIANT CASE(128) CASE(160) CASE(256) CASE(320)
-
-size_t nattizhu_digest_size(nattizhu_variant variant) {
-  switch (variant) {
-#define CASE(bits)                                                                                 \
-  case NATTIZHU_RIPEMD##bits:                                                                      \
-    return NATTIZHU_RIPEMD##bits##_SIZE;
-    EACH_VARIANT
-#undef CASE
-  }
-  return 0;
+/* Whether a length is so many times a size, which is not 0. */
+static bool is_product(size_t length, size_t count, size_t size) {
+  return length / size == count && length % size == 0;
 }
 
-size_t nattizhu_state_size(nattizhu_variant variant) {
-  switch (variant) {
-#define CASE(bits)                                                                                 \
-  case NATTIZHU_RIPEMD##bits:                                                                      \
-    return NATTIZHU_RIPEMD##bits##_STATE_SIZE;
-    EACH_VARIANT
-#undef CASE
-  }
-  return 0;
-}
+const char *nattizhu_version(void) { return NATTIZHU_VERSION; }
 
-size_t nattizhu_hmac_state_size(nattizhu_variant variant) {
-  switch (variant) {
-#define CASE(bits)                                                                                 \
-  case NATTIZHU_RIPEMD##bits:                                                                      \
-    return NATTIZHU_HMAC_RIPEMD##bits##_STATE_SIZE;
-    EACH_VARIANT
-#undef CASE
-  }
-  return 0;
-}
+size_t nattizhu_state_size(void) { return sizeof(nattizhu_state); }
+
+size_t nattizhu_hmac_state_size(void) { return sizeof(nattizhu_hmac_state); }
 
 bool nattizhu_digest(nattizhu_variant variant, const uint8_t *message, size_t length,
-                     uint8_t *digest, size_t size) {
-  if (size != nattizhu_digest_size(variant))
-    return false;
-  switch (variant) {
-#define CASE(bits)                                                                                 \
-  case NATTIZHU_RIPEMD##bits:                                                                      \
-    nattizhu_ripemd##bits(message, length, digest);                                                \
-    return true;
-    EACH_VARIANT
-#undef CASE
-  }
-  return false;
+                     uint8_t *digest, size_t digest_length) {
+  return nattizhu_digest_nonnull(variant, some(message), length, place(digest), digest_length);
 }
 
-bool nattizhu_init(nattizhu_state *state, nattizhu_variant variant) {
-  if (!nattizhu_digest_size(variant))
+bool nattizhu_each(nattizhu_variant variant, const uint8_t *records, size_t length, size_t size,
+                   uint8_t *digests, size_t digests_length) {
+  return nattizhu_each_nonnull(variant, some(records), length, size, place(digests),
+                               digests_length);
+}
+
+bool nattizhu_list(nattizhu_variant variant, const nattizhu_message *messages, size_t count,
+                   uint8_t *digests, size_t digests_length) {
+  const size_t size = nattizhu_digest_size(variant);
+  nattizhu_message group[GROUP];
+  if (size == 0 || !is_product(digests_length, count, size))
     return false;
-  memset(state, 0, sizeof *state);
-  state->size = (uint8_t)nattizhu_digest_size(variant);
-  switch (variant) {
-#define CASE(bits)                                                                                 \
-  case NATTIZHU_RIPEMD##bits:                                                                      \
-    nattizhu_ripemd##bits##_init(&state->of.ripemd##bits);                                         \
-    return true;
-    EACH_VARIANT
-#undef CASE
+  for (size_t at = 0, n; at < count; at += n) {
+    n = next_group(group, messages, at, count);
+    if (!nattizhu_list_nonnull(variant, group, n, digests + at * size, n * size))
+      return false;
   }
-  return false;
+  return true;
 }
 
 bool nattizhu_update(nattizhu_state *state, const uint8_t *bytes, size_t length) {
-  switch (state->size) {
-#define CASE(bits)                                                                                 \
-  case NATTIZHU_RIPEMD##bits##_SIZE:                                                               \
-    return nattizhu_ripemd##bits##_update(&state->of.ripemd##bits, bytes, length);
-    EACH_VARIANT
-#undef CASE
-  }
-  return false;
+  return nattizhu_update_nonnull(state, some(bytes), length);
 }
 
-bool nattizhu_final(const nattizhu_state *state, uint8_t *digest, size_t size) {
-  if (size != state->size)
-    return false;
-  switch (state->size) {
-#define CASE(bits)                                                                                 \
-  case NATTIZHU_RIPEMD##bits##_SIZE:                                                               \
-    return nattizhu_ripemd##bits##_final(&state->of.ripemd##bits, digest);
-    EACH_VARIANT
-#undef CASE
-  }
-  return false;
+bool nattizhu_final(const nattizhu_state *state, uint8_t *digest, size_t digest_length) {
+  return nattizhu_final_nonnull(state, place(digest), digest_length);
 }
 
 bool nattizhu_hmac(nattizhu_variant variant, const uint8_t *key, size_t key_length,
-                   const uint8_t *text, size_t text_length, uint8_t *tag, size_t size) {
-  if (size != nattizhu_digest_size(variant))
-    return false;
-  switch (variant) {
-#define CASE(bits)                                                                                 \
-  case NATTIZHU_RIPEMD##bits:                                                                      \
-    nattizhu_hmac_ripemd##bits(key, key_length, text, text_length, tag);                           \
-    return true;
-    EACH_VARIANT
-#undef CASE
-  }
-  return false;
+                   const uint8_t *text, size_t text_length, uint8_t *tag, size_t tag_length) {
+  return nattizhu_hmac_nonnull(variant, some(key), key_length, some(text), text_length, place(tag),
+                               tag_length);
 }
 
 bool nattizhu_hmac_verify_text(nattizhu_variant variant, const uint8_t *key, size_t key_length,
                                const uint8_t *text, size_t text_length, const uint8_t *tag,
                                size_t tag_length) {
-  switch (variant) {
-#define CASE(bits)                                                                                 \
-  case NATTIZHU_RIPEMD##bits:                                                                      \
-    return nattizhu_hmac_ripemd##bits##_verify_text(key, key_length, text, text_length, tag,       \
-                                                    tag_length);
-    EACH_VARIANT
-#undef CASE
-  }
-  return false;
+  return nattizhu_hmac_verify_text_nonnull(variant, some(key), key_length, some(text), text_length,
+                                           some(tag), tag_length);
 }
 
-bool nattizhu_hmac_init(nattizhu_hmac_state *state, nattizhu_variant variant, const uint8_t *key,
-                        size_t length) {
-  if (!nattizhu_digest_size(variant))
+bool nattizhu_hmac_each(nattizhu_variant variant, const uint8_t *key, size_t key_length,
+                        const uint8_t *records, size_t length, size_t size, uint8_t *tags,
+                        size_t tags_length) {
+  return nattizhu_hmac_each_nonnull(variant, some(key), key_length, some(records), length, size,
+                                    place(tags), tags_length);
+}
+
+/* A long key is replaced by its digest first (RFC 2104), so that no group hashes it again. */
+bool nattizhu_hmac_list(nattizhu_variant variant, const uint8_t *key, size_t key_length,
+                        const nattizhu_message *texts, size_t count, uint8_t *tags,
+                        size_t tags_length) {
+  const size_t size = nattizhu_digest_size(variant);
+  nattizhu_message group[GROUP];
+  uint8_t digest[NATTIZHU_MAX_SIZE];
+  if (size == 0 || !is_product(tags_length, count, size))
     return false;
-  memset(state, 0, sizeof *state);
-  state->size = (uint8_t)nattizhu_digest_size(variant);
-  switch (variant) {
-#define CASE(bits)                                                                                 \
-  case NATTIZHU_RIPEMD##bits:                                                                      \
-    nattizhu_hmac_ripemd##bits##_init(&state->of.ripemd##bits, key, length);                       \
-    return true;
-    EACH_VARIANT
-#undef CASE
+  if (key_length > NATTIZHU_BLOCK_SIZE) {
+    if (!nattizhu_digest_nonnull(variant, key, key_length, digest, size))
+      return false;
+    key = digest;
+    key_length = size;
   }
-  return false;
+  for (size_t at = 0, n; at < count; at += n) {
+    n = next_group(group, texts, at, count);
+    if (!nattizhu_hmac_list_nonnull(variant, some(key), key_length, group, n, tags + at * size,
+                                    n * size))
+      return false;
+  }
+  return true;
+}
+
+bool nattizhu_hmac_init(nattizhu_variant variant, nattizhu_hmac_state *state, const uint8_t *key,
+                        size_t key_length) {
+  return nattizhu_hmac_init_nonnull(variant, state, some(key), key_length);
 }
 
 bool nattizhu_hmac_update(nattizhu_hmac_state *state, const uint8_t *bytes, size_t length) {
-  switch (state->size) {
-#define CASE(bits)                                                                                 \
-  case NATTIZHU_RIPEMD##bits##_SIZE:                                                               \
-    return nattizhu_hmac_ripemd##bits##_update(&state->of.ripemd##bits, bytes, length);
-    EACH_VARIANT
-#undef CASE
-  }
-  return false;
+  return nattizhu_hmac_update_nonnull(state, some(bytes), length);
 }
 
-bool nattizhu_hmac_final(const nattizhu_hmac_state *state, uint8_t *tag, size_t size) {
-  if (size != state->size)
-    return false;
-  switch (state->size) {
-#define CASE(bits)                                                                                 \
-  case NATTIZHU_RIPEMD##bits##_SIZE:                                                               \
-    return nattizhu_hmac_ripemd##bits##_final(&state->of.ripemd##bits, tag);
-    EACH_VARIANT
-#undef CASE
-  }
-  return false;
+bool nattizhu_hmac_final(const nattizhu_hmac_state *state, uint8_t *tag, size_t tag_length) {
+  return nattizhu_hmac_final_nonnull(state, place(tag), tag_length);
 }
 
-bool nattizhu_hmac_verify(const nattizhu_hmac_state *state, const uint8_t *tag, size_t length) {
-  switch (state->size) {
-#define CASE(bits)                                                                                 \
-  case NATTIZHU_RIPEMD##bits##_SIZE:                                                               \
-    return nattizhu_hmac_ripemd##bits##_verify(&state->of.ripemd##bits, tag, length);
-    EACH_VARIANT
-#undef CASE
-  }
-  return false;
+bool nattizhu_hmac_verify(const nattizhu_hmac_state *state, const uint8_t *tag, size_t tag_length) {
+  return nattizhu_hmac_verify_nonnull(state, some(tag), tag_length);
 }
 
 bool nattizhu_pbkdf2(nattizhu_variant variant, const uint8_t *password, size_t password_length,
                      const uint8_t *salt, size_t salt_length, uint32_t rounds, uint8_t *key,
                      size_t key_length) {
-  switch (variant) {
-#define CASE(bits)                                                                                 \
-  case NATTIZHU_RIPEMD##bits:                                                                      \
-    return nattizhu_pbkdf2_ripemd##bits(password, password_length, salt, salt_length, rounds, key, \
-                                        key_length);
-    EACH_VARIANT
-#undef CASE
-  }
-  return false;
+  return nattizhu_pbkdf2_nonnull(variant, some(password), password_length, some(salt), salt_length,
+                                 rounds, place(key), key_length);
+}
+
+/* The first group says whether variant, rounds and size are allowed, in an empty list too. */
+bool nattizhu_pbkdf2_list(nattizhu_variant variant, const nattizhu_message *passwords, size_t count,
+                          const nattizhu_message *salts, size_t salt_count, uint32_t rounds,
+                          size_t size, uint8_t *keys, size_t keys_length) {
+  nattizhu_message password_group[GROUP], salt_group[GROUP];
+  size_t at = 0, n;
+  if (salt_count != count || (size ? !is_product(keys_length, count, size) : keys_length != 0))
+    return false;
+  do {
+    n = next_group(password_group, passwords, at, count);
+    next_group(salt_group, salts, at, count);
+    if (!nattizhu_pbkdf2_list_nonnull(variant, password_group, n, salt_group, n, rounds, size,
+                                      place(keys ? keys + at * size : keys), n * size))
+      return false;
+    at += n;
+  } while (at < count);
+  return true;
 }

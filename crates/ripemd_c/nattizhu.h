@@ -1,19 +1,25 @@
-/* Nattizhu: RIPEMD-128, RIPEMD-160, RIPEMD-256 and RIPEMD-320 (1996), HMAC over them (RFC 2104), and
- * keys from passwords by HMAC (PBKDF2, RFC 8018).
+/* Nattizhu: RIPEMD-128, RIPEMD-160, RIPEMD-256 and RIPEMD-320 (1996), HMAC over them (RFC 2104),
+ * and keys from passwords by HMAC (PBKDF2, RFC 8018).
  *
  * What the functions in Rattle write and return is proved. nattizhu.c, which calls them and is
- * tested, replaces null pointers, hands lists on in groups, and chooses the variant where that is a
- * number. Each caller has to ensure this, which nothing checks:
+ * tested, replaces null pointers and hands lists on in groups.
  *
- * - A pointer leads to as many bytes, messages, digests or tags as the length, size or count after it
- *   says, or as its type or its size in brackets says; `keys` leads to `count * key_length` bytes. Each
- *   of these pieces of memory is smaller than 2^63 bytes.
- * - A pointer with a length, size or count after it may be null where that is 0, and `keys` where that
- *   product is 0. No other pointer is null.
+ * Each call that returns a bool returns true where it did what it says. It returns false and writes
+ * nothing where it can't: if there is no such variant, if what it writes to does not have the size
+ * that it has to have, if the bytes of a state are none, or as is said there.
+ *
+ * Arguments come in this order: the variant; the state; what is read; what is written. The length
+ * of a piece of memory, or the count of a list, follows its pointer. Lengths and sizes are bytes.
+ *
+ * Each caller has to ensure this, which nothing checks:
+ *
+ * - A pointer leads to as many bytes or messages as the length or count after it says, or to what
+ *   its type says. Each of these pieces of memory is smaller than 2^63 bytes.
+ * - A pointer with a length or count after it may be null where that is 0. No other is null.
  * - What a call writes overlaps nothing else that it is given; what it only reads may overlap.
  * - While a call runs, no other thread writes what it reads, or reads or writes what it writes.
  *
- * What was in the memory of a digest or a tag, or of a state before its init, makes no difference.
+ * What was in the memory of a digest, a tag or a key, or of a state before init, has no effect.
  *
  * No call allocates memory, keeps a pointer, or uses global data that changes: all calls may
  * run at once in any number of threads. Nothing is wiped from memory, neither keys nor texts. */
@@ -31,23 +37,16 @@
 /* Bytes of a block, of every variant. */
 #define NATTIZHU_BLOCK_SIZE 64
 
-/* Bytes of a digest, and of a tag. */
+/* Bytes of a digest, and of a tag: of each variant, and the most. */
 #define NATTIZHU_RIPEMD128_SIZE 16
 #define NATTIZHU_RIPEMD160_SIZE 20
 #define NATTIZHU_RIPEMD256_SIZE 32
 #define NATTIZHU_RIPEMD320_SIZE 40
+#define NATTIZHU_MAX_SIZE NATTIZHU_RIPEMD320_SIZE
 
-/* Bytes of a hash state. */
-#define NATTIZHU_RIPEMD128_STATE_SIZE 88
-#define NATTIZHU_RIPEMD160_STATE_SIZE 92
-#define NATTIZHU_RIPEMD256_STATE_SIZE 104
-#define NATTIZHU_RIPEMD320_STATE_SIZE 112
-
-/* Bytes of an HMAC state. */
-#define NATTIZHU_HMAC_RIPEMD128_STATE_SIZE 176
-#define NATTIZHU_HMAC_RIPEMD160_STATE_SIZE 184
-#define NATTIZHU_HMAC_RIPEMD256_STATE_SIZE 208
-#define NATTIZHU_HMAC_RIPEMD320_STATE_SIZE 224
+/* Bytes of a hash state and of an HMAC state, of every variant. */
+#define NATTIZHU_STATE_SIZE 113
+#define NATTIZHU_HMAC_STATE_SIZE 225
 
 /* Compilers warn where the answer of a function with this mark is ignored. */
 #if defined(__cplusplus) ? __cplusplus >= 201703L                                                  \
@@ -63,266 +62,7 @@
 extern "C" {
 #endif
 
-/* The version of the library that is loaded, as NATTIZHU_VERSION is that of this header. */
-const char *nattizhu_version(void);
-
-/* ---- Digests of whole messages */
-
-/* Writes the digest of the message, which has `length` bytes. */
-void nattizhu_ripemd128(const uint8_t *message, size_t length,
-                        uint8_t digest[NATTIZHU_RIPEMD128_SIZE]);
-void nattizhu_ripemd160(const uint8_t *message, size_t length,
-                        uint8_t digest[NATTIZHU_RIPEMD160_SIZE]);
-void nattizhu_ripemd256(const uint8_t *message, size_t length,
-                        uint8_t digest[NATTIZHU_RIPEMD256_SIZE]);
-void nattizhu_ripemd320(const uint8_t *message, size_t length,
-                        uint8_t digest[NATTIZHU_RIPEMD320_SIZE]);
-
-/* ---- Digests of many messages, eight at once */
-
-/* Writes the digest of each of `count` records to its place in `digests`, and returns true. The
- * records lie one after another in `bytes`, each of `size` bytes. If `length` is not `count * size`,
- * as numbers and without overflow, the call writes nothing and returns false. */
-NATTIZHU_CHECKED bool nattizhu_ripemd128_each(const uint8_t *bytes, size_t length, size_t size,
-                                              uint8_t (*digests)[NATTIZHU_RIPEMD128_SIZE],
-                                              size_t count);
-NATTIZHU_CHECKED bool nattizhu_ripemd160_each(const uint8_t *bytes, size_t length, size_t size,
-                                              uint8_t (*digests)[NATTIZHU_RIPEMD160_SIZE],
-                                              size_t count);
-NATTIZHU_CHECKED bool nattizhu_ripemd256_each(const uint8_t *bytes, size_t length, size_t size,
-                                              uint8_t (*digests)[NATTIZHU_RIPEMD256_SIZE],
-                                              size_t count);
-NATTIZHU_CHECKED bool nattizhu_ripemd320_each(const uint8_t *bytes, size_t length, size_t size,
-                                              uint8_t (*digests)[NATTIZHU_RIPEMD320_SIZE],
-                                              size_t count);
-
-/* A message of a list. It has the layout of POSIX's struct iovec. */
-typedef struct nattizhu_message {
-  const uint8_t *bytes;
-  size_t length;
-} nattizhu_message;
-
-/* Writes the digest of each of `count` messages, of any lengths, to its place in `digests`. */
-void nattizhu_ripemd128_list(const nattizhu_message *messages, size_t count,
-                             uint8_t (*digests)[NATTIZHU_RIPEMD128_SIZE]);
-void nattizhu_ripemd160_list(const nattizhu_message *messages, size_t count,
-                             uint8_t (*digests)[NATTIZHU_RIPEMD160_SIZE]);
-void nattizhu_ripemd256_list(const nattizhu_message *messages, size_t count,
-                             uint8_t (*digests)[NATTIZHU_RIPEMD256_SIZE]);
-void nattizhu_ripemd320_list(const nattizhu_message *messages, size_t count,
-                             uint8_t (*digests)[NATTIZHU_RIPEMD320_SIZE]);
-
-/* ---- Digests of messages in pieces
- *
- * A hash state is bytes without pointers, the same on every machine: it may be copied, compared,
- * stored, and loaded by another process. They are the saved bytes of a hasher of the library in Rattle.
- * States are not authenticated: only their layout is checked, and even an array of zeros is a hash
- * state. So call init first. */
-typedef struct nattizhu_ripemd128_state {
-  uint8_t bytes[NATTIZHU_RIPEMD128_STATE_SIZE];
-} nattizhu_ripemd128_state;
-typedef struct nattizhu_ripemd160_state {
-  uint8_t bytes[NATTIZHU_RIPEMD160_STATE_SIZE];
-} nattizhu_ripemd160_state;
-typedef struct nattizhu_ripemd256_state {
-  uint8_t bytes[NATTIZHU_RIPEMD256_STATE_SIZE];
-} nattizhu_ripemd256_state;
-typedef struct nattizhu_ripemd320_state {
-  uint8_t bytes[NATTIZHU_RIPEMD320_STATE_SIZE];
-} nattizhu_ripemd320_state;
-
-/* Writes the state of the empty message. */
-void nattizhu_ripemd128_init(nattizhu_ripemd128_state *state);
-void nattizhu_ripemd160_init(nattizhu_ripemd160_state *state);
-void nattizhu_ripemd256_init(nattizhu_ripemd256_state *state);
-void nattizhu_ripemd320_init(nattizhu_ripemd320_state *state);
-
-/* Appends bytes to the message: writes the state that follows, and returns true.
- * If these bytes are no hash state, it writes nothing and returns false. */
-NATTIZHU_CHECKED bool nattizhu_ripemd128_update(nattizhu_ripemd128_state *state,
-                                                const uint8_t *bytes, size_t length);
-NATTIZHU_CHECKED bool nattizhu_ripemd160_update(nattizhu_ripemd160_state *state,
-                                                const uint8_t *bytes, size_t length);
-NATTIZHU_CHECKED bool nattizhu_ripemd256_update(nattizhu_ripemd256_state *state,
-                                                const uint8_t *bytes, size_t length);
-NATTIZHU_CHECKED bool nattizhu_ripemd320_update(nattizhu_ripemd320_state *state,
-                                                const uint8_t *bytes, size_t length);
-
-/* Writes the digest of the message so far, and returns true. The state stays as it is, and the message
- * may go on. If these bytes are no hash state, the call writes nothing and returns false. */
-NATTIZHU_CHECKED bool nattizhu_ripemd128_final(const nattizhu_ripemd128_state *state,
-                                               uint8_t digest[NATTIZHU_RIPEMD128_SIZE]);
-NATTIZHU_CHECKED bool nattizhu_ripemd160_final(const nattizhu_ripemd160_state *state,
-                                               uint8_t digest[NATTIZHU_RIPEMD160_SIZE]);
-NATTIZHU_CHECKED bool nattizhu_ripemd256_final(const nattizhu_ripemd256_state *state,
-                                               uint8_t digest[NATTIZHU_RIPEMD256_SIZE]);
-NATTIZHU_CHECKED bool nattizhu_ripemd320_final(const nattizhu_ripemd320_state *state,
-                                               uint8_t digest[NATTIZHU_RIPEMD320_SIZE]);
-
-/* ---- Tags (HMAC)
- *
- * A key has any length: one longer than 64 bytes is replaced by its digest, and a shorter one is filled
- * with zeros to 64 bytes. An HMAC state is two hash states, and as secret as the key: whoever has it
- * can make tags. For many tags under one key, copy the state after init. */
-
-/* Writes the tag of the text under the key. */
-void nattizhu_hmac_ripemd128(const uint8_t *key, size_t key_length, const uint8_t *text,
-                             size_t text_length, uint8_t tag[NATTIZHU_RIPEMD128_SIZE]);
-void nattizhu_hmac_ripemd160(const uint8_t *key, size_t key_length, const uint8_t *text,
-                             size_t text_length, uint8_t tag[NATTIZHU_RIPEMD160_SIZE]);
-void nattizhu_hmac_ripemd256(const uint8_t *key, size_t key_length, const uint8_t *text,
-                             size_t text_length, uint8_t tag[NATTIZHU_RIPEMD256_SIZE]);
-void nattizhu_hmac_ripemd320(const uint8_t *key, size_t key_length, const uint8_t *text,
-                             size_t text_length, uint8_t tag[NATTIZHU_RIPEMD320_SIZE]);
-
-/* Returns whether these bytes are the tag of the text under the key, all of them. It compares all bytes
- * of a tag of the right length, whatever they are, and returns false at once to another length. It
- * writes nothing. That the time is always the same is not proved. */
-NATTIZHU_CHECKED bool nattizhu_hmac_ripemd128_verify_text(const uint8_t *key, size_t key_length,
-                                                          const uint8_t *text, size_t text_length,
-                                                          const uint8_t *tag, size_t tag_length);
-NATTIZHU_CHECKED bool nattizhu_hmac_ripemd160_verify_text(const uint8_t *key, size_t key_length,
-                                                          const uint8_t *text, size_t text_length,
-                                                          const uint8_t *tag, size_t tag_length);
-NATTIZHU_CHECKED bool nattizhu_hmac_ripemd256_verify_text(const uint8_t *key, size_t key_length,
-                                                          const uint8_t *text, size_t text_length,
-                                                          const uint8_t *tag, size_t tag_length);
-NATTIZHU_CHECKED bool nattizhu_hmac_ripemd320_verify_text(const uint8_t *key, size_t key_length,
-                                                          const uint8_t *text, size_t text_length,
-                                                          const uint8_t *tag, size_t tag_length);
-
-/* Writes the tag of each of `count` records under one key to its place in `tags`, and returns true. The
- * records lie as those of nattizhu_ripemd160_each, and a wrong `length` is treated as there. */
-NATTIZHU_CHECKED bool nattizhu_hmac_ripemd128_each(const uint8_t *key, size_t key_length,
-                                                   const uint8_t *bytes, size_t length, size_t size,
-                                                   uint8_t (*tags)[NATTIZHU_RIPEMD128_SIZE],
-                                                   size_t count);
-NATTIZHU_CHECKED bool nattizhu_hmac_ripemd160_each(const uint8_t *key, size_t key_length,
-                                                   const uint8_t *bytes, size_t length, size_t size,
-                                                   uint8_t (*tags)[NATTIZHU_RIPEMD160_SIZE],
-                                                   size_t count);
-NATTIZHU_CHECKED bool nattizhu_hmac_ripemd256_each(const uint8_t *key, size_t key_length,
-                                                   const uint8_t *bytes, size_t length, size_t size,
-                                                   uint8_t (*tags)[NATTIZHU_RIPEMD256_SIZE],
-                                                   size_t count);
-NATTIZHU_CHECKED bool nattizhu_hmac_ripemd320_each(const uint8_t *key, size_t key_length,
-                                                   const uint8_t *bytes, size_t length, size_t size,
-                                                   uint8_t (*tags)[NATTIZHU_RIPEMD320_SIZE],
-                                                   size_t count);
-
-/* Writes the tag of each of `count` texts, of any lengths, under one key to its place in `tags`. */
-void nattizhu_hmac_ripemd128_list(const uint8_t *key, size_t key_length,
-                                  const nattizhu_message *texts, size_t count,
-                                  uint8_t (*tags)[NATTIZHU_RIPEMD128_SIZE]);
-void nattizhu_hmac_ripemd160_list(const uint8_t *key, size_t key_length,
-                                  const nattizhu_message *texts, size_t count,
-                                  uint8_t (*tags)[NATTIZHU_RIPEMD160_SIZE]);
-void nattizhu_hmac_ripemd256_list(const uint8_t *key, size_t key_length,
-                                  const nattizhu_message *texts, size_t count,
-                                  uint8_t (*tags)[NATTIZHU_RIPEMD256_SIZE]);
-void nattizhu_hmac_ripemd320_list(const uint8_t *key, size_t key_length,
-                                  const nattizhu_message *texts, size_t count,
-                                  uint8_t (*tags)[NATTIZHU_RIPEMD320_SIZE]);
-
-typedef struct nattizhu_hmac_ripemd128_state {
-  uint8_t bytes[NATTIZHU_HMAC_RIPEMD128_STATE_SIZE];
-} nattizhu_hmac_ripemd128_state;
-typedef struct nattizhu_hmac_ripemd160_state {
-  uint8_t bytes[NATTIZHU_HMAC_RIPEMD160_STATE_SIZE];
-} nattizhu_hmac_ripemd160_state;
-typedef struct nattizhu_hmac_ripemd256_state {
-  uint8_t bytes[NATTIZHU_HMAC_RIPEMD256_STATE_SIZE];
-} nattizhu_hmac_ripemd256_state;
-typedef struct nattizhu_hmac_ripemd320_state {
-  uint8_t bytes[NATTIZHU_HMAC_RIPEMD320_STATE_SIZE];
-} nattizhu_hmac_ripemd320_state;
-
-/* Writes the state under this key, of the empty text. */
-void nattizhu_hmac_ripemd128_init(nattizhu_hmac_ripemd128_state *state, const uint8_t *key,
-                                  size_t length);
-void nattizhu_hmac_ripemd160_init(nattizhu_hmac_ripemd160_state *state, const uint8_t *key,
-                                  size_t length);
-void nattizhu_hmac_ripemd256_init(nattizhu_hmac_ripemd256_state *state, const uint8_t *key,
-                                  size_t length);
-void nattizhu_hmac_ripemd320_init(nattizhu_hmac_ripemd320_state *state, const uint8_t *key,
-                                  size_t length);
-
-/* Appends bytes to the text: writes the state that follows, and returns true. If these bytes are no
- * HMAC state, it writes nothing and returns false. */
-NATTIZHU_CHECKED bool nattizhu_hmac_ripemd128_update(nattizhu_hmac_ripemd128_state *state,
-                                                     const uint8_t *bytes, size_t length);
-NATTIZHU_CHECKED bool nattizhu_hmac_ripemd160_update(nattizhu_hmac_ripemd160_state *state,
-                                                     const uint8_t *bytes, size_t length);
-NATTIZHU_CHECKED bool nattizhu_hmac_ripemd256_update(nattizhu_hmac_ripemd256_state *state,
-                                                     const uint8_t *bytes, size_t length);
-NATTIZHU_CHECKED bool nattizhu_hmac_ripemd320_update(nattizhu_hmac_ripemd320_state *state,
-                                                     const uint8_t *bytes, size_t length);
-
-/* Writes the tag of the text so far, and returns true. The state stays as it is. If these bytes are no
- * HMAC state, the call writes nothing and returns false. */
-NATTIZHU_CHECKED bool nattizhu_hmac_ripemd128_final(const nattizhu_hmac_ripemd128_state *state,
-                                                    uint8_t tag[NATTIZHU_RIPEMD128_SIZE]);
-NATTIZHU_CHECKED bool nattizhu_hmac_ripemd160_final(const nattizhu_hmac_ripemd160_state *state,
-                                                    uint8_t tag[NATTIZHU_RIPEMD160_SIZE]);
-NATTIZHU_CHECKED bool nattizhu_hmac_ripemd256_final(const nattizhu_hmac_ripemd256_state *state,
-                                                    uint8_t tag[NATTIZHU_RIPEMD256_SIZE]);
-NATTIZHU_CHECKED bool nattizhu_hmac_ripemd320_final(const nattizhu_hmac_ripemd320_state *state,
-                                                    uint8_t tag[NATTIZHU_RIPEMD320_SIZE]);
-
-/* Returns whether these `length` bytes are the tag of the text so far, all of them, as
- * nattizhu_hmac_ripemd160_verify_text does of a whole text; false too if the state is no HMAC state. */
-NATTIZHU_CHECKED bool nattizhu_hmac_ripemd128_verify(const nattizhu_hmac_ripemd128_state *state,
-                                                     const uint8_t *tag, size_t length);
-NATTIZHU_CHECKED bool nattizhu_hmac_ripemd160_verify(const nattizhu_hmac_ripemd160_state *state,
-                                                     const uint8_t *tag, size_t length);
-NATTIZHU_CHECKED bool nattizhu_hmac_ripemd256_verify(const nattizhu_hmac_ripemd256_state *state,
-                                                     const uint8_t *tag, size_t length);
-NATTIZHU_CHECKED bool nattizhu_hmac_ripemd320_verify(const nattizhu_hmac_ripemd320_state *state,
-                                                     const uint8_t *tag, size_t length);
-
-/* ---- Keys from passwords (PBKDF2, RFC 8018) */
-
-/* Derives a key of `key_length` bytes from the password and the salt by HMAC over the hash function, so
- * many rounds of it, and returns true. If `rounds` is 0, or the key is longer than 2^32 - 1 digests, the
- * call writes nothing and returns false. */
-NATTIZHU_CHECKED bool nattizhu_pbkdf2_ripemd128(const uint8_t *password, size_t password_length,
-                                                const uint8_t *salt, size_t salt_length,
-                                                uint32_t rounds, uint8_t *key, size_t key_length);
-NATTIZHU_CHECKED bool nattizhu_pbkdf2_ripemd160(const uint8_t *password, size_t password_length,
-                                                const uint8_t *salt, size_t salt_length,
-                                                uint32_t rounds, uint8_t *key, size_t key_length);
-NATTIZHU_CHECKED bool nattizhu_pbkdf2_ripemd256(const uint8_t *password, size_t password_length,
-                                                const uint8_t *salt, size_t salt_length,
-                                                uint32_t rounds, uint8_t *key, size_t key_length);
-NATTIZHU_CHECKED bool nattizhu_pbkdf2_ripemd320(const uint8_t *password, size_t password_length,
-                                                const uint8_t *salt, size_t salt_length,
-                                                uint32_t rounds, uint8_t *key, size_t key_length);
-
-/* Derives a key of `key_length` bytes from each of `count` passwords and the salt at its place, eight at
- * once, writes them one after another to `keys`, and returns true. If `rounds` is 0, a key is longer
- * than 2^32 - 1 digests, or `count * key_length` overflows, the call writes nothing and returns false,
- * for an empty list too. */
-NATTIZHU_CHECKED bool nattizhu_pbkdf2_ripemd128_list(const nattizhu_message *passwords,
-                                                     const nattizhu_message *salts, size_t count,
-                                                     uint32_t rounds, uint8_t *keys,
-                                                     size_t key_length);
-NATTIZHU_CHECKED bool nattizhu_pbkdf2_ripemd160_list(const nattizhu_message *passwords,
-                                                     const nattizhu_message *salts, size_t count,
-                                                     uint32_t rounds, uint8_t *keys,
-                                                     size_t key_length);
-NATTIZHU_CHECKED bool nattizhu_pbkdf2_ripemd256_list(const nattizhu_message *passwords,
-                                                     const nattizhu_message *salts, size_t count,
-                                                     uint32_t rounds, uint8_t *keys,
-                                                     size_t key_length);
-NATTIZHU_CHECKED bool nattizhu_pbkdf2_ripemd320_list(const nattizhu_message *passwords,
-                                                     const nattizhu_message *salts, size_t count,
-                                                     uint32_t rounds, uint8_t *keys,
-                                                     size_t key_length);
-
-/* ---- The variant chosen while a program runs
- *
- * These do what the functions of the variant do. They return false, and write nothing, also if there is
- * no such variant, or if `size` is not that of its digests. */
+/* The hash functions, by the bits of their digests. */
 typedef enum nattizhu_variant {
   NATTIZHU_RIPEMD128 = 128,
   NATTIZHU_RIPEMD160 = 160,
@@ -330,63 +70,135 @@ typedef enum nattizhu_variant {
   NATTIZHU_RIPEMD320 = 320
 } nattizhu_variant;
 
+/* The version of the library that is loaded, as NATTIZHU_VERSION is that of this header. */
+NATTIZHU_CHECKED const char *nattizhu_version(void);
+
 /* Bytes of a digest and of a tag; 0 if there is no such variant. */
-size_t nattizhu_digest_size(nattizhu_variant variant);
+NATTIZHU_CHECKED size_t nattizhu_digest_size(nattizhu_variant variant);
 
-/* Bytes of the states that the functions of the variant take; 0 if there is no such variant. */
-size_t nattizhu_state_size(nattizhu_variant variant);
-size_t nattizhu_hmac_state_size(nattizhu_variant variant);
+/* NATTIZHU_STATE_SIZE and NATTIZHU_HMAC_STATE_SIZE of the library that is loaded. */
+NATTIZHU_CHECKED size_t nattizhu_state_size(void);
+NATTIZHU_CHECKED size_t nattizhu_hmac_state_size(void);
 
-/* A hash state of any variant: the size of its digests, and the state as the functions of the variant
- * have it. Bytes of the union behind a shorter state are zeros after init, and no call looks at them. A
- * size that no variant has is refused as a bad state is, and so are zeros before init. */
+/* ---- Digests of whole messages */
+
+/* Writes the digest of the message. `digest_length` has to be the size of the variant's digests. */
+NATTIZHU_CHECKED bool nattizhu_digest(nattizhu_variant variant, const uint8_t *message,
+                                      size_t length, uint8_t *digest, size_t digest_length);
+
+/* ---- Digests of many messages, eight at once */
+
+/* Writes the digests of records, one after another. The records lie one after another too, each of
+ * `size` bytes. `digests_length` has to be so many digests, and `length` as many records of this
+ * size, as a product without overflow. Records of 0 bytes are empty messages, and `length` then is
+ * 0. */
+NATTIZHU_CHECKED bool nattizhu_each(nattizhu_variant variant, const uint8_t *records, size_t length,
+                                    size_t size, uint8_t *digests, size_t digests_length);
+
+/* A message of a list. It has the layout of POSIX's struct iovec. */
+typedef struct nattizhu_message {
+  const uint8_t *bytes;
+  size_t length;
+} nattizhu_message;
+
+/* Writes the digests of messages of any lengths, one after another. `digests_length` has to be
+ * `count` digests. */
+NATTIZHU_CHECKED bool nattizhu_list(nattizhu_variant variant, const nattizhu_message *messages,
+                                    size_t count, uint8_t *digests, size_t digests_length);
+
+/* ---- Digests of messages in pieces
+ *
+ * A hash state is bytes without pointers, the same on every machine: it may be copied, compared,
+ * stored, and loaded by another process. Its first byte is the size of its digests, and the next
+ * `size + 72` are what the library in Rattle, Python and Rust save of a hasher; those behind them
+ * are zeros after init, and no call looks at them. States are not authenticated: only their layout
+ * is checked. Zeros are no state. */
 typedef struct nattizhu_state {
-  uint8_t size;
-  union {
-    nattizhu_ripemd128_state ripemd128;
-    nattizhu_ripemd160_state ripemd160;
-    nattizhu_ripemd256_state ripemd256;
-    nattizhu_ripemd320_state ripemd320;
-  } of;
+  uint8_t bytes[NATTIZHU_STATE_SIZE];
 } nattizhu_state;
 
-/* The same of an HMAC state. */
-typedef struct nattizhu_hmac_state {
-  uint8_t size;
-  union {
-    nattizhu_hmac_ripemd128_state ripemd128;
-    nattizhu_hmac_ripemd160_state ripemd160;
-    nattizhu_hmac_ripemd256_state ripemd256;
-    nattizhu_hmac_ripemd320_state ripemd320;
-  } of;
-} nattizhu_hmac_state;
+/* Writes the state of the empty message. */
+NATTIZHU_CHECKED bool nattizhu_init(nattizhu_variant variant, nattizhu_state *state);
 
-NATTIZHU_CHECKED bool nattizhu_digest(nattizhu_variant variant, const uint8_t *message,
-                                      size_t length, uint8_t *digest, size_t size);
-NATTIZHU_CHECKED bool nattizhu_init(nattizhu_state *state, nattizhu_variant variant);
+/* Appends bytes to the message: writes the state that follows. */
 NATTIZHU_CHECKED bool nattizhu_update(nattizhu_state *state, const uint8_t *bytes, size_t length);
-NATTIZHU_CHECKED bool nattizhu_final(const nattizhu_state *state, uint8_t *digest, size_t size);
 
+/* Writes the digest of the message so far. `digest_length` has to be the size of the digests of the
+ * state's variant. The state stays as it is, and the message may go on. */
+NATTIZHU_CHECKED bool nattizhu_final(const nattizhu_state *state, uint8_t *digest,
+                                     size_t digest_length);
+
+/* ---- Tags (HMAC)
+ *
+ * A key has any length: one longer than 64 bytes is replaced by its digest, and a shorter one is
+ * filled with zeros to 64 bytes. */
+
+/* Writes the tag of the text under the key. `tag_length` has to be the size of the variant's
+ * digests. */
 NATTIZHU_CHECKED bool nattizhu_hmac(nattizhu_variant variant, const uint8_t *key, size_t key_length,
                                     const uint8_t *text, size_t text_length, uint8_t *tag,
-                                    size_t size);
+                                    size_t tag_length);
+
+/* Returns whether these bytes are the tag of the text under the key, all of them. It compares all
+ * bytes of a tag of the right length, whatever they are, and returns false at once to another
+ * length. It writes nothing. That the time is always the same is not proved. */
 NATTIZHU_CHECKED bool nattizhu_hmac_verify_text(nattizhu_variant variant, const uint8_t *key,
                                                 size_t key_length, const uint8_t *text,
                                                 size_t text_length, const uint8_t *tag,
                                                 size_t tag_length);
-NATTIZHU_CHECKED bool nattizhu_hmac_init(nattizhu_hmac_state *state, nattizhu_variant variant,
-                                         const uint8_t *key, size_t length);
+
+/* As nattizhu_each and nattizhu_list, the tags of records and of texts under one key. */
+NATTIZHU_CHECKED bool nattizhu_hmac_each(nattizhu_variant variant, const uint8_t *key,
+                                         size_t key_length, const uint8_t *records, size_t length,
+                                         size_t size, uint8_t *tags, size_t tags_length);
+NATTIZHU_CHECKED bool nattizhu_hmac_list(nattizhu_variant variant, const uint8_t *key,
+                                         size_t key_length, const nattizhu_message *texts,
+                                         size_t count, uint8_t *tags, size_t tags_length);
+
+/* An HMAC state is as secret as the key: whoever has it can make tags. For many tags under one key,
+ * copy the state after init. It is bytes as a hash state is. Its first byte is 128 and the size of
+ * its tags, and the next `2 * (size + 72)` are what the inner hasher and then the outer one are
+ * saved as. */
+typedef struct nattizhu_hmac_state {
+  uint8_t bytes[NATTIZHU_HMAC_STATE_SIZE];
+} nattizhu_hmac_state;
+
+/* Writes the state under this key, of the empty text. */
+NATTIZHU_CHECKED bool nattizhu_hmac_init(nattizhu_variant variant, nattizhu_hmac_state *state,
+                                         const uint8_t *key, size_t key_length);
+
+/* Appends bytes to the text: writes the state that follows. */
 NATTIZHU_CHECKED bool nattizhu_hmac_update(nattizhu_hmac_state *state, const uint8_t *bytes,
                                            size_t length);
-NATTIZHU_CHECKED bool nattizhu_hmac_final(const nattizhu_hmac_state *state, uint8_t *tag,
-                                          size_t size);
-NATTIZHU_CHECKED bool nattizhu_hmac_verify(const nattizhu_hmac_state *state, const uint8_t *tag,
-                                           size_t length);
 
+/* Writes the tag of the text so far. The state stays as it is. */
+NATTIZHU_CHECKED bool nattizhu_hmac_final(const nattizhu_hmac_state *state, uint8_t *tag,
+                                          size_t tag_length);
+
+/* Returns whether these bytes are the tag of the text so far, all of them, as
+ * nattizhu_hmac_verify_text does of a whole text; false too if the state is no HMAC state. */
+NATTIZHU_CHECKED bool nattizhu_hmac_verify(const nattizhu_hmac_state *state, const uint8_t *tag,
+                                           size_t tag_length);
+
+/* ---- Keys from passwords (PBKDF2, RFC 8018) */
+
+/* Fills `key` with the key that is derived from the password and the salt by HMAC over the hash
+ * function, so many rounds of it. It returns false too if `rounds` is 0, or the key is longer than
+ * 2^32 - 1 digests. */
 NATTIZHU_CHECKED bool nattizhu_pbkdf2(nattizhu_variant variant, const uint8_t *password,
                                       size_t password_length, const uint8_t *salt,
                                       size_t salt_length, uint32_t rounds, uint8_t *key,
                                       size_t key_length);
+
+/* Derives a key of `size` bytes from each password and the salt at its place, eight at once, and
+ * writes one after another. It returns false too if `rounds` is 0, or `size` is more than 2^32 - 1
+ * digests, or the counts differ, or `keys_length` is not `count * size`, as a product without
+ * overflow. */
+NATTIZHU_CHECKED bool nattizhu_pbkdf2_list(nattizhu_variant variant,
+                                           const nattizhu_message *passwords, size_t count,
+                                           const nattizhu_message *salts, size_t salt_count,
+                                           uint32_t rounds, size_t size, uint8_t *keys,
+                                           size_t keys_length);
 
 #ifdef __cplusplus
 }

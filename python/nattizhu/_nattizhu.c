@@ -20,9 +20,7 @@ enum { ENOUGH = 2047 };
 /* Messages of a list that are handed on at once. */
 enum { GROUP = 1024 };
 
-enum { MOST = NATTIZHU_RIPEMD320_SIZE };
-
-/* ---- The variants */
+/* ---- The library */
 
 /* The module has the library in two builds: for any processor that it runs on, and for x86-64-v3, where
  * each name ends in _v3. The calls for many messages, and for keys, are those of the second where this
@@ -34,86 +32,30 @@ enum { MOST = NATTIZHU_RIPEMD320_SIZE };
 #endif
 #define BEST(name) (HAS_V3 ? name##_v3 : name)
 
+extern __typeof__(nattizhu_each) nattizhu_each_v3;
+extern __typeof__(nattizhu_list) nattizhu_list_v3;
+extern __typeof__(nattizhu_hmac_each) nattizhu_hmac_each_v3;
+extern __typeof__(nattizhu_hmac_list) nattizhu_hmac_list_v3;
 extern __typeof__(nattizhu_pbkdf2) nattizhu_pbkdf2_v3;
+
+/* Sets an exception if the library refused what it was given, which it has no reason to. */
+static bool taken(bool answer) {
+  if (!answer)
+    PyErr_SetString(PyExc_SystemError, "nattizhu: the library refused what it was given");
+  return answer;
+}
+
+/* ---- The variants */
 
 typedef struct {
   nattizhu_variant number;
-  Py_ssize_t size; /* of a digest */
+  Py_ssize_t size;      /* of a digest */
   const char *names[4]; /* the first is the name of its hashers */
-  /* Of hashers and of HMACs: the size of a state, and the calls on one. */
-  struct {
-    Py_ssize_t size;
-    bool (*update)(void *, const uint8_t *, size_t);
-    bool (*final)(const void *, uint8_t *);
-  } of[2];
-  void (*init)(void *);
-  void (*hmac_init)(void *, const uint8_t *, size_t);
-  bool (*hmac_verify)(const void *, const uint8_t *, size_t);
-  bool (*each)(const uint8_t *, size_t, size_t, uint8_t *, size_t);
-  void (*list)(const nattizhu_message *, size_t, uint8_t *);
-  bool (*hmac_each)(const uint8_t *, size_t, const uint8_t *, size_t, size_t, uint8_t *, size_t);
-  void (*hmac_list)(const uint8_t *, size_t, const nattizhu_message *, size_t, uint8_t *);
 } Variant;
 
-#define CALLS(bits)                                                                                \
-  extern __typeof__(nattizhu_ripemd##bits##_each) nattizhu_ripemd##bits##_each_v3;                 \
-  extern __typeof__(nattizhu_ripemd##bits##_list) nattizhu_ripemd##bits##_list_v3;                 \
-  extern __typeof__(nattizhu_hmac_ripemd##bits##_each) nattizhu_hmac_ripemd##bits##_each_v3;       \
-  extern __typeof__(nattizhu_hmac_ripemd##bits##_list) nattizhu_hmac_ripemd##bits##_list_v3;       \
-  static void init_##bits(void *state) { nattizhu_ripemd##bits##_init(state); }                    \
-  static bool update_##bits(void *state, const uint8_t *bytes, size_t length) {                    \
-    return nattizhu_ripemd##bits##_update(state, bytes, length);                                   \
-  }                                                                                                \
-  static bool final_##bits(const void *state, uint8_t *digest) {                                   \
-    return nattizhu_ripemd##bits##_final(state, digest);                                           \
-  }                                                                                                \
-  static void hmac_init_##bits(void *state, const uint8_t *key, size_t length) {                   \
-    nattizhu_hmac_ripemd##bits##_init(state, key, length);                                         \
-  }                                                                                                \
-  static bool hmac_update_##bits(void *state, const uint8_t *bytes, size_t length) {               \
-    return nattizhu_hmac_ripemd##bits##_update(state, bytes, length);                              \
-  }                                                                                                \
-  static bool hmac_final_##bits(const void *state, uint8_t *tag) {                                 \
-    return nattizhu_hmac_ripemd##bits##_final(state, tag);                                         \
-  }                                                                                                \
-  static bool hmac_verify_##bits(const void *state, const uint8_t *tag, size_t length) {           \
-    return nattizhu_hmac_ripemd##bits##_verify(state, tag, length);                                \
-  }                                                                                                \
-  static bool each_##bits(const uint8_t *bytes, size_t length, size_t size, uint8_t *digests,      \
-                          size_t count) {                                                          \
-    return BEST(nattizhu_ripemd##bits##_each)(                                                     \
-        bytes, length, size, (uint8_t(*)[NATTIZHU_RIPEMD##bits##_SIZE])digests, count);            \
-  }                                                                                                \
-  static void list_##bits(const nattizhu_message *messages, size_t count, uint8_t *digests) {      \
-    BEST(nattizhu_ripemd##bits##_list)(messages, count,                                            \
-                                       (uint8_t(*)[NATTIZHU_RIPEMD##bits##_SIZE])digests);         \
-  }                                                                                                \
-  static bool hmac_each_##bits(const uint8_t *key, size_t key_length, const uint8_t *bytes,        \
-                               size_t length, size_t size, uint8_t *tags, size_t count) {          \
-    return BEST(nattizhu_hmac_ripemd##bits##_each)(key, key_length, bytes, length, size,           \
-                                                   (uint8_t(*)[NATTIZHU_RIPEMD##bits##_SIZE])tags, \
-                                                   count);                                         \
-  }                                                                                                \
-  static void hmac_list_##bits(const uint8_t *key, size_t key_length,                              \
-                               const nattizhu_message *texts, size_t count, uint8_t *tags) {       \
-    BEST(nattizhu_hmac_ripemd##bits##_list)(key, key_length, texts, count,                         \
-                                            (uint8_t(*)[NATTIZHU_RIPEMD##bits##_SIZE])tags);       \
-  }
-
-CALLS(128)
-CALLS(160)
-CALLS(256)
-CALLS(320)
-
 #define VARIANT(bits)                                                                              \
-  {                                                                                                \
-    NATTIZHU_RIPEMD##bits, NATTIZHU_RIPEMD##bits##_SIZE,                                           \
-        {"ripemd" #bits, "ripemd-" #bits, "rmd" #bits, NULL},                                      \
-        {{NATTIZHU_RIPEMD##bits##_STATE_SIZE, update_##bits, final_##bits},                        \
-         {NATTIZHU_HMAC_RIPEMD##bits##_STATE_SIZE, hmac_update_##bits, hmac_final_##bits}},        \
-        init_##bits, hmac_init_##bits, hmac_verify_##bits, each_##bits, list_##bits,               \
-        hmac_each_##bits, hmac_list_##bits                                                         \
-  }
+  {NATTIZHU_RIPEMD##bits, NATTIZHU_RIPEMD##bits##_SIZE,                                            \
+   {"ripemd" #bits, "ripemd-" #bits, "rmd" #bits, NULL}}
 
 enum { VARIANTS = 4 };
 static const Variant variants[VARIANTS] = {VARIANT(128), VARIANT(160), VARIANT(256), VARIANT(320)};
@@ -144,21 +86,21 @@ static const Variant *variant_named(PyObject *name) {
 
 /* ---- Arguments */
 
-/* How a function is called: its parameters in order, of which so many may be given by position, and so
- * many have to be given. An alias names the same parameter. */
+/* How a function is called: its parameters in order, of which so many may be given by position. The first
+ * ones have to be given, so many, and the one for the variant, which may have an alias. */
 typedef struct {
   const char *function;
   const char *parameters[6];
-  const char *aliases[6];
-  Py_ssize_t positional, required;
+  Py_ssize_t positional, required, variant;
+  const char *alias;
 } Signature;
 
 static Py_ssize_t parameter(const Signature *signature, PyObject *name) {
   for (Py_ssize_t i = 0; signature->parameters[i] != NULL; i++)
-    if (PyUnicode_CompareWithASCIIString(name, signature->parameters[i]) == 0 ||
-        (signature->aliases[i] != NULL &&
-         PyUnicode_CompareWithASCIIString(name, signature->aliases[i]) == 0))
+    if (PyUnicode_CompareWithASCIIString(name, signature->parameters[i]) == 0)
       return i;
+  if (signature->alias != NULL && PyUnicode_CompareWithASCIIString(name, signature->alias) == 0)
+    return signature->variant;
   return -1;
 }
 
@@ -188,8 +130,8 @@ static bool bind(const Signature *signature, PyObject *const *arguments, Py_ssiz
     }
     places[place] = arguments[count + i];
   }
-  for (Py_ssize_t i = 0; i < signature->required; i++)
-    if (places[i] == NULL) {
+  for (Py_ssize_t i = 0; signature->parameters[i] != NULL; i++)
+    if (places[i] == NULL && (i < signature->required || i == signature->variant)) {
       PyErr_Format(PyExc_TypeError, "%s() missing required argument '%s' (pos %zd)",
                    signature->function, signature->parameters[i], i + 1);
       return false;
@@ -229,8 +171,10 @@ typedef struct {
   const Variant *variant;
   PyThread_type_lock lock; /* null until a call leaves the interpreter's lock */
   Py_ssize_t keyed;        /* 1 if it is an HMAC, and else 0 */
-  /* As it is saved. It has the alignment of the pointers before it, so that words are read at once. */
-  uint8_t state[NATTIZHU_HMAC_RIPEMD320_STATE_SIZE];
+  union {
+    nattizhu_state hash;
+    nattizhu_hmac_state hmac;
+  } state;
 } Hash;
 
 typedef struct {
@@ -238,13 +182,13 @@ typedef struct {
   PyObject *from_state, *hmac_from_state;
 } Module;
 
+/* A hasher or an HMAC, to which a state has to be written. */
 static Hash *made(PyTypeObject *type, const Variant *variant, Py_ssize_t keyed) {
   Hash *self = PyObject_New(Hash, type);
   if (self != NULL) {
     self->variant = variant;
     self->lock = NULL;
     self->keyed = keyed;
-    memset(self->state, 0, sizeof self->state);
   }
   return self;
 }
@@ -258,7 +202,10 @@ static void hash_dealloc(PyObject *object) {
   Py_DECREF(type);
 }
 
-static Py_ssize_t state_size(const Hash *self) { return self->variant->of[self->keyed].size; }
+/* It is saved as so many bytes: those of its state after the first one. */
+static Py_ssize_t saved_size(const Hash *self) {
+  return (1 + self->keyed) * (self->variant->size + 72);
+}
 
 /* Waits until no other thread is within a call on the state. */
 static void enter(Hash *self) {
@@ -276,11 +223,14 @@ static void leave(Hash *self) {
 
 /* The state is one that the library made or accepted, so that these answer true. */
 static bool update_state(Hash *self, const uint8_t *bytes, size_t length) {
-  return self->variant->of[self->keyed].update(self->state, bytes, length);
+  return self->keyed ? nattizhu_hmac_update(&self->state.hmac, bytes, length)
+                     : nattizhu_update(&self->state.hash, bytes, length);
 }
 
-static bool final_of(Hash *self, uint8_t digest[MOST]) {
-  return self->variant->of[self->keyed].final(self->state, digest);
+static bool final_of(const Hash *self, uint8_t digest[NATTIZHU_MAX_SIZE]) {
+  size_t size = (size_t)self->variant->size;
+  return self->keyed ? nattizhu_hmac_final(&self->state.hmac, digest, size)
+                     : nattizhu_final(&self->state.hash, digest, size);
 }
 
 static bool update_by(Hash *self, PyObject *data) {
@@ -302,29 +252,23 @@ static bool update_by(Hash *self, PyObject *data) {
     leave(self);
   }
   PyBuffer_Release(&held);
-  if (!done)
-    PyErr_SetString(PyExc_SystemError, "nattizhu: the library refused a state that it made");
-  return done;
+  return taken(done);
 }
 
 static PyObject *hash_update(PyObject *self, PyObject *data) {
-  if (!update_by((Hash *)self, data))
-    return NULL;
-  Py_RETURN_NONE;
+  return update_by((Hash *)self, data) ? Py_NewRef(Py_None) : NULL;
 }
 
-static bool digest_of(Hash *self, uint8_t digest[MOST]) {
+static bool digest_of(Hash *self, uint8_t digest[NATTIZHU_MAX_SIZE]) {
   bool done;
   enter(self);
   done = final_of(self, digest);
   leave(self);
-  if (!done)
-    PyErr_SetString(PyExc_SystemError, "nattizhu: the library refused a state that it made");
-  return done;
+  return taken(done);
 }
 
 static PyObject *hash_digest(PyObject *self, PyObject *Py_UNUSED(none)) {
-  uint8_t digest[MOST];
+  uint8_t digest[NATTIZHU_MAX_SIZE];
   if (!digest_of((Hash *)self, digest))
     return NULL;
   return PyBytes_FromStringAndSize((char *)digest, ((Hash *)self)->variant->size);
@@ -332,8 +276,8 @@ static PyObject *hash_digest(PyObject *self, PyObject *Py_UNUSED(none)) {
 
 static PyObject *hash_hexdigest(PyObject *self, PyObject *Py_UNUSED(none)) {
   static const char digits[] = "0123456789abcdef";
-  uint8_t digest[MOST];
-  char text[2 * MOST];
+  uint8_t digest[NATTIZHU_MAX_SIZE];
+  char text[2 * NATTIZHU_MAX_SIZE];
   Py_ssize_t size = ((Hash *)self)->variant->size;
   if (!digest_of((Hash *)self, digest))
     return NULL;
@@ -349,7 +293,7 @@ static PyObject *hash_copy(PyObject *object, PyObject *Py_UNUSED(none)) {
   Hash *copy = made(Py_TYPE(object), self->variant, self->keyed);
   if (copy != NULL) {
     enter(self);
-    memcpy(copy->state, self->state, sizeof self->state);
+    copy->state = self->state;
     leave(self);
   }
   return (PyObject *)copy;
@@ -357,20 +301,17 @@ static PyObject *hash_copy(PyObject *object, PyObject *Py_UNUSED(none)) {
 
 static PyObject *hash_state(PyObject *object, PyObject *Py_UNUSED(none)) {
   Hash *self = (Hash *)object;
-  uint8_t bytes[sizeof self->state];
+  nattizhu_hmac_state state;
   enter(self);
-  memcpy(bytes, self->state, sizeof bytes);
+  state = self->state.hmac;
   leave(self);
-  return PyBytes_FromStringAndSize((char *)bytes, state_size(self));
+  return PyBytes_FromStringAndSize((char *)state.bytes + 1, saved_size(self));
 }
 
 static PyObject *hash_reduce(PyObject *object, PyObject *Py_UNUSED(none)) {
   Hash *self = (Hash *)object;
   Module *module = PyType_GetModuleState(Py_TYPE(object));
-  PyObject *state;
-  if (module == NULL)
-    return NULL;
-  state = hash_state(object, NULL);
+  PyObject *state = module == NULL ? NULL : hash_state(object, NULL);
   if (state == NULL)
     return NULL;
   return Py_BuildValue("O(sN)", self->keyed ? module->hmac_from_state : module->from_state,
@@ -384,7 +325,7 @@ static PyObject *hmac_verify_tag(PyObject *object, PyObject *tag) {
   if (!hold(tag, &held, "tag"))
     return NULL;
   enter(self);
-  right = self->variant->hmac_verify(self->state, held.buf, (size_t)held.len);
+  right = nattizhu_hmac_verify(&self->state.hmac, held.buf, (size_t)held.len);
   leave(self);
   PyBuffer_Release(&held);
   return PyBool_FromLong(right);
@@ -458,18 +399,16 @@ static PyType_Spec hmac_spec = {"nattizhu.Hmac", sizeof(Hash), 0, FLAGS, hmac_sl
 
 static PyObject *new_hasher(PyObject *module, const Variant *variant, PyObject *data) {
   Hash *self = made(((Module *)PyModule_GetState(module))->hasher, variant, 0);
-  if (self != NULL) {
-    variant->init(self->state);
-    if (data != NULL && !update_by(self, data))
-      Py_CLEAR(self);
-  }
+  if (self != NULL && (!taken(nattizhu_init(variant->number, &self->state.hash)) ||
+                       (data != NULL && !update_by(self, data))))
+    Py_CLEAR(self);
   return (PyObject *)self;
 }
 
 static PyObject *new(PyObject *module, PyObject *const *arguments, Py_ssize_t count,
                      PyObject *names) {
-  static const Signature signature = {
-      "new", {"name", "data", "usedforsecurity", NULL}, {NULL}, 2, 1};
+  static const Signature signature = {"new", {"name", "data", "usedforsecurity", NULL}, 2, 1, 0,
+                                      NULL};
   PyObject *given[3] = {NULL};
   const Variant *variant;
   if (!bind(&signature, arguments, count, names, given))
@@ -482,7 +421,7 @@ static PyObject *new(PyObject *module, PyObject *const *arguments, Py_ssize_t co
   static PyObject *ripemd##bits(PyObject *module, PyObject *const *arguments, Py_ssize_t count,    \
                                 PyObject *names) {                                                 \
     static const Signature signature = {                                                           \
-        "ripemd" #bits, {"data", "usedforsecurity", NULL}, {NULL}, 1, 0};                          \
+        "ripemd" #bits, {"data", "usedforsecurity", NULL}, 1, 0, -1, NULL};                        \
     PyObject *given[2] = {NULL};                                                                   \
     if (!bind(&signature, arguments, count, names, given))                                         \
       return NULL;                                                                                 \
@@ -508,53 +447,56 @@ static const Variant *variant_of(PyObject *digestmod) {
   return variant_named(digestmod);
 }
 
+/* Puts the arguments in their places, and returns the variant; null and an exception if there is none. */
+static const Variant *bind_variant(const Signature *signature, PyObject *const *arguments,
+                                   Py_ssize_t count, PyObject *names, PyObject **places) {
+  return bind(signature, arguments, count, names, places) ? variant_of(places[signature->variant])
+                                                          : NULL;
+}
+
 static PyObject *hmac_new(PyObject *module, PyObject *const *arguments, Py_ssize_t count,
                           PyObject *names) {
-  static const Signature signature = {
-      "hmac_new", {"key", "msg", "digestmod", NULL}, {NULL, NULL, "name"}, 3, 1};
+  static const Signature signature = {"hmac_new", {"key", "msg", "digestmod", NULL}, 3, 1, 2,
+                                      "name"};
   PyObject *given[3] = {NULL};
-  const Variant *variant;
+  const Variant *variant = bind_variant(&signature, arguments, count, names, given);
   Py_buffer key;
   Hash *self;
-  if (!bind(&signature, arguments, count, names, given))
-    return NULL;
-  if (given[2] == NULL) {
-    PyErr_SetString(PyExc_TypeError, "hmac_new() missing required argument 'digestmod' (pos 3)");
-    return NULL;
-  }
-  variant = variant_of(given[2]);
   if (variant == NULL || !hold(given[0], &key, "key"))
     return NULL;
   self = made(((Module *)PyModule_GetState(module))->hmac, variant, 1);
-  if (self != NULL)
-    variant->hmac_init(self->state, key.buf, (size_t)key.len);
+  if (self != NULL &&
+      !taken(nattizhu_hmac_init(variant->number, &self->state.hmac, key.buf, (size_t)key.len)))
+    Py_CLEAR(self);
   PyBuffer_Release(&key);
   if (self != NULL && given[1] != NULL && given[1] != Py_None && !update_by(self, given[1]))
     Py_CLEAR(self);
   return (PyObject *)self;
 }
 
-static PyObject *loaded(PyTypeObject *type, Py_ssize_t keyed, PyObject *const *given) {
+static PyObject *loaded(PyObject *module, Py_ssize_t keyed, const Variant *variant,
+                        PyObject *bytes) {
+  const Module *types = PyModule_GetState(module);
   const char *kind = keyed ? "Hmac" : "Hasher";
-  const Variant *variant = variant_of(given[0]);
-  uint8_t digest[MOST];
+  uint8_t digest[NATTIZHU_MAX_SIZE];
   Py_buffer held;
   Hash *self;
-  if (variant == NULL || !hold(given[1], &held, "state"))
+  if (!hold(bytes, &held, "state"))
     return NULL;
-  self = made(type, variant, keyed);
+  self = made(keyed ? types->hmac : types->hasher, variant, keyed);
+  if (self != NULL && held.len != saved_size(self)) {
+    PyErr_Format(PyExc_ValueError, "the state of a %s of %s has %zd bytes, not %zd", kind,
+                 variant->names[0], saved_size(self), held.len);
+    Py_CLEAR(self);
+  }
   if (self != NULL) {
-    if (held.len != state_size(self)) {
-      PyErr_Format(PyExc_ValueError, "the state of a %s of %s has %zd bytes, not %zd", kind,
-                   variant->names[0], state_size(self), held.len);
+    uint8_t *state = self->state.hmac.bytes;
+    state[0] = (uint8_t)(128 * keyed + variant->size);
+    memcpy(state + 1, held.buf, (size_t)held.len);
+    if (!final_of(self, digest)) {
+      PyErr_Format(PyExc_ValueError, "no %s of %s is saved as these bytes", kind,
+                   variant->names[0]);
       Py_CLEAR(self);
-    } else {
-      memcpy(self->state, held.buf, (size_t)held.len);
-      if (!final_of(self, digest)) {
-        PyErr_Format(PyExc_ValueError, "no %s of %s is saved as these bytes", kind,
-                     variant->names[0]);
-        Py_CLEAR(self);
-      }
     }
   }
   PyBuffer_Release(&held);
@@ -563,93 +505,64 @@ static PyObject *loaded(PyTypeObject *type, Py_ssize_t keyed, PyObject *const *g
 
 static PyObject *from_state(PyObject *module, PyObject *const *arguments, Py_ssize_t count,
                             PyObject *names) {
-  static const Signature signature = {"from_state", {"name", "state", NULL}, {NULL}, 2, 2};
+  static const Signature signature = {"from_state", {"name", "state", NULL}, 2, 2, 0, NULL};
   PyObject *given[2] = {NULL};
-  if (!bind(&signature, arguments, count, names, given))
-    return NULL;
-  return loaded(((Module *)PyModule_GetState(module))->hasher, 0, given);
+  const Variant *variant = bind_variant(&signature, arguments, count, names, given);
+  return variant == NULL ? NULL : loaded(module, 0, variant, given[1]);
 }
 
 static PyObject *hmac_from_state(PyObject *module, PyObject *const *arguments, Py_ssize_t count,
                                  PyObject *names) {
-  static const Signature signature = {"hmac_from_state", {"name", "state", NULL}, {NULL}, 2, 2};
+  static const Signature signature = {"hmac_from_state", {"name", "state", NULL}, 2, 2, 0, NULL};
   PyObject *given[2] = {NULL};
-  if (!bind(&signature, arguments, count, names, given))
-    return NULL;
-  return loaded(((Module *)PyModule_GetState(module))->hmac, 1, given);
+  const Variant *variant = bind_variant(&signature, arguments, count, names, given);
+  return variant == NULL ? NULL : loaded(module, 1, variant, given[1]);
 }
 
 /* ---- Tags and keys by one call */
 
 static PyObject *hmac_digest(PyObject *Py_UNUSED(module), PyObject *const *arguments,
                              Py_ssize_t count, PyObject *names) {
-  static const Signature signature = {
-      "hmac_digest", {"key", "msg", "digest", NULL}, {NULL, NULL, "name"}, 3, 3};
-  PyObject *given[3] = {NULL};
-  const Variant *variant;
-  Py_buffer key, text;
-  uint8_t tag[MOST];
-  bool done;
-  if (!bind(&signature, arguments, count, names, given))
-    return NULL;
-  variant = variant_of(given[2]);
-  if (variant == NULL || !hold(given[0], &key, "key"))
-    return NULL;
-  if (!hold(given[1], &text, NULL)) {
-    PyBuffer_Release(&key);
-    return NULL;
+  static const Signature signature = {"hmac_digest", {"key", "msg", "digest", NULL}, 3, 3, 2,
+                                      "name"};
+  PyObject *given[3] = {NULL}, *tag = NULL;
+  const Variant *variant = bind_variant(&signature, arguments, count, names, given);
+  Py_buffer key = {0}, text = {0};
+  if (variant != NULL && hold(given[0], &key, "key") && hold(given[1], &text, NULL)) {
+    uint8_t bytes[NATTIZHU_MAX_SIZE];
+    PyThreadState *left = text.len > ENOUGH ? PyEval_SaveThread() : NULL;
+    bool done = nattizhu_hmac(variant->number, key.buf, (size_t)key.len, text.buf, (size_t)text.len,
+                              bytes, (size_t)variant->size);
+    if (left != NULL)
+      PyEval_RestoreThread(left);
+    if (taken(done))
+      tag = PyBytes_FromStringAndSize((char *)bytes, variant->size);
   }
-  PyThreadState *left = text.len > ENOUGH ? PyEval_SaveThread() : NULL;
-  done = nattizhu_hmac(variant->number, key.buf, (size_t)key.len, text.buf, (size_t)text.len, tag,
-                       (size_t)variant->size);
-  if (left != NULL)
-    PyEval_RestoreThread(left);
   PyBuffer_Release(&text);
   PyBuffer_Release(&key);
-  if (!done) {
-    PyErr_SetString(PyExc_SystemError, "nattizhu: no such variant");
-    return NULL;
-  }
-  return PyBytes_FromStringAndSize((char *)tag, variant->size);
+  return tag;
 }
 
 static PyObject *hmac_verify(PyObject *Py_UNUSED(module), PyObject *const *arguments,
                              Py_ssize_t count, PyObject *names) {
-  static const Signature signature = {
-      "hmac_verify", {"key", "msg", "digest", "tag", NULL}, {NULL, NULL, "name", NULL}, 4, 4};
-  PyObject *given[4] = {NULL};
-  const Variant *variant;
-  Py_buffer key, text, tag;
-  bool right;
-  if (!bind(&signature, arguments, count, names, given))
-    return NULL;
-  variant = variant_of(given[2]);
-  if (variant == NULL || !hold(given[0], &key, "key"))
-    return NULL;
-  if (!hold(given[1], &text, NULL)) {
-    PyBuffer_Release(&key);
-    return NULL;
+  static const Signature signature = {"hmac_verify", {"key", "msg", "digest", "tag", NULL}, 4, 4, 2,
+                                      "name"};
+  PyObject *given[4] = {NULL}, *answer = NULL;
+  const Variant *variant = bind_variant(&signature, arguments, count, names, given);
+  Py_buffer key = {0}, text = {0}, tag = {0};
+  if (variant != NULL && hold(given[0], &key, "key") && hold(given[1], &text, NULL) &&
+      hold(given[3], &tag, "tag")) {
+    PyThreadState *left = text.len > ENOUGH ? PyEval_SaveThread() : NULL;
+    bool right = nattizhu_hmac_verify_text(variant->number, key.buf, (size_t)key.len, text.buf,
+                                           (size_t)text.len, tag.buf, (size_t)tag.len);
+    if (left != NULL)
+      PyEval_RestoreThread(left);
+    answer = PyBool_FromLong(right);
   }
-  if (!hold(given[3], &tag, "tag")) {
-    PyBuffer_Release(&text);
-    PyBuffer_Release(&key);
-    return NULL;
-  }
-  PyThreadState *left = text.len > ENOUGH ? PyEval_SaveThread() : NULL;
-  right = nattizhu_hmac_verify_text(variant->number, key.buf, (size_t)key.len, text.buf,
-                                    (size_t)text.len, tag.buf, (size_t)tag.len);
-  if (left != NULL)
-    PyEval_RestoreThread(left);
   PyBuffer_Release(&tag);
   PyBuffer_Release(&text);
   PyBuffer_Release(&key);
-  return PyBool_FromLong(right);
-}
-
-/* The key, or null where there is none: then digests are made, and else tags. */
-static bool hold_key(PyObject *key, Py_buffer *held) {
-  held->obj = NULL;
-  return key == NULL || hold(key, held, "key");
+  return answer;
 }
 
 /* A list of the outputs, which lie one after another. */
@@ -664,49 +577,50 @@ static bool append(PyObject *list, const uint8_t *outputs, Py_ssize_t count, Py_
   return true;
 }
 
-static PyObject *each_of(const Variant *variant, PyObject *key, PyObject *records, PyObject *wanted) {
-  Py_buffer secret, held;
+/* The digests of records of this size, or their tags if there is a key. */
+static PyObject *each_held(const Variant *variant, const Py_buffer *key, const Py_buffer *records,
+                           Py_ssize_t size) {
   PyObject *list = NULL;
   uint8_t *outputs = NULL;
-  Py_ssize_t size, count;
-  PyObject *index = PyNumber_Index(wanted);
-  if (index == NULL)
-    return NULL;
-  size = PyNumber_AsSsize_t(index, NULL); /* a greater number is as the greatest one here */
-  Py_DECREF(index);
-  if (size < 1) {
-    PyErr_SetString(PyExc_ValueError, "the size of a record must be at least 1");
-    return NULL;
-  }
-  if (!hold_key(key, &secret))
-    return NULL;
-  if (!hold(records, &held, NULL)) {
-    PyBuffer_Release(&secret);
-    return NULL;
-  }
-  count = held.len / size;
-  if (held.len % size != 0) {
-    PyErr_Format(PyExc_ValueError, "%zd bytes are no whole number of records of %zd bytes", held.len,
-                 size);
-  } else if (count > PY_SSIZE_T_MAX / variant->size ||
-             (outputs = PyMem_Malloc((size_t)(count * variant->size))) == NULL) {
-    PyErr_NoMemory();
-  } else {
-    bool done;
-    PyThreadState *left = held.len > ENOUGH ? PyEval_SaveThread() : NULL;
-    done = key == NULL ? variant->each(held.buf, (size_t)held.len, (size_t)size, outputs, (size_t)count)
-                       : variant->hmac_each(secret.buf, (size_t)secret.len, held.buf,
-                                            (size_t)held.len, (size_t)size, outputs, (size_t)count);
-    if (left != NULL)
-      PyEval_RestoreThread(left);
-    if (!done)
-      PyErr_SetString(PyExc_SystemError, "nattizhu: the records do not fit");
-    else
-      list = PyList_New(0);
-    if (list != NULL && !append(list, outputs, count, variant->size))
-      Py_CLEAR(list);
-  }
+  Py_ssize_t count = records->len / size;
+  size_t length = (size_t)count * (size_t)variant->size;
+  PyThreadState *left;
+  bool done;
+  if (records->len % size != 0)
+    return PyErr_Format(PyExc_ValueError, "%zd bytes are no whole number of records of %zd bytes",
+                        records->len, size);
+  if (count <= PY_SSIZE_T_MAX / variant->size)
+    outputs = PyMem_Malloc(length);
+  if (outputs == NULL)
+    return PyErr_NoMemory();
+  left = records->len > ENOUGH ? PyEval_SaveThread() : NULL;
+  done = key == NULL
+             ? BEST(nattizhu_each)(variant->number, records->buf, (size_t)records->len,
+                                   (size_t)size, outputs, length)
+             : BEST(nattizhu_hmac_each)(variant->number, key->buf, (size_t)key->len, records->buf,
+                                        (size_t)records->len, (size_t)size, outputs, length);
+  if (left != NULL)
+    PyEval_RestoreThread(left);
+  if (taken(done))
+    list = PyList_New(0);
+  if (list != NULL && !append(list, outputs, count, variant->size))
+    Py_CLEAR(list);
   PyMem_Free(outputs);
+  return list;
+}
+
+static PyObject *each_of(const Variant *variant, PyObject *key, PyObject *records, PyObject *wanted) {
+  Py_buffer secret = {0}, held = {0};
+  PyObject *list = NULL;
+  /* A greater number is as the greatest one here. */
+  Py_ssize_t size = PyNumber_AsSsize_t(wanted, NULL);
+  if (size < 1) {
+    if (!PyErr_Occurred())
+      PyErr_SetString(PyExc_ValueError, "the size of a record must be at least 1");
+    return NULL;
+  }
+  if ((key == NULL || hold(key, &secret, "key")) && hold(records, &held, NULL))
+    list = each_held(variant, key == NULL ? NULL : &secret, &held, size);
   PyBuffer_Release(&held);
   PyBuffer_Release(&secret);
   return list;
@@ -729,7 +643,7 @@ static PyObject *message_of(PyObject *object) {
 typedef struct {
   PyObject *objects[GROUP];
   nattizhu_message messages[GROUP];
-  uint8_t outputs[GROUP * MOST];
+  uint8_t outputs[GROUP * NATTIZHU_MAX_SIZE];
 } Group;
 
 /* The next messages of an iterator, a group at most. Returns how many, or -1 and an exception. */
@@ -759,35 +673,32 @@ static Py_ssize_t next_group(Group *group, PyObject *iterator, size_t *total) {
   return count;
 }
 
+/* The digests of messages, or their tags if there is a key. */
 static PyObject *list_of(const Variant *variant, PyObject *key, PyObject *messages) {
-  Py_buffer secret;
+  Py_buffer secret = {0};
   PyObject *list = NULL;
   Group *group = NULL;
   PyObject *iterator = PyObject_GetIter(messages);
   if (iterator == NULL)
     return NULL;
-  if (!hold_key(key, &secret)) {
-    Py_DECREF(iterator);
-    return NULL;
+  if (key == NULL || hold(key, &secret, "key")) {
+    group = PyMem_Malloc(sizeof *group);
+    list = group == NULL ? PyErr_NoMemory() : PyList_New(0);
   }
-  group = PyMem_Malloc(sizeof *group);
-  if (group == NULL)
-    PyErr_NoMemory();
-  else
-    list = PyList_New(0);
   while (list != NULL) {
     size_t total;
     Py_ssize_t count = next_group(group, iterator, &total);
     if (count > 0) {
+      size_t length = (size_t)(count * variant->size);
       PyThreadState *left = total > ENOUGH ? PyEval_SaveThread() : NULL;
-      if (key == NULL)
-        variant->list(group->messages, (size_t)count, group->outputs);
-      else
-        variant->hmac_list(secret.buf, (size_t)secret.len, group->messages, (size_t)count,
-                           group->outputs);
+      bool done = key == NULL ? BEST(nattizhu_list)(variant->number, group->messages, (size_t)count,
+                                                    group->outputs, length)
+                              : BEST(nattizhu_hmac_list)(variant->number, secret.buf,
+                                                         (size_t)secret.len, group->messages,
+                                                         (size_t)count, group->outputs, length);
       if (left != NULL)
         PyEval_RestoreThread(left);
-      if (!append(list, group->outputs, count, variant->size))
+      if (!taken(done) || !append(list, group->outputs, count, variant->size))
         Py_CLEAR(list);
       for (Py_ssize_t i = 0; i < count; i++)
         Py_DECREF(group->objects[i]);
@@ -805,63 +716,43 @@ static PyObject *list_of(const Variant *variant, PyObject *key, PyObject *messag
 
 static PyObject *digest_each(PyObject *Py_UNUSED(module), PyObject *const *arguments,
                              Py_ssize_t count, PyObject *names) {
-  static const Signature signature = {
-      "digest_each", {"name", "records", "size", NULL}, {NULL}, 3, 3};
+  static const Signature signature = {"digest_each", {"name", "records", "size", NULL}, 3, 3, 0,
+                                      NULL};
   PyObject *given[3] = {NULL};
-  const Variant *variant;
-  if (!bind(&signature, arguments, count, names, given))
-    return NULL;
-  variant = variant_of(given[0]);
+  const Variant *variant = bind_variant(&signature, arguments, count, names, given);
   return variant == NULL ? NULL : each_of(variant, NULL, given[1], given[2]);
 }
 
 static PyObject *hmac_digest_each(PyObject *Py_UNUSED(module), PyObject *const *arguments,
                                   Py_ssize_t count, PyObject *names) {
-  static const Signature signature = {"hmac_digest_each",
-                                      {"key", "records", "size", "digest", NULL},
-                                      {NULL, NULL, NULL, "name"},
-                                      4,
-                                      4};
+  static const Signature signature = {
+      "hmac_digest_each", {"key", "records", "size", "digest", NULL}, 4, 4, 3, "name"};
   PyObject *given[4] = {NULL};
-  const Variant *variant;
-  if (!bind(&signature, arguments, count, names, given))
-    return NULL;
-  variant = variant_of(given[3]);
+  const Variant *variant = bind_variant(&signature, arguments, count, names, given);
   return variant == NULL ? NULL : each_of(variant, given[0], given[1], given[2]);
 }
 
 static PyObject *digest_list(PyObject *Py_UNUSED(module), PyObject *const *arguments,
                              Py_ssize_t count, PyObject *names) {
-  static const Signature signature = {"digest_list", {"name", "messages", NULL}, {NULL}, 2, 2};
+  static const Signature signature = {"digest_list", {"name", "messages", NULL}, 2, 2, 0, NULL};
   PyObject *given[2] = {NULL};
-  const Variant *variant;
-  if (!bind(&signature, arguments, count, names, given))
-    return NULL;
-  variant = variant_of(given[0]);
+  const Variant *variant = bind_variant(&signature, arguments, count, names, given);
   return variant == NULL ? NULL : list_of(variant, NULL, given[1]);
 }
 
 static PyObject *hmac_digest_list(PyObject *Py_UNUSED(module), PyObject *const *arguments,
                                   Py_ssize_t count, PyObject *names) {
   static const Signature signature = {
-      "hmac_digest_list", {"key", "messages", "digest", NULL}, {NULL, NULL, "name"}, 3, 3};
+      "hmac_digest_list", {"key", "messages", "digest", NULL}, 3, 3, 2, "name"};
   PyObject *given[3] = {NULL};
-  const Variant *variant;
-  if (!bind(&signature, arguments, count, names, given))
-    return NULL;
-  variant = variant_of(given[2]);
+  const Variant *variant = bind_variant(&signature, arguments, count, names, given);
   return variant == NULL ? NULL : list_of(variant, given[0], given[1]);
 }
 
 /* A number in the range that hashlib takes it from, or -1 and an exception. */
 static long long positive(PyObject *object, const char *what) {
   int beyond;
-  long long number;
-  PyObject *index = PyNumber_Index(object);
-  if (index == NULL)
-    return -1;
-  number = PyLong_AsLongLongAndOverflow(index, &beyond);
-  Py_DECREF(index);
+  long long number = PyLong_AsLongLongAndOverflow(object, &beyond);
   if (number == -1 && beyond == 0 && PyErr_Occurred())
     return -1;
   if (beyond < 0 || (beyond == 0 && number < 1))
@@ -875,42 +766,31 @@ static long long positive(PyObject *object, const char *what) {
 
 static PyObject *pbkdf2_hmac(PyObject *Py_UNUSED(module), PyObject *const *arguments,
                              Py_ssize_t count, PyObject *names) {
-  static const Signature signature = {"pbkdf2_hmac",
-                                      {"hash_name", "password", "salt", "iterations", "dklen", NULL},
-                                      {NULL},
-                                      5,
-                                      4};
-  PyObject *given[5] = {NULL}, *key;
-  const Variant *variant;
-  Py_buffer password, salt;
+  static const Signature signature = {
+      "pbkdf2_hmac", {"hash_name", "password", "salt", "iterations", "dklen", NULL}, 5, 4, 0, NULL};
+  PyObject *given[5] = {NULL}, *key = NULL;
+  const Variant *variant = bind_variant(&signature, arguments, count, names, given);
+  Py_buffer password = {0}, salt = {0};
   long long rounds, length;
-  bool done = false;
-  if (!bind(&signature, arguments, count, names, given))
-    return NULL;
-  variant = variant_of(given[0]);
   if (variant == NULL)
     return NULL;
   rounds = positive(given[3], "iteration value");
   if (rounds < 0)
     return NULL;
   length = given[4] == NULL || given[4] == Py_None ? variant->size : positive(given[4], "key length");
-  if (length < 0 || !hold(given[1], &password, "password"))
+  if (length < 0)
     return NULL;
-  if (!hold(given[2], &salt, "salt")) {
-    PyBuffer_Release(&password);
-    return NULL;
-  }
-  key = PyBytes_FromStringAndSize(NULL, (Py_ssize_t)length);
+  if (hold(given[1], &password, "password") && hold(given[2], &salt, "salt"))
+    key = PyBytes_FromStringAndSize(NULL, (Py_ssize_t)length);
   if (key != NULL) {
     uint8_t *place = (uint8_t *)PyBytes_AsString(key);
+    bool done;
     Py_BEGIN_ALLOW_THREADS
     done = BEST(nattizhu_pbkdf2)(variant->number, password.buf, (size_t)password.len, salt.buf,
                                  (size_t)salt.len, (uint32_t)rounds, place, (size_t)length);
     Py_END_ALLOW_THREADS
-    if (!done) {
-      PyErr_SetString(PyExc_SystemError, "nattizhu: no key");
+    if (!taken(done))
       Py_CLEAR(key);
-    }
   }
   PyBuffer_Release(&salt);
   PyBuffer_Release(&password);
@@ -922,17 +802,17 @@ static PyObject *pbkdf2_hmac(PyObject *Py_UNUSED(module), PyObject *const *argum
 #define FUNCTION(name, doc)                                                                        \
   {#name, (PyCFunction)(void (*)(void))name, METH_FASTCALL | METH_KEYWORDS, PyDoc_STR(doc)}
 
+#define MAKER(bits)                                                                                \
+  FUNCTION(ripemd##bits, "ripemd" #bits "($module, /, data=b'', *, usedforsecurity=True)\n--\n\n"  \
+                         "A hasher of RIPEMD-" #bits ", which has taken data in.")
+
 static PyMethodDef functions[] = {
     FUNCTION(new, "new($module, /, name, data=b'', *, usedforsecurity=True)\n--\n\n"
                   "A hasher of the variant with this name, which has taken data in."),
-    FUNCTION(ripemd128, "ripemd128($module, /, data=b'', *, usedforsecurity=True)\n--\n\n"
-                        "A hasher of RIPEMD-128, which has taken data in."),
-    FUNCTION(ripemd160, "ripemd160($module, /, data=b'', *, usedforsecurity=True)\n--\n\n"
-                        "A hasher of RIPEMD-160, which has taken data in."),
-    FUNCTION(ripemd256, "ripemd256($module, /, data=b'', *, usedforsecurity=True)\n--\n\n"
-                        "A hasher of RIPEMD-256, which has taken data in."),
-    FUNCTION(ripemd320, "ripemd320($module, /, data=b'', *, usedforsecurity=True)\n--\n\n"
-                        "A hasher of RIPEMD-320, which has taken data in."),
+    MAKER(128),
+    MAKER(160),
+    MAKER(256),
+    MAKER(320),
     FUNCTION(from_state, "from_state($module, /, name, state)\n--\n\n"
                          "The hasher that is saved as these bytes, as its state() gave them.\n\n"
                          "It raises ValueError if no hasher of this variant is. States are not\n"

@@ -45,9 +45,7 @@ fn line(what: &str, bytes: usize, [one, other]: [f64; 2]) {
 
 fn main() {
     let bytes: Vec<u8> = (0..1 << 20).map(|i| i as u8).collect();
-    println!(
-        "| one message | `nattizhu_ripemd160` in C | `Ripemd160::digest` | difference | ratio |"
-    );
+    println!("| one message | `nattizhu_digest` in C | `Ripemd160::digest` | difference | ratio |");
     println!("|---|---|---|---|---|");
     for (what, length, slices, calls) in [
         ("32 bytes", 32, 10_000, 50),

@@ -1,6 +1,6 @@
 //! The hashers: a core over the states of the library, which `digest` gives a buffer and its traits.
 
-use crate::sys::{Variant, V128, V160, V256, V320};
+use crate::sys::{self, bytes_of, taken, HashState, Variant, V128, V160, V256, V320};
 use crate::{DeserializeStateError, SerializableState};
 use core::fmt;
 use digest::block_buffer::Eager;
@@ -26,13 +26,7 @@ use digest::{Digest, HashMarker, Output};
 #[derive(Clone)]
 pub struct RipemdCore<V: Variant> {
     /// What the library made of the blocks so far; nothing before the first.
-    state: Option<V::State>,
-}
-
-/// Panics unless the library took a state: the hashers have none that it refuses.
-#[inline]
-pub(crate) fn taken(answer: bool) {
-    assert!(answer, "nattizhu: the library refused a state that it made");
+    state: Option<HashState<V>>,
 }
 
 impl<V: Variant> Default for RipemdCore<V> {
@@ -59,8 +53,8 @@ impl<V: Variant> OutputSizeUser for RipemdCore<V> {
 impl<V: Variant> UpdateCore for RipemdCore<V> {
     #[inline]
     fn update_blocks(&mut self, blocks: &[Block<Self>]) {
-        let state = self.state.get_or_insert_with(V::init);
-        taken(V::update_blocks(state, blocks));
+        let state = self.state.get_or_insert_with(HashState::init);
+        taken(state.update(bytes_of(blocks)));
     }
 }
 
@@ -69,10 +63,10 @@ impl<V: Variant> FixedOutputCore for RipemdCore<V> {
     #[inline]
     fn finalize_fixed_core(&mut self, buffer: &mut Buffer<Self>, out: &mut Output<Self>) {
         match &mut self.state {
-            None => V::digest(buffer.get_data(), out),
+            None => sys::digest::<V>(buffer.get_data(), out),
             Some(state) => {
-                taken(V::update(state, buffer.get_data()));
-                taken(V::finalize(state, out));
+                taken(state.update(buffer.get_data()));
+                taken(state.finalize(out));
             }
         }
     }
@@ -98,21 +92,18 @@ impl<V: Variant> fmt::Debug for RipemdCore<V> {
 }
 
 impl<V: Variant> SerializableState for CoreWrapper<RipemdCore<V>> {
-    type SerializedState = V::State;
+    type SerializedState = V::Saved;
 
-    fn serialize(&self) -> V::State {
+    fn serialize(&self) -> V::Saved {
         let (core, buffer) = self.clone().decompose();
-        let mut state = core.state.unwrap_or_else(V::init);
-        taken(V::update(&mut state, buffer.get_data()));
-        state
+        let mut state = core.state.unwrap_or_else(HashState::init);
+        taken(state.update(buffer.get_data()));
+        state.save()
     }
 
     fn deserialize(bytes: &[u8]) -> Result<Self, DeserializeStateError> {
-        let mut state = V::State::try_from(bytes).map_err(|_| DeserializeStateError)?;
-        if !V::update(&mut state, &[]) {
-            return Err(DeserializeStateError);
-        }
-        Ok(Self::from_core(RipemdCore { state: Some(state) }))
+        let state = Some(HashState::load(bytes).ok_or(DeserializeStateError)?);
+        Ok(Self::from_core(RipemdCore { state }))
     }
 }
 
@@ -163,7 +154,7 @@ impl<V: Variant> Ripemd for CoreWrapper<RipemdCore<V>> {
 #[inline]
 pub fn digest_message<D: Ripemd>(message: &[u8]) -> Output<D> {
     let mut digest = Output::<D>::default();
-    D::Variant::digest(message, &mut digest);
+    sys::digest::<D::Variant>(message, &mut digest);
     digest
 }
 

@@ -1,7 +1,6 @@
 //! HMAC over the hashers.
 
-use crate::hashers::taken;
-use crate::sys::Variant;
+use crate::sys::{taken, HmacState, Variant};
 use crate::{DeserializeStateError, Ripemd, SerializableState};
 use core::fmt;
 use digest::crypto_common::{AlgorithmName, KeySizeUser};
@@ -27,7 +26,7 @@ use digest::{
 /// ```
 #[derive(Clone)]
 pub struct Hmac<D: Ripemd> {
-    state: <D::Variant as Variant>::HmacState,
+    state: HmacState<D::Variant>,
 }
 
 impl<D: Ripemd> Hmac<D> {
@@ -43,7 +42,7 @@ impl<D: Ripemd> Hmac<D> {
     #[must_use]
     pub fn new(key: &[u8]) -> Self {
         Self {
-            state: D::Variant::init_hmac(key),
+            state: HmacState::init(key),
         }
     }
 
@@ -62,7 +61,7 @@ impl<D: Ripemd> Hmac<D> {
     /// assert!(mac.verify(&tag[..19]).is_err());
     /// ```
     pub fn verify(self, tag: &[u8]) -> Result<(), MacError> {
-        if D::Variant::verify_hmac(&self.state, tag) {
+        if self.state.verify(tag) {
             Ok(())
         } else {
             Err(MacError)
@@ -88,7 +87,7 @@ impl<D: Ripemd> KeyInit for Hmac<D> {
 
 impl<D: Ripemd> Update for Hmac<D> {
     fn update(&mut self, data: &[u8]) {
-        taken(D::Variant::update_hmac(&mut self.state, data));
+        taken(self.state.update(data));
     }
 }
 
@@ -98,7 +97,7 @@ impl<D: Ripemd> OutputSizeUser for Hmac<D> {
 
 impl<D: Ripemd> FixedOutput for Hmac<D> {
     fn finalize_into(self, out: &mut Output<Self>) {
-        taken(D::Variant::finalize_hmac(&self.state, out));
+        taken(self.state.finalize(out));
     }
 }
 
@@ -116,19 +115,14 @@ impl<D: Ripemd> fmt::Debug for Hmac<D> {
 }
 
 impl<D: Ripemd> SerializableState for Hmac<D> {
-    type SerializedState = <D::Variant as Variant>::HmacState;
+    type SerializedState = <D::Variant as Variant>::SavedHmac;
 
     fn serialize(&self) -> Self::SerializedState {
-        self.state
+        self.state.save()
     }
 
     fn deserialize(bytes: &[u8]) -> Result<Self, DeserializeStateError> {
-        let mut state =
-            Self::SerializedState::try_from(bytes).map_err(|_| DeserializeStateError)?;
-        if D::Variant::update_hmac(&mut state, &[]) {
-            Ok(Self { state })
-        } else {
-            Err(DeserializeStateError)
-        }
+        let state = HmacState::load(bytes).ok_or(DeserializeStateError)?;
+        Ok(Self { state })
     }
 }

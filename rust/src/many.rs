@@ -1,6 +1,6 @@
 //! Records and lists of messages, eight at once.
 
-use crate::sys::{Message, Variant};
+use crate::sys::{self, taken, Message};
 use crate::Ripemd;
 use digest::{InvalidLength, Output};
 
@@ -45,7 +45,7 @@ pub fn digest_each<D: Ripemd>(
     size: usize,
     digests: &mut [Output<D>],
 ) -> Result<(), InvalidLength> {
-    fits(D::Variant::digest_each(records, size, digests))
+    fits(sys::digest_each::<D::Variant>(records, size, digests))
 }
 
 /// Writes the digest of each message, of any lengths, to its place in `digests`. They are hashed eight at
@@ -69,7 +69,8 @@ pub fn digest_list<D: Ripemd>(
 ) -> Result<(), InvalidLength> {
     fits(messages.len() == digests.len())?;
     for (messages, digests) in messages.chunks(GROUP).zip(digests.chunks_mut(GROUP)) {
-        D::Variant::digest_list(&group(messages)[..messages.len()], digests);
+        let group = &group(messages)[..messages.len()];
+        taken(sys::digest_list::<D::Variant>(group, digests));
     }
     Ok(())
 }
@@ -95,7 +96,7 @@ pub fn hmac_each<D: Ripemd>(
     size: usize,
     tags: &mut [Output<D>],
 ) -> Result<(), InvalidLength> {
-    fits(D::Variant::hmac_each(key, records, size, tags))
+    fits(sys::hmac_each::<D::Variant>(key, records, size, tags))
 }
 
 /// Writes the tag (HMAC, RFC 2104) of each text, of any lengths, under the key to its place in `tags`.
@@ -128,7 +129,8 @@ pub fn hmac_list<D: Ripemd>(
         key
     };
     for (texts, tags) in texts.chunks(GROUP).zip(tags.chunks_mut(GROUP)) {
-        D::Variant::hmac_list(key, &group(texts)[..texts.len()], tags);
+        let group = &group(texts)[..texts.len()];
+        taken(sys::hmac_list::<D::Variant>(key, group, tags));
     }
     Ok(())
 }

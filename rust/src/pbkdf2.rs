@@ -1,8 +1,7 @@
 //! Keys from passwords.
 
 use crate::many::{group, GROUP};
-use crate::sys::Variant;
-use crate::Ripemd;
+use crate::{sys, Ripemd};
 use core::fmt;
 
 /// Why [`pbkdf2`] or [`pbkdf2_list`] derives no key.
@@ -68,7 +67,8 @@ pub fn pbkdf2<D: Ripemd>(
     rounds: u32,
     key: &mut [u8],
 ) -> Result<(), Pbkdf2Error> {
-    allowed(D::Variant::pbkdf2(password, salt, rounds, key), rounds)
+    let answer = sys::pbkdf2::<D::Variant>(password, salt, rounds, key);
+    allowed(answer, rounds)
 }
 
 /// Derives a key of `size` bytes from each password and the salt at its place, as [`pbkdf2`] does, eight
@@ -97,10 +97,8 @@ pub fn pbkdf2_list<D: Ripemd>(
     keys: &mut [u8],
 ) -> Result<(), Pbkdf2Error> {
     // The library refuses rounds and sizes for an empty list too.
-    allowed(
-        D::Variant::pbkdf2_list(&[], &[], rounds, size, &mut []),
-        rounds,
-    )?;
+    let answer = sys::pbkdf2_list::<D::Variant>(&[], &[], rounds, size, &mut []);
+    allowed(answer, rounds)?;
     if salts.len() != passwords.len() || passwords.len().checked_mul(size) != Some(keys.len()) {
         return Err(Pbkdf2Error::InvalidLength);
     }
@@ -109,13 +107,8 @@ pub fn pbkdf2_list<D: Ripemd>(
         let n = passwords.len();
         let (now, later) = keys.split_at_mut(n * size);
         keys = later;
-        let answer = D::Variant::pbkdf2_list(
-            &group(passwords)[..n],
-            &group(salts)[..n],
-            rounds,
-            size,
-            now,
-        );
+        let (passwords, salts) = (&group(passwords)[..n], &group(salts)[..n]);
+        let answer = sys::pbkdf2_list::<D::Variant>(passwords, salts, rounds, size, now);
         allowed(answer, rounds)?;
     }
     Ok(())

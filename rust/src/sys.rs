@@ -1,11 +1,10 @@
-//! The functions of `nattizhu.h`, declared and called for each variant. All unsafe code of the crate is
-//! here.
+//! The functions of `nattizhu.h`, declared and called. All unsafe code of the crate is here.
 //!
 //! Each `SAFETY` comment names the conditions from the head of that header that a caller keeps:
 //!
-//! - *memory*: a pointer leads to as many bytes, messages, digests or tags as the number after it, its
-//!   type or its size in brackets says, and that piece of memory is smaller than 2^63 bytes. Slices,
-//!   arrays and references do; none is larger than `isize::MAX` bytes.
+//! - *memory*: a pointer leads to as many bytes or messages as the length or count after it says, or to
+//!   what its type says, and that piece of memory is smaller than 2^63 bytes. Slices and references do;
+//!   none is larger than `isize::MAX` bytes.
 //! - *null*: no pointer is null. The pointer of an empty slice is not null either.
 //! - *overlap*: what a call writes overlaps nothing else that it is given. It is borrowed as `&mut`.
 //! - *threads*: no other thread writes what a call reads, or reads or writes what it writes. The
@@ -15,8 +14,9 @@
 
 use core::marker::PhantomData;
 use core::mem::{size_of, size_of_val};
+use core::slice;
 use digest::generic_array::{ArrayLength, GenericArray};
-use digest::typenum::{U16, U20, U32, U40, U64};
+use digest::typenum::{Unsigned, U16, U20, U32, U40, U64};
 
 /// A block of a message.
 pub type Block = GenericArray<u8, U64>;
@@ -27,62 +27,161 @@ pub type Output<V> = GenericArray<u8, <V as Variant>::OutputSize>;
 /// A message of a list, laid out as `nattizhu_message`.
 #[derive(Clone, Copy)]
 #[repr(C)]
-pub struct Message<'a> {
-    bytes: *const u8,
-    length: usize,
-    lifetime: PhantomData<&'a [u8]>,
-}
+pub struct Message<'a>(*const u8, usize, PhantomData<&'a [u8]>);
 
 impl<'a> From<&'a [u8]> for Message<'a> {
     fn from(bytes: &'a [u8]) -> Self {
-        Self {
-            bytes: bytes.as_ptr(),
-            length: bytes.len(),
-            lifetime: PhantomData,
-        }
+        Self(bytes.as_ptr(), bytes.len(), PhantomData)
     }
 }
 
-/// A variant: its sizes, and the functions of the library for it. What they write and the `bool` that
-/// they return is what `nattizhu.h` says. `init` and `init_hmac` return the state that they make.
+/// A variant of the hash function.
 pub trait Variant: Clone + Send + Sync + 'static {
+    /// Its `nattizhu_variant`, which is an `unsigned int`.
+    const NUMBER: u32;
     const NAME: &'static str;
     type OutputSize: ArrayLength<u8> + 'static;
-    /// An array of the bytes of a hash state.
-    type State: Copy + AsRef<[u8]> + for<'a> TryFrom<&'a [u8]> + Send + Sync + 'static;
-    /// An array of the bytes of an HMAC state.
-    type HmacState: Copy + AsRef<[u8]> + for<'a> TryFrom<&'a [u8]> + Send + Sync + 'static;
+    /// The array of bytes that a hasher is saved as.
+    type Saved: AsRef<[u8]> + for<'a> TryFrom<&'a [u8]>;
+    /// The array of bytes that an HMAC is saved as.
+    type SavedHmac: AsRef<[u8]> + for<'a> TryFrom<&'a [u8]>;
+}
 
-    fn digest(message: &[u8], digest: &mut Output<Self>);
-    fn digest_each(records: &[u8], size: usize, digests: &mut [Output<Self>]) -> bool;
-    fn digest_list(messages: &[Message<'_>], digests: &mut [Output<Self>]);
+macro_rules! variant {
+    ($variant:ident, $bits:literal, $output:ty, $saved:literal) => {
+        #[derive(Clone)]
+        pub struct $variant;
 
-    fn init() -> Self::State;
-    fn update(state: &mut Self::State, bytes: &[u8]) -> bool;
-    fn update_blocks(state: &mut Self::State, blocks: &[Block]) -> bool;
-    fn finalize(state: &Self::State, digest: &mut Output<Self>) -> bool;
+        impl Variant for $variant {
+            const NUMBER: u32 = $bits;
+            const NAME: &'static str = concat!("Ripemd", $bits);
+            type OutputSize = $output;
+            type Saved = [u8; $saved];
+            type SavedHmac = [u8; 2 * $saved];
+        }
+    };
+}
 
-    fn hmac_each(key: &[u8], records: &[u8], size: usize, tags: &mut [Output<Self>]) -> bool;
-    fn hmac_list(key: &[u8], texts: &[Message<'_>], tags: &mut [Output<Self>]);
+variant!(V128, 128, U16, 88);
+variant!(V160, 160, U20, 92);
+variant!(V256, 256, U32, 104);
+variant!(V320, 320, U40, 112);
 
-    fn init_hmac(key: &[u8]) -> Self::HmacState;
-    fn update_hmac(state: &mut Self::HmacState, bytes: &[u8]) -> bool;
-    fn finalize_hmac(state: &Self::HmacState, tag: &mut Output<Self>) -> bool;
-    fn verify_hmac(state: &Self::HmacState, tag: &[u8]) -> bool;
+/// Panics unless the library took what it was given: the crate gives it nothing that it refuses.
+#[inline]
+pub fn taken(answer: bool) {
+    assert!(answer, "nattizhu: the library refused what it was given");
+}
 
-    fn pbkdf2(password: &[u8], salt: &[u8], rounds: u32, key: &mut [u8]) -> bool;
-    fn pbkdf2_list(
-        passwords: &[Message<'_>],
-        salts: &[Message<'_>],
-        rounds: u32,
-        key_length: usize,
-        keys: &mut [u8],
-    ) -> bool;
+/// Writes the digest of a whole message.
+#[inline]
+pub fn digest<V: Variant>(message: &[u8], digest: &mut Output<V>) {
+    extern "C" {
+        fn nattizhu_digest(_: u32, _: *const u8, _: usize, _: *mut u8, _: usize) -> bool;
+    }
+    let (size, place) = (digest.len(), digest.as_mut_ptr());
+    // SAFETY: memory, null, overlap and threads by the slice and the exclusive reference.
+    taken(unsafe { nattizhu_digest(V::NUMBER, message.as_ptr(), message.len(), place, size) });
+}
+
+/// The bytes of blocks.
+#[inline]
+pub fn bytes_of(blocks: &[Block]) -> &[u8] {
+    // SAFETY: blocks are arrays of bytes, and have `size_of_val` bytes together.
+    unsafe { slice::from_raw_parts(blocks.as_ptr().cast(), size_of_val(blocks)) }
+}
+
+/// A state of the library: how many bytes it has, what those after the first one are saved as, which the
+/// first one is, and the functions that make it, update it, and write its digest. What `update`, `finalize`
+/// and `verify` return is what `nattizhu.h` says.
+macro_rules! state {
+    ($state:ident, $size:literal, $saved:ident after $first:expr,
+     $init:ident($($key:ident)?), $update:ident, $final:ident) => {
+        #[derive(Clone)]
+        pub struct $state<V>([u8; $size], PhantomData<V>);
+
+        extern "C" {
+            fn $init(_: u32, _: *mut [u8; $size] $(, $key: *const u8, _: usize)?) -> bool;
+            fn $update(_: *mut [u8; $size], _: *const u8, _: usize) -> bool;
+            fn $final(_: *const [u8; $size], _: *mut u8, _: usize) -> bool;
+        }
+
+        impl<V: Variant> $state<V> {
+            #[inline]
+            pub fn init($($key: &[u8])?) -> Self {
+                let mut state = Self([0; $size], PhantomData);
+                // SAFETY: memory, null, overlap and threads by the exclusive reference and a slice.
+                taken(unsafe { $init(V::NUMBER, &mut state.0 $(, $key.as_ptr(), $key.len())?) });
+                state
+            }
+
+            #[inline]
+            pub fn update(&mut self, bytes: &[u8]) -> bool {
+                // SAFETY: memory, null, overlap and threads by the exclusive reference and the slice.
+                unsafe { $update(&mut self.0, bytes.as_ptr(), bytes.len()) }
+            }
+
+            #[inline]
+            pub fn finalize(&self, digest: &mut Output<V>) -> bool {
+                // SAFETY: memory, null, overlap and threads by the two references, one exclusive.
+                unsafe { $final(&self.0, digest.as_mut_ptr(), digest.len()) }
+            }
+
+            pub fn save(&self) -> V::$saved {
+                let saved = V::$saved::try_from(&self.0[1..=size_of::<V::$saved>()]);
+                saved.unwrap_or_else(|_| unreachable!("the slice has the size of the array"))
+            }
+
+            /// The state that is saved as these bytes, if there is one.
+            pub fn load(saved: &[u8]) -> Option<Self> {
+                let saved = V::$saved::try_from(saved).ok()?;
+                let mut state = Self([0; $size], PhantomData);
+                state.0[0] = $first;
+                state.0[1..=size_of::<V::$saved>()].copy_from_slice(saved.as_ref());
+                state.update(&[]).then(|| state)
+            }
+        }
+    };
+}
+
+state! {
+    HashState, 113, Saved after V::OutputSize::U8,
+    nattizhu_init(), nattizhu_update, nattizhu_final
+}
+state! {
+    HmacState, 225, SavedHmac after 128 + V::OutputSize::U8,
+    nattizhu_hmac_init(key), nattizhu_hmac_update, nattizhu_hmac_final
+}
+
+impl<V: Variant> HmacState<V> {
+    #[inline]
+    pub fn verify(&self, tag: &[u8]) -> bool {
+        extern "C" {
+            fn nattizhu_hmac_verify(_: *const [u8; 225], _: *const u8, _: usize) -> bool;
+        }
+        // SAFETY: memory, null and threads by the reference and the slice. It writes nothing.
+        unsafe { nattizhu_hmac_verify(&self.0, tag.as_ptr(), tag.len()) }
+    }
+}
+
+#[cfg(test)]
+#[test]
+fn sizes_as_the_library_says() {
+    extern "C" {
+        fn nattizhu_state_size() -> usize;
+        fn nattizhu_hmac_state_size() -> usize;
+    }
+    // SAFETY: these calls are given nothing.
+    let sizes = unsafe { (nattizhu_state_size(), nattizhu_hmac_state_size()) };
+    assert_eq!(
+        (size_of::<HashState<V160>>(), size_of::<HmacState<V160>>()),
+        sizes
+    );
 }
 
 /// Whether this processor can run the build of the library for x86-64-v3, whose functions over many
-/// messages, and over many or long keys, are about twice as fast. The standard library asks the processor; without `std`
-/// the other build is taken.
+/// messages, and over many or long keys, are faster. The standard library asks the processor; without
+/// `std` the other build is taken.
 #[allow(unused_unsafe)] // `__cpuid` was unsafe in older versions of Rust.
 fn has_v3() -> bool {
     #[cfg(feature = "std")]
@@ -112,272 +211,41 @@ fn has_v3_as_the_kernel_says() {
     assert_eq!(has_v3(), level.iter().all(|flag| has(*flag)));
 }
 
-/// A function of the library in the best build for this processor. The library has it twice: for any
-/// processor under its name, and for x86-64-v3 with `_v3` behind that. Both are the same function of
-/// `nattizhu.h`, and the second is taken only where the processor has all of its instructions.
-macro_rules! best {
-    ($name:expr, fn($($argument:ty),*) $(-> $answer:ty)?) => {{
-        extern "C" {
-            #[link_name = $name]
-            fn plain($(_: $argument),*) $(-> $answer)?;
-            #[link_name = concat!($name, "_v3")]
-            fn v3($(_: $argument),*) $(-> $answer)?;
+/// Functions of the library that read slices, take numbers, and write to a slice. What they return is what
+/// `nattizhu.h` says. The library has each one twice: for any processor under its name, and for x86-64-v3
+/// with `_v3` behind that. Both are the same function, and the second is taken only where the processor
+/// has all of its instructions.
+macro_rules! functions {
+    ($($function:ident = $name:ident(
+        $($read:ident: $item:ty),*; $($number:ident: $type:ty),*; $place:ident: $output:ty);)*) => {$(
+        #[inline]
+        pub fn $function<V: Variant>(
+            $($read: &[$item],)* $($number: $type,)* $place: &mut [$output],
+        ) -> bool {
+            extern "C" {
+                fn $name(
+                    _: u32, $(_: *const $item, _: usize,)* $(_: $type,)* _: *mut u8, _: usize
+                ) -> bool;
+                #[link_name = concat!(stringify!($name), "_v3")]
+                fn v3(
+                    _: u32, $(_: *const $item, _: usize,)* $(_: $type,)* _: *mut u8, _: usize
+                ) -> bool;
+            }
+            let call = if has_v3() { v3 } else { $name };
+            let (length, place) = (size_of_val($place), $place.as_mut_ptr().cast());
+            // SAFETY: memory by the slices, of which digests and tags are arrays of bytes, and by those of
+            // which each message was made; null, overlap and threads by all of these.
+            unsafe { call(V::NUMBER, $($read.as_ptr(), $read.len(),)* $($number,)* place, length) }
         }
-        if has_v3() {
-            v3
-        } else {
-            plain
-        }
-    }};
+    )*};
 }
 
-macro_rules! variant {
-    ($variant:ident, $bits:literal, $size:literal, $output:ty, $state:literal, $hmac_state:literal) => {
-        #[derive(Clone)]
-        pub struct $variant;
-
-        // Digests that lie one after another are what the header calls an array of digests.
-        const _: () = assert!(size_of::<GenericArray<u8, $output>>() == $size);
-
-        impl Variant for $variant {
-            const NAME: &'static str = concat!("Ripemd", $bits);
-            type OutputSize = $output;
-            type State = [u8; $state];
-            type HmacState = [u8; $hmac_state];
-
-            #[inline]
-            fn digest(message: &[u8], digest: &mut Output<Self>) {
-                extern "C" {
-                    #[link_name = concat!("nattizhu_ripemd", $bits)]
-                    fn call(message: *const u8, length: usize, digest: *mut u8);
-                }
-                // SAFETY: memory, null, overlap and threads by the slice and the exclusive reference.
-                unsafe { call(message.as_ptr(), message.len(), digest.as_mut_ptr()) }
-            }
-
-            #[inline]
-            fn digest_each(records: &[u8], size: usize, digests: &mut [Output<Self>]) -> bool {
-                let call = best!(
-                    concat!("nattizhu_ripemd", $bits, "_each"),
-                    fn(*const u8, usize, usize, *mut u8, usize) -> bool
-                );
-                // SAFETY: memory, null, overlap and threads by the two slices. The library compares
-                // the length with the product of size and count by itself.
-                unsafe {
-                    call(
-                        records.as_ptr(),
-                        records.len(),
-                        size,
-                        digests.as_mut_ptr().cast(),
-                        digests.len(),
-                    )
-                }
-            }
-
-            #[inline]
-            fn digest_list(messages: &[Message<'_>], digests: &mut [Output<Self>]) {
-                let call = best!(
-                    concat!("nattizhu_ripemd", $bits, "_list"),
-                    fn(*const Message<'_>, usize, *mut u8)
-                );
-                assert_eq!(messages.len(), digests.len());
-                // SAFETY: memory by the slices, which are of equal length, and by those of which each
-                // message was made; null, overlap and threads by all of these.
-                unsafe {
-                    call(
-                        messages.as_ptr(),
-                        messages.len(),
-                        digests.as_mut_ptr().cast(),
-                    )
-                }
-            }
-
-            #[inline]
-            fn init() -> Self::State {
-                extern "C" {
-                    #[link_name = concat!("nattizhu_ripemd", $bits, "_init")]
-                    fn call(state: *mut [u8; $state]);
-                }
-                let mut state = [0; $state];
-                // SAFETY: memory, null, overlap and threads by the exclusive reference.
-                unsafe { call(&mut state) };
-                state
-            }
-
-            #[inline]
-            fn update(state: &mut Self::State, bytes: &[u8]) -> bool {
-                extern "C" {
-                    #[link_name = concat!("nattizhu_ripemd", $bits, "_update")]
-                    fn call(state: *mut [u8; $state], bytes: *const u8, length: usize) -> bool;
-                }
-                // SAFETY: memory, null, overlap and threads by the exclusive reference and the slice.
-                unsafe { call(state, bytes.as_ptr(), bytes.len()) }
-            }
-
-            #[inline]
-            fn update_blocks(state: &mut Self::State, blocks: &[Block]) -> bool {
-                extern "C" {
-                    #[link_name = concat!("nattizhu_ripemd", $bits, "_update")]
-                    fn call(state: *mut [u8; $state], bytes: *const u8, length: usize) -> bool;
-                }
-                // SAFETY: memory, null, overlap and threads by the exclusive reference and the slice,
-                // whose blocks are arrays of bytes and have `size_of_val` bytes together.
-                unsafe { call(state, blocks.as_ptr().cast(), size_of_val(blocks)) }
-            }
-
-            #[inline]
-            fn finalize(state: &Self::State, digest: &mut Output<Self>) -> bool {
-                extern "C" {
-                    #[link_name = concat!("nattizhu_ripemd", $bits, "_final")]
-                    fn call(state: *const [u8; $state], digest: *mut u8) -> bool;
-                }
-                // SAFETY: memory, null, overlap and threads by the two references, one exclusive.
-                unsafe { call(state, digest.as_mut_ptr()) }
-            }
-
-            #[inline]
-            fn hmac_each(
-                key: &[u8],
-                records: &[u8],
-                size: usize,
-                tags: &mut [Output<Self>],
-            ) -> bool {
-                let call = best!(
-                    concat!("nattizhu_hmac_ripemd", $bits, "_each"),
-                    fn(*const u8, usize, *const u8, usize, usize, *mut u8, usize) -> bool
-                );
-                // SAFETY: memory, null, overlap and threads by the three slices. The library compares
-                // the length with the product of size and count by itself.
-                unsafe {
-                    call(
-                        key.as_ptr(),
-                        key.len(),
-                        records.as_ptr(),
-                        records.len(),
-                        size,
-                        tags.as_mut_ptr().cast(),
-                        tags.len(),
-                    )
-                }
-            }
-
-            #[inline]
-            fn hmac_list(key: &[u8], texts: &[Message<'_>], tags: &mut [Output<Self>]) {
-                let call = best!(
-                    concat!("nattizhu_hmac_ripemd", $bits, "_list"),
-                    fn(*const u8, usize, *const Message<'_>, usize, *mut u8)
-                );
-                assert_eq!(texts.len(), tags.len());
-                // SAFETY: memory by the slices, of which texts and tags are of equal length, and by
-                // those of which each text was made; null, overlap and threads by all of these.
-                unsafe {
-                    call(
-                        key.as_ptr(),
-                        key.len(),
-                        texts.as_ptr(),
-                        texts.len(),
-                        tags.as_mut_ptr().cast(),
-                    )
-                }
-            }
-
-            #[inline]
-            fn init_hmac(key: &[u8]) -> Self::HmacState {
-                extern "C" {
-                    #[link_name = concat!("nattizhu_hmac_ripemd", $bits, "_init")]
-                    fn call(state: *mut [u8; $hmac_state], key: *const u8, length: usize);
-                }
-                let mut state = [0; $hmac_state];
-                // SAFETY: memory, null, overlap and threads by the exclusive reference and the slice.
-                unsafe { call(&mut state, key.as_ptr(), key.len()) };
-                state
-            }
-
-            #[inline]
-            fn update_hmac(state: &mut Self::HmacState, bytes: &[u8]) -> bool {
-                extern "C" {
-                    #[link_name = concat!("nattizhu_hmac_ripemd", $bits, "_update")]
-                    fn call(state: *mut [u8; $hmac_state], bytes: *const u8, length: usize)
-                        -> bool;
-                }
-                // SAFETY: memory, null, overlap and threads by the exclusive reference and the slice.
-                unsafe { call(state, bytes.as_ptr(), bytes.len()) }
-            }
-
-            #[inline]
-            fn finalize_hmac(state: &Self::HmacState, tag: &mut Output<Self>) -> bool {
-                extern "C" {
-                    #[link_name = concat!("nattizhu_hmac_ripemd", $bits, "_final")]
-                    fn call(state: *const [u8; $hmac_state], tag: *mut u8) -> bool;
-                }
-                // SAFETY: memory, null, overlap and threads by the two references, one exclusive.
-                unsafe { call(state, tag.as_mut_ptr()) }
-            }
-
-            #[inline]
-            fn verify_hmac(state: &Self::HmacState, tag: &[u8]) -> bool {
-                extern "C" {
-                    #[link_name = concat!("nattizhu_hmac_ripemd", $bits, "_verify")]
-                    fn call(state: *const [u8; $hmac_state], tag: *const u8, length: usize)
-                        -> bool;
-                }
-                // SAFETY: memory, null and threads by the reference and the slice. It writes nothing.
-                unsafe { call(state, tag.as_ptr(), tag.len()) }
-            }
-
-            #[inline]
-            fn pbkdf2(password: &[u8], salt: &[u8], rounds: u32, key: &mut [u8]) -> bool {
-                let call = best!(
-                    concat!("nattizhu_pbkdf2_ripemd", $bits),
-                    fn(*const u8, usize, *const u8, usize, u32, *mut u8, usize) -> bool
-                );
-                // SAFETY: memory, null, overlap and threads by the three slices.
-                unsafe {
-                    call(
-                        password.as_ptr(),
-                        password.len(),
-                        salt.as_ptr(),
-                        salt.len(),
-                        rounds,
-                        key.as_mut_ptr(),
-                        key.len(),
-                    )
-                }
-            }
-
-            #[inline]
-            fn pbkdf2_list(
-                passwords: &[Message<'_>],
-                salts: &[Message<'_>],
-                rounds: u32,
-                key_length: usize,
-                keys: &mut [u8],
-            ) -> bool {
-                let call = best!(
-                    concat!("nattizhu_pbkdf2_ripemd", $bits, "_list"),
-                    fn(*const Message<'_>, *const Message<'_>, usize, u32, *mut u8, usize) -> bool
-                );
-                assert_eq!(passwords.len(), salts.len());
-                assert_eq!(passwords.len().checked_mul(key_length), Some(keys.len()));
-                // SAFETY: memory by the slices, which are as long as the count and the length of the
-                // keys say, and by those of which each message was made; null, overlap and threads by
-                // all of these.
-                unsafe {
-                    call(
-                        passwords.as_ptr(),
-                        salts.as_ptr(),
-                        passwords.len(),
-                        rounds,
-                        keys.as_mut_ptr(),
-                        key_length,
-                    )
-                }
-            }
-        }
-    };
+functions! {
+    digest_each = nattizhu_each(records: u8; size: usize; digests: Output<V>);
+    digest_list = nattizhu_list(messages: Message<'_>;; digests: Output<V>);
+    hmac_each = nattizhu_hmac_each(key: u8, records: u8; size: usize; tags: Output<V>);
+    hmac_list = nattizhu_hmac_list(key: u8, texts: Message<'_>;; tags: Output<V>);
+    pbkdf2 = nattizhu_pbkdf2(password: u8, salt: u8; rounds: u32; key: u8);
+    pbkdf2_list = nattizhu_pbkdf2_list(
+        passwords: Message<'_>, salts: Message<'_>; rounds: u32, size: usize; keys: u8);
 }
-
-variant!(V128, "128", 16, U16, 88, 176);
-variant!(V160, "160", 20, U20, 92, 184);
-variant!(V256, "256", 32, U32, 104, 208);
-variant!(V320, "320", 40, U40, 112, 224);

@@ -9,7 +9,7 @@ ghost use Rattle.ripemd.specs.Saved.{EndsBlock, IsAppended};
 use crate::digest::{Digest, OutputSizeUser, SerializableState};
 use crate::hashers::BlockHasher;
 use crate::state::{DeserializeStateError, append_saved};
-use ripemd_block::block_api::{ListBlockFunction, ResumableFunction};
+use ripemd_block::block_api::{ByteArray, ListBlockFunction, ResumableFunction};
 
 /// A hasher or an HMAC: it takes a message in pieces, and gives its digest or its tag at the end. How
 /// the message is cut makes no difference. No call allocates or fails.
@@ -54,10 +54,7 @@ pub trait Incremental: Sized + Drop {
 /// A hasher or an HMAC that can be saved as bytes, and made from them again.
 pub trait Resumable: Incremental {
     /// The saved bytes, an array.
-    type Saved: Copy;
-
-    // The bytes of a saved array.
-    ghost saved_bytes: { Self.Saved → List ℕ };
+    type Saved: ByteArray;
 
     // The states that can occur.
     ghost is_valid: { Self → Type 0 };
@@ -70,7 +67,7 @@ pub trait Resumable: Incremental {
 
     /// Saves the state.
     fn save(&self) -> Self::Saved
-        ensures bytes { saved_bytes result ≡ state_bytes self.now }
+        ensures bytes { Self.Saved.bytes result ≡ state_bytes self.now }
         ensures valid { is_valid self.now };
 
     /// Makes the state that was saved as these bytes.
@@ -79,10 +76,10 @@ pub trait Resumable: Incremental {
     ///
     /// `DeserializeStateError` if no state is saved as these bytes.
     fn load(saved: &Self::Saved) -> Result<Self, DeserializeStateError>
-        ensures ok { IfOk result (λ loaded. state_bytes loaded ≡ saved_bytes saved.now) }
+        ensures ok { IfOk result (λ loaded. state_bytes loaded ≡ Self.Saved.bytes saved.now) }
         ensures valid { IfOk result is_valid }
         ensures err { IfErr result
-            (λ _. (s : Self) → is_valid s → state_bytes s ≢ saved_bytes saved.now) };
+            (λ _. (s : Self) → is_valid s → state_bytes s ≢ Self.Saved.bytes saved.now) };
 
     /// Appends bytes to the message of a saved state within its saved bytes, which takes only its tail.
     /// False, and nothing is written, exactly if it cannot: if the bytes end a block, or no state is
@@ -131,8 +128,6 @@ impl<F: ListBlockFunction> Incremental for BlockHasher<F> {
 
 impl<F: ResumableFunction> Resumable for BlockHasher<F> {
     type Saved = F::SavedHasher;
-
-    ghost saved_bytes = { F.SavedHasher.bytes };
 
     ghost is_valid = { IsHashState F.are_words };
 

@@ -324,8 +324,8 @@ fn digest_after_one<D: BatchDigest>(first: StateOf<D>, digest: &D::Output) -> D:
     result
 }
 
-// How many bytes a digest has.
-fn digest_size<D: BatchDigest>() -> usize
+/// How many bytes a digest has.
+pub fn digest_size<D: BatchDigest>() -> usize
     ensures size { result ≡ D.OUTPUT_SIZE }
     ensures array { result ≡ D.Output.LEN }
     ensures most { result ≤ 64 }

@@ -1,4 +1,6 @@
--- The digests of some records, written to their places among those of all.
+-- Outputs written one after another.
 mod Placing
 -- Saved bytes tell their state.
 pub mod SavedStates
+-- What calls do with some values.
+pub mod Working

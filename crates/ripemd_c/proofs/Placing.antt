@@ -1,41 +1,61 @@
--- A part of a list that is written over, seen through a map.
-use Rattle.std.proofs.Common.{◌≡◌, ℕ, zero, suc, ◌+◌, ◌<◌, ◌≤◌, ◌⊎◌, inl, inr, arith, refl, ◌∙◌}
-use Rattle.std.proofs.Common.{List, [], ◌∷◌, ◌++◌, length, map, take, get_or, slice_set}
+-- Outputs that are written one after another, and records that are put in a group.
+use Rattle.std.proofs.Common.{◌≡◌, ℕ, ◌+◌, ◌-◌, ◌*◌, ◌<◌, ◌≤◌, ◌⊎◌, inl, inr, arith, sym, ap, ◌∙◌}
+use Rattle.std.proofs.Common.{List, [], ◌++◌, length, map, take, drop, get_or, slice_set}
+use Rattle.std.proofs.Math.Nat.{mul-le-mul_left}
+use Rattle.std.proofs.Math.Seq.{take-add}
 use Rattle.std.proofs.lemmas.Bool.{cases_lt}
-use Rattle.std.proofs.lemmas.List.{map-set, length-map, get_or-set_same, get_or-set_other}
+use Rattle.std.proofs.lemmas.Grind.{flat_map-append}
+use Rattle.std.proofs.lemmas.List.{map-set, length-map, take-map, take_all, length-take-le, length-drop}
+use Rattle.std.proofs.lemmas.List.{get_or-set_same, get_or-set_other, get_or-take, get_or-drop}
+use Rattle.std.proofs.lemmas.List.FromFn.{length-map-range_with_len, get_or-map-range_with_len}
+use Rattle.std.specs.Borrow.{Bor}
+use Rattle.std.specs.List.{flat_map}
+use borrow.Rule.Slice.PartMut.{put_mid}
+use Rattle.ripemd_mac.proofs.Deriving.{front_put}
+use Rattle.ripemd_batch.specs.Lanes.{list_at, targets}
+use Rattle.ripemd_batch.proofs.Placing.{first_of, length-put}
+use Rattle.ripemd_c.specs.Records.{record_at, records}
 
--- an element before the part is as it was
-pub before_part : {A B : Type 0} (f : A → B) (xs ys : List A) (a i : ℕ) (d : B)
-    → a ≤ length xs → i < a → get_or (map f (take a xs ++ ys)) i d ≡ get_or (map f xs) i d
-before_part f xs ys zero i d most before = absurd (omega arith)
-before_part f [] ys (suc a) i d most before = absurd (omega arith)
-before_part f (x ∷ xs) ys (suc a) zero d most before = refl
-before_part f (x ∷ xs) ys (suc a) (suc i) d most before = before_part f xs ys a i d (omega arith) (omega arith)
+module _ {X : Type 0} (f : X → List ℕ) (xs : List X) (w at n : ℕ) (outputs part : List ℕ)
+    (inside : w * (at + n) ≤ length outputs) (many : length part ≡ w * (at + n) - w * at) where
+  -- written where the outputs before them end, those of the next n follow these
+  pub next_written : take (w * at) outputs ≡ flat_map f (take at xs) → part ≡ flat_map f (take n (drop at xs))
+      → take (w * (at + n)) (put_mid (w * at) (w * (at + n) - w * at) outputs part) ≡ flat_map f (take (at + n) xs)
+  next_written before next =
+      let less : w * at ≤ w * (at + n) = mul-le-mul_left w (omega arith) in
+      front_put outputs part _ (w * at) (w * (at + n)) (omega (arith, less, inside)) (omega (arith, less, many))
+      ∙ ap (λ (x : List ℕ). x ++ part) before
+      ∙ ap (λ (x : List ℕ). flat_map f (take at xs) ++ x) next
+      ∙ sym (flat_map-append f (take at xs) (take n (drop at xs)))
+      ∙ ap (flat_map f) (sym (take-add at n xs))
 
--- element j of a list that stands in front is element j of both
-in_front : {A B : Type 0} (f : A → B) (ys zs : List A) (j : ℕ) (d : B)
-    → j < length ys → get_or (map f (ys ++ zs)) j d ≡ get_or (map f ys) j d
-in_front f [] zs j d inside = absurd (omega arith)
-in_front f (y ∷ ys) zs zero d inside = refl
-in_front f (y ∷ ys) zs (suc j) d inside = in_front f ys zs j d (omega arith)
+  pub same_room : length (put_mid (w * at) (w * (at + n) - w * at) outputs part) ≡ length outputs
+  same_room =
+      let less : w * at ≤ w * (at + n) = mul-le-mul_left w (omega arith) in
+      length-put outputs part (w * at) (w * (at + n) - w * at) (omega (arith, less, inside)) many
 
--- element j of the part is element n of the list, where a come before the part
-pub in_part : {A B : Type 0} (f : A → B) (xs ys zs : List A) (a j n : ℕ) (d : B)
-    → a ≤ length xs → j < length ys → a + j ≡ n
-    → get_or (map f (take a xs ++ (ys ++ zs))) n d ≡ get_or (map f ys) j d
-in_part f xs ys zs zero j n d most inside place = let same : n ≡ j = omega arith in rw same (in_front f ys zs j d inside)
-in_part f [] ys zs (suc a) j n d most inside place = absurd (omega arith)
-in_part f (x ∷ xs) ys zs (suc a) j zero d most inside place = absurd (omega arith)
-in_part f (x ∷ xs) ys zs (suc a) j (suc n) d most inside place =
-    in_part f xs ys zs a j n d (omega arith) inside (omega arith)
+-- so those of all are written at last
+pub all_written : {X : Type 0} (f : X → List ℕ) (xs : List X) (w at : ℕ) (outputs : List ℕ) → length outputs ≤ w * at
+    → length xs ≤ at → take (w * at) outputs ≡ flat_map f (take at xs) → outputs ≡ flat_map f xs
+all_written f xs w at outputs room most written =
+    sym (take_all (w * at) outputs room) ∙ written ∙ ap (flat_map f) (take_all at xs most)
 
--- element j of the images of the first n of a list
-pub in_first : {A B C : Type 0} (f : B → C) (g : A → B) (xs : List A) (n j : ℕ) (d : B) (e : C)
-    → n ≤ length xs → j < n → get_or (map f (map g (take n xs))) j e ≡ f (get_or (map g xs) j d)
-in_first f g xs zero j d e most inside = absurd (omega arith)
-in_first f g [] (suc n) j d e most inside = absurd (omega arith)
-in_first f g (x ∷ xs) (suc n) zero d e most inside = refl
-in_first f g (x ∷ xs) (suc n) (suc j) d e most inside = in_first f g xs n j d e (omega arith) (omega arith)
+-- a group of records
+pub group_of : (size : ℕ) (bytes : List ℕ) (count at n : ℕ) (messages : List (Bor (List ℕ))) → at + n ≤ count
+    → n ≤ length messages
+    → ((j : ℕ) → j < n → list_at (targets messages) j ≡ record_at size bytes (at + j))
+    → targets (take n messages) ≡ take n (drop at (records count size bytes))
+group_of size bytes count at n messages fits most same =
+    let all : List (List ℕ) = records count size bytes in
+    let len : length all ≡ count = length-map-range_with_len (record_at size bytes) 0 count in
+    let rest : length (drop at all) ≡ length all - at = length-drop at all in
+    let have : length (targets messages) ≡ length messages = length-map messages (λ m. m.now) in
+    sym (take-map (λ (m : Bor (List ℕ)). m.now) n messages)
+    ∙ first_of n (targets messages) (take n (drop at all)) [] (length-take-le n (drop at all) (omega (arith, len, rest)))
+    (omega (arith, have))
+    (λ j h. same j h
+    ∙ sym (get_or-take n (drop at all) j [] h ∙ get_or-drop at all j []
+    ∙ get_or-map-range_with_len (record_at size bytes) 0 count (at + j) (at + j) [] (omega arith) (omega arith)))
 
 -- where the elements before place j are the wanted ones, and the one put there is, so are those up to it
 pub put_next : {A B : Type 0} (f : A → B) (wanted : ℕ → B) (xs : List A) (j : ℕ) (x : A) (d : B)

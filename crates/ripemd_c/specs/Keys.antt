@@ -1,24 +1,35 @@
--- What a call that derives a key from a password does.
-use Rattle.std.specs.Prelude.{◌≡◌, ◌≢◌, ◌↔◌, ◌≤◌, ℕ, ◌-◌, ◌*◌, ◌^◌, Bool, IsTrue, IsFalse, List, length}
+-- What calls that derive keys from passwords do.
+use Rattle.std.specs.Prelude.{◌≡◌, ◌≢◌, ◌≤◌, ℕ, ◌-◌, ◌*◌, ◌^◌, Bool, List, length}
+use Rattle.ripemd.specs.Standard.Hashing.{ripemd}
 use Rattle.ripemd_mac.specs.Keyed.{hmac}
 use Rattle.ripemd_mac.specs.Pbkdf2.{pbkdf2}
 use Rattle.ripemd_batch.specs.Keys.{pbkdf2_each}
+use Rattle.ripemd_c.specs.Variants.{AtVariant, Refuses, Writes, digest_size}
 
--- a call fills a place with the key that PBKDF2 derives with HMAC over a hash function, whose digests have this
--- size, and answers whether it did
-pub record DerivesKey (hash : List ℕ → List ℕ) (size : ℕ) (password salt : List ℕ) (rounds : ℕ)
-    (done : Bool) (old new : List ℕ) : Type 0 where
-  -- it does exactly if there are rounds, and the key has 2^32 - 1 digests at most
-  pub fits : IsTrue done ↔ ((rounds ≢ 0) × (length old ≤ (2 ^ 32 - 1) * size))
-  -- then it is that key
-  pub key : IsTrue done → new ≡ pbkdf2 (hmac hash) size password salt rounds (length old)
-  -- and otherwise all is as it was
-  pub unchanged : IsFalse done → new ≡ old
+-- so many rounds and bytes of a key are allowed, by digests of this size: at least one round, and 2^32 - 1 digests
+-- at most
+abbrev pub Allowed : (width rounds size : ℕ) → Type 0
+Allowed width rounds size = (rounds ≢ 0) × (size ≤ (2 ^ 32 - 1) * width)
 
--- the same of a list of passwords and their salts, and keys of this many bytes, one after another
-pub record DerivesKeys (hash : List ℕ → List ℕ) (size : ℕ) (passwords salts : List (List ℕ)) (rounds length_of_key : ℕ)
-    (done : Bool) (old new : List ℕ) : Type 0 where
-  pub fits : IsTrue done ↔ ((rounds ≢ 0) × (length_of_key ≤ (2 ^ 32 - 1) * size)
-      × (length salts ≡ length passwords) × (length old ≡ length_of_key * length passwords))
-  pub keys : IsTrue done → new ≡ pbkdf2_each (hmac hash) size passwords salts rounds length_of_key
-  pub unchanged : IsFalse done → new ≡ old
+-- a call fills a place with the key that PBKDF2 derives with HMAC over a hash function, whose digests have this size,
+-- exactly if that is allowed
+abbrev pub FillsKey : (hash : List ℕ → List ℕ) → (width : ℕ) → (password salt : List ℕ) → (rounds : ℕ)
+    → (old new : List ℕ) → Bool → Type 0
+FillsKey hash width password salt rounds old new done =
+    Writes (Allowed width rounds (length old)) (pbkdf2 (hmac hash) width password salt rounds (length old)) old new done
+
+-- the same of a list of passwords and their salts: keys of one size, one after another
+abbrev pub FillsKeys : (hash : List ℕ → List ℕ) → (width : ℕ) → (passwords salts : List (List ℕ)) → (rounds size : ℕ)
+    → (old new : List ℕ) → Bool → Type 0
+FillsKeys hash width passwords salts rounds size old new done =
+    Writes (Allowed width rounds size × (length salts ≡ length passwords) × (length old ≡ size * length passwords))
+    (pbkdf2_each (hmac hash) width passwords salts rounds size) old new done
+
+-- the same by the variant of a number
+abbrev pub DerivesKey : (bits : ℕ) → (password salt : List ℕ) → (rounds : ℕ) → (old new : List ℕ) → Bool → Type 0
+DerivesKey bits password salt rounds old new done =
+    AtVariant bits (λ v. FillsKey (ripemd v) (digest_size v) password salt rounds old new done) (Refuses old new done)
+
+abbrev pub DerivesKeys : (bits : ℕ) → (passwords salts : List (List ℕ)) → (rounds size : ℕ) → (old new : List ℕ) → Bool → Type 0
+DerivesKeys bits passwords salts rounds size old new done =
+    AtVariant bits (λ v. FillsKeys (ripemd v) (digest_size v) passwords salts rounds size old new done) (Refuses old new done)

@@ -4,5 +4,7 @@ pub mod Keys
 pub mod Records
 -- The saved bytes of hash states and of HMAC states.
 pub mod SavedStates
+-- The variants by number, and what calls do at one.
+pub mod Variants
 -- Worked examples of these.
 pub mod Worked

@@ -1,6 +1,10 @@
 -- Records of one size that lie one after another in some bytes, and what calls over records and lists do.
-use Rattle.std.specs.Prelude.{◌≡◌, ◌↔◌, ℕ, ◌+◌, ◌*◌, Bool, IsTrue, IsFalse, List, length, map, slice_range}
-use Rattle.std.specs.List.{range_with_len}
+use Rattle.std.specs.Prelude.{◌≡◌, ℕ, ◌+◌, ◌*◌, ◌/◌, Bool, List, length, map, slice_range}
+use Rattle.std.specs.List.{flat_map, range_with_len}
+use Rattle.ripemd.specs.Standard.Compression.{Parameters}
+use Rattle.ripemd.specs.Standard.Hashing.{ripemd}
+use Rattle.ripemd_mac.specs.Keyed.{hmac}
+use Rattle.ripemd_c.specs.Variants.{AtVariant, Refuses, Writes, digest_size}
 
 -- record i: the bytes from i * size on, as many as the size
 abbrev pub record_at : ℕ → List ℕ → ℕ → List ℕ
@@ -12,23 +16,40 @@ records n size bytes = map (record_at size bytes) (range_with_len 0 n)
 
 -- ---- calls
 
--- a call writes the output of each message to its place, if what it was given fits its places, and answers
--- whether it did
-pub record WritesOutputs (output_of : List ℕ → List ℕ) (messages : List (List ℕ)) (Fits : Type 0) (answer : Bool)
-    (old new : List (List ℕ)) : Type 0 where
-  -- it is true exactly if it fits
-  pub fits : IsTrue answer ↔ Fits
-  -- then each place has the output of its message
-  pub outputs : IsTrue answer → new ≡ map output_of messages
-  -- and otherwise all are as they were
-  pub unchanged : IsFalse answer → new ≡ old
+-- a call writes the outputs of messages, each of so many bytes, one after another: exactly if its place is as long
+-- as all of them
+abbrev pub FillsList : (width : ℕ) → (output_of : List ℕ → List ℕ) → (messages : List (List ℕ))
+    → (old new : List ℕ) → Bool → Type 0
+FillsList width output_of messages old new done =
+    Writes (length old ≡ length messages * width) (flat_map output_of messages) old new done
 
--- of records: the bytes are as long as the places times the size
-abbrev pub WritesEach : (List ℕ → List ℕ) → (bytes : List ℕ) → (size : ℕ) → Bool → (old new : List (List ℕ)) → Type 0
-WritesEach output_of bytes size answer old new =
-    WritesOutputs output_of (records (length old) size bytes) (length bytes ≡ length old * size) answer old new
+-- the same of records: exactly if its place is a whole number of outputs, and the bytes are as many records
+abbrev pub FillsEach : (width : ℕ) → (output_of : List ℕ → List ℕ) → (bytes : List ℕ) → (size : ℕ)
+    → (old new : List ℕ) → Bool → Type 0
+FillsEach width output_of bytes size old new done =
+    Writes ((length old ≡ length old / width * width) × (length bytes ≡ length old / width * size))
+    (flat_map output_of (records (length old / width) size bytes)) old new done
 
--- of a list of messages: they are as many as the places
-abbrev pub WritesList : (List ℕ → List ℕ) → (messages : List (List ℕ)) → Bool → (old new : List (List ℕ)) → Type 0
-WritesList output_of messages answer old new =
-    WritesOutputs output_of messages (length messages ≡ length old) answer old new
+-- the same by the variant of a number
+abbrev pub WritesList : (bits : ℕ) → (output_of : Parameters → List ℕ → List ℕ) → (messages : List (List ℕ))
+    → (old new : List ℕ) → Bool → Type 0
+WritesList bits output_of messages old new done =
+    AtVariant bits (λ v. FillsList (digest_size v) (output_of v) messages old new done) (Refuses old new done)
+
+abbrev pub WritesEach : (bits : ℕ) → (output_of : Parameters → List ℕ → List ℕ) → (bytes : List ℕ) → (size : ℕ)
+    → (old new : List ℕ) → Bool → Type 0
+WritesEach bits output_of bytes size old new done =
+    AtVariant bits (λ v. FillsEach (digest_size v) (output_of v) bytes size old new done) (Refuses old new done)
+
+-- digests, and tags under a key
+abbrev pub WritesDigests : (bits : ℕ) → (messages : List (List ℕ)) → (old new : List ℕ) → Bool → Type 0
+WritesDigests bits = WritesList bits ripemd
+
+abbrev pub WritesTags : (bits : ℕ) → (key : List ℕ) → (texts : List (List ℕ)) → (old new : List ℕ) → Bool → Type 0
+WritesTags bits key = WritesList bits (λ v. hmac (ripemd v) key)
+
+abbrev pub WritesEachDigest : (bits : ℕ) → (bytes : List ℕ) → (size : ℕ) → (old new : List ℕ) → Bool → Type 0
+WritesEachDigest bits = WritesEach bits ripemd
+
+abbrev pub WritesEachTag : (bits : ℕ) → (key bytes : List ℕ) → (size : ℕ) → (old new : List ℕ) → Bool → Type 0
+WritesEachTag bits key = WritesEach bits (λ v. hmac (ripemd v) key)

@@ -1,71 +1,131 @@
--- Hash states and HMAC states as C has them, which are the bytes that they are saved as, and what the calls that
+-- Hash states and HMAC states as C has them, a mark and the bytes that they are saved as, and what the calls that
 -- take them do.
-use Rattle.std.specs.Prelude.{◌≡◌, ◌↔◌, ℕ, List, ◌++◌, length, Bool, IsTrue, IsFalse}
+use Rattle.std.specs.Prelude.{◌≡◌, ◌↔◌, ℕ, ◌+◌, ◌-◌, ◌*◌, List, [], ◌++◌, length, replicate, drop, Bool, IsTrue, IsFalse, ⊤}
+use Rattle.std.specs.Prelude.{slice_index, slice_range}
 use Rattle.ripemd.specs.Standard.Words.{word_bytes}
 use Rattle.ripemd.specs.Standard.Compression.{Parameters, compress}
+use Rattle.ripemd.specs.Standard.Hashing.{ripemd}
 use Rattle.ripemd.specs.States.{HashState, AreWords, IsState, new_state, fed, finish, hasher_bytes}
 use Rattle.ripemd.specs.Saved.{IsSaved}
-use Rattle.ripemd_mac.specs.Keyed.{KeyedState, keyed_state, fed_text, tag_of}
+use Rattle.ripemd_mac.specs.Keyed.{KeyedState, hmac, keyed_state, fed_text, tag_of}
 use Rattle.ripemd_mac.specs.Saved.{IsKeyedState, hmac_bytes}
+use Rattle.ripemd_c.specs.Variants.{AtVariant, Refuses, Writes, digest_size}
 
 -- ---- states
 
--- a hash state of a variant, and the bytes that it is saved as
+-- the bytes that a hash state and an HMAC state of a variant are saved as, and how many they are
 abbrev pub IsSavedState : Parameters → HashState → List ℕ → Type 0
 IsSavedState v = IsSaved (IsState v) hasher_bytes
 
--- the saved bytes of the hash state of a message
-abbrev pub IsSavedMessage : Parameters → (message bytes : List ℕ) → Type 0
-IsSavedMessage v message = IsSavedState v (fed (compress v) (new_state v) message)
-
--- an HMAC state of a variant, and the bytes that it is saved as
 abbrev pub IsSavedHmac : Parameters → KeyedState → List ℕ → Type 0
 IsSavedHmac v = IsSaved (IsKeyedState (AreWords (length v.start))) (hmac_bytes word_bytes)
 
--- the saved bytes of the HMAC state of a key and a text
-abbrev pub IsSavedText : Parameters → (key text bytes : List ℕ) → Type 0
-IsSavedText v key text = IsSavedHmac v (fed_text (compress v) (keyed_state v.start (compress v) word_bytes key) text)
+abbrev pub saved_size : Parameters → ℕ
+saved_size v = digest_size v + 72
+
+abbrev pub saved_hmac_size : Parameters → ℕ
+saved_hmac_size v = 2 * saved_size v
+
+-- C keeps a mark, the saved bytes, which are so many, and then any bytes
+abbrev pub saved_in : (size : ℕ) → List ℕ → List ℕ
+saved_in size bytes = slice_range bytes 1 (1 + size)
+
+-- the mark is the size of a digest, and that and 128 for HMAC. So it names the variant, by the bits of its digests
+abbrev pub bits_of_state : List ℕ → ℕ
+bits_of_state bytes = 8 * slice_index bytes 0
+
+abbrev pub bits_of_hmac : List ℕ → ℕ
+bits_of_hmac bytes = 8 * (slice_index bytes 0 - 128)
 
 -- ---- calls
 
--- a call makes the saved bytes of a state those of the state after a piece, and answers whether it did: it
--- refuses exactly the bytes of no state, and then leaves them as they are. So where the state began with some
--- start and has taken in a message, it has taken in the message and the piece
+-- a call makes the saved bytes of a state those of the state after a piece, and answers whether it did: it refuses
+-- exactly the bytes of no state. So where the state began with some start and has taken in a message, it has taken in
+-- the message and the piece
 pub record Updates {S : Type 0} (IsSavedAs : S → List ℕ → Type 0) (fed : S → List ℕ → S)
     (old piece new : List ℕ) (done : Bool) : Type 0 where
   pub state : (s : S) → IsSavedAs s old → IsTrue done × IsSavedAs (fed s piece) new
   pub message : (start : S) (message : List ℕ) → IsSavedAs (fed start message) old
       → IsTrue done × IsSavedAs (fed start (message ++ piece)) new
   pub refused : IsFalse done ↔ ((s : S) → ¬ IsSavedAs s old)
+
+-- what is around the saved bytes stays, and if the call refuses, all does
+pub record Stays (size : ℕ) (old new : List ℕ) (done : Bool) : Type 0 where
+  pub mark : slice_index new 0 ≡ slice_index old 0
+  pub behind : drop (1 + size) new ≡ drop (1 + size) old
   pub unchanged : IsFalse done → new ≡ old
 
--- a call writes the output of a saved state, and answers whether it did: it refuses exactly the bytes of no
--- state, and then writes nothing
-pub record Finalizes {S : Type 0} (IsSavedAs : S → List ℕ → Type 0) (output : S → List ℕ)
-    (saved old new : List ℕ) (done : Bool) : Type 0 where
-  pub state : (s : S) → IsSavedAs s saved → IsTrue done × (new ≡ output s)
-  pub refused : IsFalse done ↔ ((s : S) → ¬ IsSavedAs s saved)
-  pub unchanged : IsFalse done → new ≡ old
+-- a call keeps a state behind a mark, and writes zeros behind it
+pub record Keeps {S : Type 0} (IsSavedAs : S → List ℕ → Type 0) (mark size : ℕ) (s : S) (old new : List ℕ) (done : Bool) : Type 0 where
+  pub kept : IsTrue done
+  pub marked : slice_index new 0 ≡ mark
+  pub saved : IsSavedAs s (saved_in size new)
+  pub zeros : drop (1 + size) new ≡ replicate (length old - (1 + size)) 0
 
--- a call answers whether some bytes are the output of a saved state, all of them; it refuses them where no
--- state is saved
-pub record Verifies {S : Type 0} (IsSavedAs : S → List ℕ → Type 0) (output : S → List ℕ)
-    (saved bytes : List ℕ) (answer : Bool) : Type 0 where
-  pub state : (s : S) → IsSavedAs s saved → IsTrue answer ↔ (bytes ≡ output s)
-  pub refused : ((s : S) → ¬ IsSavedAs s saved) → IsFalse answer
+-- a call does this with the output of a saved state, and so, where the state took in a message from its start, with
+-- the output of the message; it refuses the bytes of no state
+pub record WithOutput {S O : Type 0} (IsSavedAs : S → List ℕ → Type 0) (new_state : O → S) (fed : S → List ℕ → S)
+    (output : S → List ℕ) (whole : O → List ℕ → List ℕ) (saved : List ℕ) (Does : List ℕ → Type 0) (Otherwise : Type 0) : Type 0 where
+  pub state : (s : S) → IsSavedAs s saved → Does (output s)
+  pub message : (o : O) (message : List ℕ) → IsSavedAs (fed (new_state o) message) saved → Does (whole o message)
+  pub refused : ((s : S) → ¬ IsSavedAs s saved) → Otherwise
 
--- the same for the hash states and the HMAC states of a variant
-abbrev pub UpdatesState : Parameters → (old piece new : List ℕ) → Bool → Type 0
-UpdatesState v = Updates (IsSavedState v) (fed (compress v))
+-- with the digest of a hash state of a variant, and with the tag of an HMAC state
+abbrev pub WithDigest : Parameters → (saved : List ℕ) → (Does : List ℕ → Type 0) → (Otherwise : Type 0) → Type 0
+WithDigest v =
+    WithOutput {O = ⊤} (IsSavedState v) (λ _. new_state v) (fed (compress v)) (finish (compress v) word_bytes) (λ _. ripemd v)
 
-abbrev pub FinalizesState : Parameters → (saved old new : List ℕ) → Bool → Type 0
-FinalizesState v = Finalizes (IsSavedState v) (finish (compress v) word_bytes)
+abbrev pub WithTag : Parameters → (saved : List ℕ) → (Does : List ℕ → Type 0) → (Otherwise : Type 0) → Type 0
+WithTag v =
+    WithOutput (IsSavedHmac v) (keyed_state v.start (compress v) word_bytes) (fed_text (compress v))
+    (tag_of (compress v) word_bytes) (hmac (ripemd v))
 
-abbrev pub UpdatesHmac : Parameters → (old piece new : List ℕ) → Bool → Type 0
-UpdatesHmac v = Updates (IsSavedHmac v) (fed_text (compress v))
+-- ---- calls by number, or at the variant of a state
 
-abbrev pub FinalizesHmac : Parameters → (saved old new : List ℕ) → Bool → Type 0
-FinalizesHmac v = Finalizes (IsSavedHmac v) (tag_of (compress v) word_bytes)
+-- the state of no bytes
+abbrev pub InitsState : (bits : ℕ) → (old new : List ℕ) → Bool → Type 0
+InitsState bits old new done =
+    AtVariant bits
+    (λ v. Keeps (IsSavedState v) (digest_size v) (saved_size v) (fed (compress v) (new_state v) []) old new done)
+    (Refuses old new done)
 
-abbrev pub VerifiesHmac : Parameters → (saved tag : List ℕ) → Bool → Type 0
-VerifiesHmac v = Verifies (IsSavedHmac v) (tag_of (compress v) word_bytes)
+abbrev pub InitsHmac : (bits : ℕ) → (key old new : List ℕ) → Bool → Type 0
+InitsHmac bits key old new done =
+    AtVariant bits
+    (λ v. Keeps (IsSavedHmac v) (128 + digest_size v) (saved_hmac_size v)
+    (fed_text (compress v) (keyed_state v.start (compress v) word_bytes key) []) old new done)
+    (Refuses old new done)
+
+abbrev pub UpdatesState : (old piece new : List ℕ) → Bool → Type 0
+UpdatesState old piece new done =
+    AtVariant (bits_of_state old)
+    (λ v. Updates (IsSavedState v) (fed (compress v)) (saved_in (saved_size v) old) piece (saved_in (saved_size v) new) done
+    × Stays (saved_size v) old new done)
+    (Refuses old new done)
+
+abbrev pub UpdatesHmac : (old piece new : List ℕ) → Bool → Type 0
+UpdatesHmac old piece new done =
+    AtVariant (bits_of_hmac old)
+    (λ v. Updates (IsSavedHmac v) (fed_text (compress v)) (saved_in (saved_hmac_size v) old) piece (saved_in (saved_hmac_size v) new) done
+    × Stays (saved_hmac_size v) old new done)
+    (Refuses old new done)
+
+abbrev pub FinalizesState : (state old new : List ℕ) → Bool → Type 0
+FinalizesState state old new done =
+    AtVariant (bits_of_state state)
+    (λ v. WithDigest v (saved_in (saved_size v) state) (λ digest. Writes (length old ≡ digest_size v) digest old new done)
+    (Refuses old new done))
+    (Refuses old new done)
+
+abbrev pub FinalizesHmac : (state old new : List ℕ) → Bool → Type 0
+FinalizesHmac state old new done =
+    AtVariant (bits_of_hmac state)
+    (λ v. WithTag v (saved_in (saved_hmac_size v) state) (λ tag. Writes (length old ≡ digest_size v) tag old new done)
+    (Refuses old new done))
+    (Refuses old new done)
+
+abbrev pub VerifiesHmac : (state tag : List ℕ) → Bool → Type 0
+VerifiesHmac state bytes answer =
+    AtVariant (bits_of_hmac state)
+    (λ v. WithTag v (saved_in (saved_hmac_size v) state) (λ tag. IsTrue answer ↔ (bytes ≡ tag)) (IsFalse answer))
+    (IsFalse answer)

@@ -1,300 +1,202 @@
 //! Digests of many messages, and their tags under one key (RFC 2104): of records of one size that lie
 //! one after another, and of a list of messages of any sizes.
 
-ghost use Rattle.std.specs.Prelude.{◌≡◌, ◌↔◌, ℕ, ◌+◌, ◌-◌, ◌*◌, ◌^◌, ◌<◌, ◌≤◌, min};
-ghost use Rattle.std.specs.Prelude.{length, map, IsTrue, IsFalse};
-ghost use Rattle.ripemd.specs.Standard.Compression.{ripemd128, ripemd160, ripemd256, ripemd320};
-ghost use Rattle.ripemd.specs.Standard.Hashing.{ripemd};
+ghost use Rattle.std.specs.Prelude.{◌≡◌, ◌↔◌, ℕ, ◌+◌, ◌-◌, ◌*◌, ◌/◌, ◌^◌, ◌<◌, ◌≤◌, min, length, IsTrue};
+ghost use Rattle.std.specs.List.{flat_map};
+ghost use Rattle.std.specs.Mem.{type_size};
+ghost use Rattle.ripemd.specs.Standard.Hashing.{hash};
 ghost use Rattle.ripemd_mac.specs.Keyed.{hmac};
-ghost use Rattle.ripemd_batch.specs.Lanes.{made_by, list_at, targets};
-ghost use Rattle.ripemd_c.specs.Records.{WritesEach, WritesList, record_at, records};
+ghost use Rattle.ripemd_batch.specs.Lanes.{list_at, made_by, targets};
+ghost use Rattle.ripemd_c.specs.Records.{FillsEach, FillsList, record_at};
+ghost use Rattle.ripemd_c.specs.Records.{WritesDigests, WritesEachDigest, WritesEachTag, WritesTags};
 
-use ripemd::{Ripemd128, Ripemd160, Ripemd256, Ripemd320};
+use ripemd::block_api::ByteArray;
+use ripemd::digest::OutputSizeUser;
+use ripemd::{Digest, Ripemd128, Ripemd160, Ripemd256, Ripemd320};
+use ripemd_batch::passwords::digest_size;
 use ripemd_batch::{BatchDigest, ListHasher};
 
-// How many records a group has.
+// How many messages a group has.
 const GROUP: usize = 64;
 
-/// Writes the RIPEMD-128 digest of each record to its place in `digests`. The records lie one after
-/// another, each of `size` bytes. False exactly if `bytes` is not as long as the places times the
-/// size, and then nothing is written.
+/// Writes the digests of records by the variant, one after another to `digests`. The records lie one
+/// after another, each of `size` bytes. True exactly if there is such a variant, `digests` is a whole
+/// number of its digests, and `bytes` as many records; otherwise nothing is written.
 #[unsafe(no_mangle)]
-#[tactic(auto, using(ripemd_batch::specs::Laws::own_bytes))]
-pub extern "C" fn nattizhu_ripemd128_each_nonnull(
+pub extern "C" fn nattizhu_each_nonnull(
+    variant: u32,
     bytes: &[u8],
     size: usize,
-    digests: &mut [[u8; 16]],
+    digests: &mut [u8],
 ) -> bool
-    ensures { WritesEach (ripemd ripemd128) bytes.now size result digests.old digests.new }
+    ensures { WritesEachDigest variant bytes.now size digests.old digests.new result }
 {
-    hash_records(&ListHasher::<Ripemd128>::new(), bytes, size, digests)
+    by_variant!(variant, digest_records(bytes, size, digests))
 }
 
-/// Writes the RIPEMD-160 digest of each record to its place in `digests`. The records lie one after
-/// another, each of `size` bytes. False exactly if `bytes` is not as long as the places times the
-/// size, and then nothing is written.
+/// Writes the tags of records under the key, as `nattizhu_each_nonnull` writes their digests. The key has
+/// any length.
 #[unsafe(no_mangle)]
-#[tactic(auto, using(ripemd_batch::specs::Laws::own_bytes))]
-pub extern "C" fn nattizhu_ripemd160_each_nonnull(
-    bytes: &[u8],
-    size: usize,
-    digests: &mut [[u8; 20]],
-) -> bool
-    ensures { WritesEach (ripemd ripemd160) bytes.now size result digests.old digests.new }
-{
-    hash_records(&ListHasher::<Ripemd160>::new(), bytes, size, digests)
-}
-
-/// Writes the RIPEMD-256 digest of each record to its place in `digests`. The records lie one after
-/// another, each of `size` bytes. False exactly if `bytes` is not as long as the places times the
-/// size, and then nothing is written.
-#[unsafe(no_mangle)]
-#[tactic(auto, using(ripemd_batch::specs::Laws::own_bytes))]
-pub extern "C" fn nattizhu_ripemd256_each_nonnull(
-    bytes: &[u8],
-    size: usize,
-    digests: &mut [[u8; 32]],
-) -> bool
-    ensures { WritesEach (ripemd ripemd256) bytes.now size result digests.old digests.new }
-{
-    hash_records(&ListHasher::<Ripemd256>::new(), bytes, size, digests)
-}
-
-/// Writes the RIPEMD-320 digest of each record to its place in `digests`. The records lie one after
-/// another, each of `size` bytes. False exactly if `bytes` is not as long as the places times the
-/// size, and then nothing is written.
-#[unsafe(no_mangle)]
-#[tactic(auto, using(ripemd_batch::specs::Laws::own_bytes))]
-pub extern "C" fn nattizhu_ripemd320_each_nonnull(
-    bytes: &[u8],
-    size: usize,
-    digests: &mut [[u8; 40]],
-) -> bool
-    ensures { WritesEach (ripemd ripemd320) bytes.now size result digests.old digests.new }
-{
-    hash_records(&ListHasher::<Ripemd320>::new(), bytes, size, digests)
-}
-
-/// Writes the tag of each record under the key, by RIPEMD-128, to its place in `tags`. The key has any
-/// length. The records lie one after another, each of `size` bytes. False exactly if `bytes` is not
-/// as long as the places times the size, and then nothing is written.
-#[unsafe(no_mangle)]
-#[tactic(auto, using(ripemd_batch::specs::Laws::own_bytes))]
-pub extern "C" fn nattizhu_hmac_ripemd128_each_nonnull(
+pub extern "C" fn nattizhu_hmac_each_nonnull(
+    variant: u32,
     key: &[u8],
     bytes: &[u8],
     size: usize,
-    tags: &mut [[u8; 16]],
+    tags: &mut [u8],
 ) -> bool
-    ensures { WritesEach (hmac (ripemd ripemd128) key.now) bytes.now size result tags.old tags.new }
+    ensures { WritesEachTag variant key.now bytes.now size tags.old tags.new result }
 {
-    hash_records(&ListHasher::<Ripemd128>::keyed(key), bytes, size, tags)
+    by_variant!(variant, tag_records(key, bytes, size, tags))
 }
 
-/// Writes the tag of each record under the key, by RIPEMD-160, to its place in `tags`. The key has any
-/// length. The records lie one after another, each of `size` bytes. False exactly if `bytes` is not
-/// as long as the places times the size, and then nothing is written.
+/// Writes the digests of messages by the variant, one after another to `digests`. True exactly if there is
+/// such a variant, and `digests` is as long as so many digests; otherwise nothing is written.
 #[unsafe(no_mangle)]
-#[tactic(auto, using(ripemd_batch::specs::Laws::own_bytes))]
-pub extern "C" fn nattizhu_hmac_ripemd160_each_nonnull(
-    key: &[u8],
-    bytes: &[u8],
-    size: usize,
-    tags: &mut [[u8; 20]],
-) -> bool
-    ensures { WritesEach (hmac (ripemd ripemd160) key.now) bytes.now size result tags.old tags.new }
-{
-    hash_records(&ListHasher::<Ripemd160>::keyed(key), bytes, size, tags)
-}
-
-/// Writes the tag of each record under the key, by RIPEMD-256, to its place in `tags`. The key has any
-/// length. The records lie one after another, each of `size` bytes. False exactly if `bytes` is not
-/// as long as the places times the size, and then nothing is written.
-#[unsafe(no_mangle)]
-#[tactic(auto, using(ripemd_batch::specs::Laws::own_bytes))]
-pub extern "C" fn nattizhu_hmac_ripemd256_each_nonnull(
-    key: &[u8],
-    bytes: &[u8],
-    size: usize,
-    tags: &mut [[u8; 32]],
-) -> bool
-    ensures { WritesEach (hmac (ripemd ripemd256) key.now) bytes.now size result tags.old tags.new }
-{
-    hash_records(&ListHasher::<Ripemd256>::keyed(key), bytes, size, tags)
-}
-
-/// Writes the tag of each record under the key, by RIPEMD-320, to its place in `tags`. The key has any
-/// length. The records lie one after another, each of `size` bytes. False exactly if `bytes` is not
-/// as long as the places times the size, and then nothing is written.
-#[unsafe(no_mangle)]
-#[tactic(auto, using(ripemd_batch::specs::Laws::own_bytes))]
-pub extern "C" fn nattizhu_hmac_ripemd320_each_nonnull(
-    key: &[u8],
-    bytes: &[u8],
-    size: usize,
-    tags: &mut [[u8; 40]],
-) -> bool
-    ensures { WritesEach (hmac (ripemd ripemd320) key.now) bytes.now size result tags.old tags.new }
-{
-    hash_records(&ListHasher::<Ripemd320>::keyed(key), bytes, size, tags)
-}
-
-/// Writes the RIPEMD-128 digest of each message to its place in `digests`. False exactly if the messages
-/// are not as many as the places, and then nothing is written.
-#[unsafe(no_mangle)]
-#[tactic(auto, using(ripemd_batch::specs::Laws::own_bytes))]
-pub extern "C" fn nattizhu_ripemd128_list_nonnull(
+pub extern "C" fn nattizhu_list_nonnull(
+    variant: u32,
     messages: &[&[u8]],
-    digests: &mut [[u8; 16]],
+    digests: &mut [u8],
 ) -> bool
-    ensures { WritesList (ripemd ripemd128) (targets messages.now) result digests.old digests.new }
+    ensures { WritesDigests variant (targets messages.now) digests.old digests.new result }
 {
-    hash_list(&ListHasher::<Ripemd128>::new(), messages, digests)
+    by_variant!(variant, digest_list(messages, digests))
 }
 
-/// Writes the RIPEMD-160 digest of each message to its place in `digests`. False exactly if the messages
-/// are not as many as the places, and then nothing is written.
+/// Writes the tags of texts under the key, as `nattizhu_list_nonnull` writes their digests. The key has
+/// any length.
 #[unsafe(no_mangle)]
-#[tactic(auto, using(ripemd_batch::specs::Laws::own_bytes))]
-pub extern "C" fn nattizhu_ripemd160_list_nonnull(
-    messages: &[&[u8]],
-    digests: &mut [[u8; 20]],
-) -> bool
-    ensures { WritesList (ripemd ripemd160) (targets messages.now) result digests.old digests.new }
-{
-    hash_list(&ListHasher::<Ripemd160>::new(), messages, digests)
-}
-
-/// Writes the RIPEMD-256 digest of each message to its place in `digests`. False exactly if the messages
-/// are not as many as the places, and then nothing is written.
-#[unsafe(no_mangle)]
-#[tactic(auto, using(ripemd_batch::specs::Laws::own_bytes))]
-pub extern "C" fn nattizhu_ripemd256_list_nonnull(
-    messages: &[&[u8]],
-    digests: &mut [[u8; 32]],
-) -> bool
-    ensures { WritesList (ripemd ripemd256) (targets messages.now) result digests.old digests.new }
-{
-    hash_list(&ListHasher::<Ripemd256>::new(), messages, digests)
-}
-
-/// Writes the RIPEMD-320 digest of each message to its place in `digests`. False exactly if the messages
-/// are not as many as the places, and then nothing is written.
-#[unsafe(no_mangle)]
-#[tactic(auto, using(ripemd_batch::specs::Laws::own_bytes))]
-pub extern "C" fn nattizhu_ripemd320_list_nonnull(
-    messages: &[&[u8]],
-    digests: &mut [[u8; 40]],
-) -> bool
-    ensures { WritesList (ripemd ripemd320) (targets messages.now) result digests.old digests.new }
-{
-    hash_list(&ListHasher::<Ripemd320>::new(), messages, digests)
-}
-
-/// Writes the tag of each text under the key, by RIPEMD-128, to its place in `tags`. The key has any
-/// length. False exactly if the texts are not as many as the places, and then nothing is written.
-#[unsafe(no_mangle)]
-#[tactic(auto, using(ripemd_batch::specs::Laws::own_bytes))]
-pub extern "C" fn nattizhu_hmac_ripemd128_list_nonnull(
+pub extern "C" fn nattizhu_hmac_list_nonnull(
+    variant: u32,
     key: &[u8],
     texts: &[&[u8]],
-    tags: &mut [[u8; 16]],
+    tags: &mut [u8],
 ) -> bool
-    ensures { WritesList (hmac (ripemd ripemd128) key.now) (targets texts.now) result tags.old tags.new }
+    ensures { WritesTags variant key.now (targets texts.now) tags.old tags.new result }
 {
-    hash_list(&ListHasher::<Ripemd128>::keyed(key), texts, tags)
+    by_variant!(variant, tag_list(key, texts, tags))
 }
 
-/// Writes the tag of each text under the key, by RIPEMD-160, to its place in `tags`. The key has any
-/// length. False exactly if the texts are not as many as the places, and then nothing is written.
-#[unsafe(no_mangle)]
-#[tactic(auto, using(ripemd_batch::specs::Laws::own_bytes))]
-pub extern "C" fn nattizhu_hmac_ripemd160_list_nonnull(
-    key: &[u8],
-    texts: &[&[u8]],
-    tags: &mut [[u8; 20]],
-) -> bool
-    ensures { WritesList (hmac (ripemd ripemd160) key.now) (targets texts.now) result tags.old tags.new }
+fn digest_records<D: BatchDigest>(bytes: &[u8], size: usize, digests: &mut [u8]) -> bool
+    requires width { 0 < D.OUTPUT_SIZE }
+    requires memory { 64 * type_size D.Output.row < 2 ^ 63 }
+    ensures { FillsEach D.OUTPUT_SIZE (hash D.start D.step D.output) bytes.now size digests.old digests.new result }
 {
-    hash_list(&ListHasher::<Ripemd160>::keyed(key), texts, tags)
+    write_each(&ListHasher::<D>::new(), bytes, size, digests)
 }
 
-/// Writes the tag of each text under the key, by RIPEMD-256, to its place in `tags`. The key has any
-/// length. False exactly if the texts are not as many as the places, and then nothing is written.
-#[unsafe(no_mangle)]
-#[tactic(auto, using(ripemd_batch::specs::Laws::own_bytes))]
-pub extern "C" fn nattizhu_hmac_ripemd256_list_nonnull(
-    key: &[u8],
-    texts: &[&[u8]],
-    tags: &mut [[u8; 32]],
-) -> bool
-    ensures { WritesList (hmac (ripemd ripemd256) key.now) (targets texts.now) result tags.old tags.new }
+fn tag_records<D: BatchDigest>(key: &[u8], bytes: &[u8], size: usize, tags: &mut [u8]) -> bool
+    requires width { 0 < D.OUTPUT_SIZE }
+    requires memory { 64 * type_size D.Output.row < 2 ^ 63 }
+    ensures { FillsEach D.OUTPUT_SIZE (hmac (hash D.start D.step D.output) key.now) bytes.now size
+        tags.old tags.new result }
 {
-    hash_list(&ListHasher::<Ripemd256>::keyed(key), texts, tags)
+    write_each(&ListHasher::<D>::keyed(key), bytes, size, tags)
 }
 
-/// Writes the tag of each text under the key, by RIPEMD-320, to its place in `tags`. The key has any
-/// length. False exactly if the texts are not as many as the places, and then nothing is written.
-#[unsafe(no_mangle)]
-#[tactic(auto, using(ripemd_batch::specs::Laws::own_bytes))]
-pub extern "C" fn nattizhu_hmac_ripemd320_list_nonnull(
-    key: &[u8],
-    texts: &[&[u8]],
-    tags: &mut [[u8; 40]],
-) -> bool
-    ensures { WritesList (hmac (ripemd ripemd320) key.now) (targets texts.now) result tags.old tags.new }
+fn digest_list<D: BatchDigest>(messages: &[&[u8]], digests: &mut [u8]) -> bool
+    requires memory { 64 * type_size D.Output.row < 2 ^ 63 }
+    ensures { FillsList D.OUTPUT_SIZE (hash D.start D.step D.output) (targets messages.now)
+        digests.old digests.new result }
 {
-    hash_list(&ListHasher::<Ripemd320>::keyed(key), texts, tags)
+    write_list(&ListHasher::<D>::new(), messages, digests)
 }
 
-// Writes what the hasher makes of each message to its place, if the messages are as many as the
-// places; otherwise it answers false and writes nothing.
-fn hash_list<D: BatchDigest>(
+fn tag_list<D: BatchDigest>(key: &[u8], texts: &[&[u8]], tags: &mut [u8]) -> bool
+    requires memory { 64 * type_size D.Output.row < 2 ^ 63 }
+    ensures { FillsList D.OUTPUT_SIZE (hmac (hash D.start D.step D.output) key.now) (targets texts.now)
+        tags.old tags.new result }
+{
+    write_list(&ListHasher::<D>::keyed(key), texts, tags)
+}
+
+// Writes what the hasher makes of each record, if the lengths fit. The records are handed on in groups, so
+// that nothing is allocated.
+fn write_each<D: BatchDigest>(
     hasher: &ListHasher<D>,
-    messages: &[&[u8]],
-    outputs: &mut [D::Output],
+    bytes: &[u8],
+    size: usize,
+    outputs: &mut [u8],
 ) -> bool
-    ensures fits { IsTrue result ↔ (length messages.now ≡ length outputs.old) }
-    ensures outputs { IsTrue result → map D.bytes_of outputs.new
-        ≡ map (made_by D.step D.output hasher.now) (targets messages.now) }
-    ensures unchanged { IsFalse result → outputs.new ≡ outputs.old }
+    requires width { 0 < D.OUTPUT_SIZE }
+    requires memory { 64 * type_size D.Output.row < 2 ^ 63 }
+    ensures { FillsEach D.OUTPUT_SIZE (made_by D.step D.output hasher.now) bytes.now size
+        outputs.old outputs.new result }
 {
-    if messages.len() != outputs.len() {
+    let width = digest_size::<D>();
+    let count = outputs.len() / width;
+    if !is_product(outputs.len(), count, width) || !is_product(bytes.len(), count, size) {
         return false;
     }
-    hasher.hash_each(messages, outputs);
+    let mut group = [D::Output::zeros(); GROUP];
+    let mut at = 0;
+    while at < count {
+        let n = group_len(count, at);
+        let messages = records_from(bytes, size, at, n);
+        write_group(
+            hasher,
+            &messages[..n],
+            &mut group,
+            &mut outputs[width * at..width * (at + n)],
+        );
+        at += n;
+    }
     true
 }
 
-// Writes what the hasher makes of each record to its place, if the records are as many as the places;
-// otherwise it answers false and writes nothing. The records are handed on in groups, so that nothing
-// is allocated.
-fn hash_records<D: BatchDigest>(
+// Writes what the hasher makes of each message, if there is room for so many outputs.
+fn write_list<D: BatchDigest>(
     hasher: &ListHasher<D>,
-    bytes: &[u8],
-    size: usize,
-    outputs: &mut [D::Output],
+    messages: &[&[u8]],
+    outputs: &mut [u8],
 ) -> bool
-    ensures fits { IsTrue result ↔ (length bytes.now ≡ length outputs.old * size) }
-    ensures outputs { IsTrue result → map D.bytes_of outputs.new
-        ≡ map (made_by D.step D.output hasher.now)
-        (records (length outputs.old) size bytes.now) }
-    ensures unchanged { IsFalse result → outputs.new ≡ outputs.old }
+    requires memory { 64 * type_size D.Output.row < 2 ^ 63 }
+    ensures { FillsList D.OUTPUT_SIZE (made_by D.step D.output hasher.now) (targets messages.now)
+        outputs.old outputs.new result }
 {
-    match outputs.len().checked_mul(size) {
-        Some(len) if len == bytes.len() => {}
-        _ => return false,
+    let width = digest_size::<D>();
+    let count = messages.len();
+    if !is_product(outputs.len(), count, width) {
+        return false;
     }
-    for g in 0..outputs.len().div_ceil(GROUP) {
-        let at = GROUP * g;
-        let count = group_len(outputs.len(), at);
-        let messages = records_from(bytes, size, at, count);
-        hasher.hash_each(&messages[..count], &mut outputs[at..at + count]);
+    let mut group = [D::Output::zeros(); GROUP];
+    let mut at = 0;
+    while at < count {
+        let n = group_len(count, at);
+        write_group(
+            hasher,
+            &messages[at..at + n],
+            &mut group,
+            &mut outputs[width * at..width * (at + n)],
+        );
+        at += n;
     }
     true
 }
 
-// How many of `len` records the group from `at` on has.
+// Whether so many bytes are so many times a size.
+fn is_product(len: usize, count: usize, size: usize) -> bool
+    ensures { IsTrue result ↔ (len ≡ count * size) }
+{
+    count.checked_mul(size) == Some(len)
+}
+
+// Writes what the hasher makes of a group of messages.
+fn write_group<D: BatchDigest>(
+    hasher: &ListHasher<D>,
+    messages: &[&[u8]],
+    outputs: &mut [D::Output; GROUP],
+    place: &mut [u8],
+)
+    requires most { length messages.now ≤ 64 }
+    requires room { length place.old ≡ D.Output.LEN * length messages.now }
+    ensures { place.new ≡ flat_map (made_by D.step D.output hasher.now) (targets messages.now) }
+{
+    let n = messages.len();
+    hasher.hash_each(messages, &mut outputs[..n]);
+    place.copy_from_slice(D::Output::joined(&outputs[..n]));
+}
+
+// How many of `len` messages the group from `at` on has.
 #[inline(always)]
 fn group_len(len: usize, at: usize) -> usize
     requires { at < len }

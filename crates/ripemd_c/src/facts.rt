@@ -3,7 +3,8 @@
 
 ghost use Rattle.std.specs.Prelude.{◌≡◌, [], ◌∷◌, ◌++◌, replicate};
 ghost use Rattle.ripemd_c.specs.Records.{records};
-ghost use Rattle.ripemd_c.specs.Worked.{WorkedSavedState, WorkedSavedText};
+ghost use Rattle.ripemd_c.specs.Worked.{WorkedDigests, WorkedHmacStates, WorkedKeys, WorkedLists};
+ghost use Rattle.ripemd_c.specs.Worked.{WorkedStates, WorkedTags};
 
 /// Three records of two bytes, with a byte behind them; two that are longer than a block; and two
 /// empty ones.
@@ -15,14 +16,18 @@ pub fn worked_records()
     ensures empty { records 2 0 [] ≡ [] ∷ [] ∷ [] }
 {}
 
-/// The 92 bytes of a RIPEMD-160 hasher after 65 bytes, with OpenSSL's words, and bytes of no hasher.
-pub fn worked_states()
-    ensures { WorkedSavedState }
+/// Digests and tags, those of records and lists, and keys: what is written, and what is refused.
+pub fn worked_calls()
+    ensures digests { WorkedDigests }
+    ensures tags { WorkedTags }
+    ensures lists { WorkedLists }
+    ensures keys { WorkedKeys }
 {}
 
-/// The 184 bytes of a RIPEMD-160 HMAC state after a text of 8 bytes, with OpenSSL's words.
-pub fn worked_hmac_states()
-    ensures { WorkedSavedText }
+/// States of RIPEMD-160 and of HMAC over it: what they are kept as, what comes of them, and bytes that are none.
+pub fn worked_states()
+    ensures states { WorkedStates }
+    ensures hmac_states { WorkedHmacStates }
 {
     ripemd_mac::facts::saved_tag();
 }

@@ -1,15 +1,38 @@
 //! RIPEMD-128, RIPEMD-160, RIPEMD-256 and RIPEMD-320 (1996) for callers in C: digests of messages,
 //! whole and in pieces, digests of many messages, tags (HMAC, RFC 2104), and keys derived from passwords
-//! (PBKDF2, RFC 8018).
+//! (PBKDF2, RFC 8018). The variant is a number, the bits of its digests, or is known by a state.
 //!
 //! C calls these functions through `nattizhu.h`. A name that ends in `_nonnull` takes slices, whose
 //! pointer may not be null; the header has a function without this ending, which may be given a null
 //! pointer and the length 0.
 #![tactic(auto)]
 
-ghost use Rattle.std.specs.Prelude.{◌≡◌};
-ghost use Rattle.ripemd.specs.Standard.Compression.{ripemd128, ripemd160, ripemd256, ripemd320};
-ghost use Rattle.ripemd.specs.Standard.Hashing.{ripemd};
+ghost use Rattle.std.specs.Prelude.{◌≡◌, length};
+ghost use Rattle.ripemd.specs.Standard.Hashing.{hash};
+ghost use Rattle.ripemd_c.specs.Variants.{AtVariant, Writes, WritesDigest, digest_size};
+
+// A call of a generic function at the variant whose digests have so many bits: at its hasher, the HMAC
+// over it, or its block function. False if there is none.
+macro_rules! by_variant {
+    ($bits:expr, $call:ident::<Hmac> $arguments:tt) => {
+        match $bits {
+            128 => $call::<Hmac<Ripemd128>> $arguments,
+            160 => $call::<Hmac<Ripemd160>> $arguments,
+            256 => $call::<Hmac<Ripemd256>> $arguments,
+            320 => $call::<Hmac<Ripemd320>> $arguments,
+            _ => false,
+        }
+    };
+    ($bits:expr, $call:ident $arguments:tt) => {
+        match $bits {
+            128 => $call::<Ripemd128> $arguments,
+            160 => $call::<Ripemd160> $arguments,
+            256 => $call::<Ripemd256> $arguments,
+            320 => $call::<Ripemd320> $arguments,
+            _ => false,
+        }
+    };
+}
 
 pub mod each;
 pub mod facts;
@@ -20,36 +43,50 @@ pub mod tags;
 
 use ripemd::{Digest, Ripemd128, Ripemd160, Ripemd256, Ripemd320};
 
-/// Writes the RIPEMD-128 digest of the message to `digest`.
+/// How many bytes the digests and the tags of the variant have; 0 if there is none.
 #[unsafe(no_mangle)]
-pub extern "C" fn nattizhu_ripemd128_nonnull(message: &[u8], digest: &mut [u8; 16])
-    ensures { digest.new ≡ ripemd ripemd128 message.now }
+pub extern "C" fn nattizhu_digest_size(variant: u32) -> usize
+    ensures { AtVariant variant (λ v. result ≡ digest_size v) (result ≡ 0) }
 {
-    *digest = Ripemd128::digest(message);
+    match variant {
+        128 => 16,
+        160 => 20,
+        256 => 32,
+        320 => 40,
+        _ => 0,
+    }
 }
 
-/// Writes the RIPEMD-160 digest of the message to `digest`.
+/// Writes the digest of the message by the variant to `digest`. True exactly if there is such a
+/// variant and `digest` has the size of its digests; otherwise nothing is written.
 #[unsafe(no_mangle)]
-pub extern "C" fn nattizhu_ripemd160_nonnull(message: &[u8], digest: &mut [u8; 20])
-    ensures { digest.new ≡ ripemd ripemd160 message.now }
+pub extern "C" fn nattizhu_digest_nonnull(variant: u32, message: &[u8], digest: &mut [u8]) -> bool
+    ensures { WritesDigest variant message.now digest.old digest.new result }
 {
-    *digest = Ripemd160::digest(message);
+    by_variant!(variant, write_digest(message, digest))
 }
 
-/// Writes the RIPEMD-256 digest of the message to `digest`.
-#[unsafe(no_mangle)]
-pub extern "C" fn nattizhu_ripemd256_nonnull(message: &[u8], digest: &mut [u8; 32])
-    ensures { digest.new ≡ ripemd ripemd256 message.now }
+// Writes a digest to its place, if that has its size.
+fn write_digest<D: Digest>(message: &[u8], digest: &mut [u8]) -> bool
+    ensures { Writes (length digest.old ≡ D.OUTPUT_SIZE) (hash D.start D.step D.output message.now)
+        digest.old digest.new result }
 {
-    *digest = Ripemd256::digest(message);
+    if digest.len() != D::OUTPUT_SIZE {
+        return false;
+    }
+    digest.copy_from_slice(D::output_bytes(&D::digest(message)));
+    true
 }
 
-/// Writes the RIPEMD-320 digest of the message to `digest`.
-#[unsafe(no_mangle)]
-pub extern "C" fn nattizhu_ripemd320_nonnull(message: &[u8], digest: &mut [u8; 40])
-    ensures { digest.new ≡ ripemd ripemd320 message.now }
+// Writes an output to its place, if that has its size.
+fn write(output: &[u8], place: &mut [u8]) -> bool
+    ensures { Writes (length place.old ≡ length output.now) output.now place.old place.new result }
 {
-    *digest = Ripemd320::digest(message);
+    if place.len() != output.len() {
+        return false;
+    }
+    place.copy_from_slice(output);
+    true
 }
 
 #[cfg(test)]

@@ -1,55 +1,166 @@
-//! What is done to the states that C keeps as saved bytes, the same for hash states and HMAC states.
+//! What is done to the states that C keeps, the same for hash states and HMAC states. Between the pieces of a
+//! message the caller keeps a state as a mark and the bytes that it is saved as.
 
-ghost use Rattle.std.specs.Prelude.{◌≡◌, ◌↔◌, ℕ, List, IsTrue, IsFalse};
+ghost use Rattle.std.specs.Prelude.{◌≡◌, ◌↔◌, ℕ, ◌+◌, ◌-◌, ◌<◌, ◌≤◌, List, [], length, replicate, drop, slice_index, IsTrue, IsFalse};
 ghost use Rattle.ripemd.specs.Saved.{IsSaved};
-ghost use Rattle.ripemd_c.specs.SavedStates.{Updates, Finalizes};
+ghost use Rattle.ripemd.specs.States.{initial_state};
+ghost use Rattle.ripemd_mac.specs.Keyed.{keyed_state};
+ghost use Rattle.ripemd_c.specs.SavedStates.{Updates, WithOutput, saved_in};
+ghost use Rattle.ripemd_c.specs.Variants.{Refuses, Writes};
 
-use ripemd::digest::OutputSizeUser;
+use crate::write;
+use ripemd::block_api::ByteArray;
 use ripemd::incremental::{Incremental, Resumable};
+use ripemd::{BlockHasher, Digest, ResumableFunction};
+use ripemd_mac::Hmac;
+use ripemd_mac::keyed::all_equal;
 
-/// Appends bytes in the saved bytes, if they end no block. False, and nothing is written, if they do, or no
-/// state is saved as these bytes.
-pub(crate) fn append_state<S: Resumable>(state: &mut [u8], bytes: &[u8]) -> bool
-    ensures appended { IsTrue result → Updates (IsSaved S.is_valid S.state_bytes) S.fed
-        state.old bytes.now state.new result }
-    ensures unchanged { IsFalse result → state.new ≡ state.old }
-{
-    S::append_saved(state, bytes)
+/// A state that C keeps.
+pub(crate) trait Kept: Resumable {
+    // The state before the first byte under this key; a hasher has one alone.
+    ghost first: { List ℕ → Self };
+
+    /// Makes it.
+    fn begin(key: &[u8]) -> Self
+        ensures { result ≡ first key.now };
+
+    // No bytes leave it as it is.
+    ghost fed_nothing: { (key : List ℕ) → Self.Incremental.fed (first key) [] ≡ first key };
 }
 
-/// Appends bytes. False exactly if no state is saved as these bytes, and then nothing is written.
-pub(crate) fn update_state<S: Resumable>(state: &mut S::Saved, bytes: &[u8]) -> bool
-    ensures { Updates (IsSaved S.is_valid S.state_bytes) S.fed
-        (S.saved_bytes state.old) bytes.now (S.saved_bytes state.new) result }
+impl<F: ResumableFunction> Kept for BlockHasher<F> {
+    ghost first = { λ _. initial_state (F.list F.start_of) };
+
+    fn begin(_key: &[u8]) -> BlockHasher<F> {
+        BlockHasher::new()
+    }
+
+    ghost use Rattle.ripemd.specs.Laws.{fed_nothing_at_first};
+
+    ghost fed_nothing = { λ _. fed_nothing_at_first F.step (F.list F.start_of) };
+}
+
+impl<F: ResumableFunction> Kept for Hmac<BlockHasher<F>> {
+    ghost first = { keyed_state (F.list F.start_of) F.step F.output };
+
+    fn begin(key: &[u8]) -> Hmac<BlockHasher<F>> {
+        Hmac::new(key)
+    }
+
+    ghost use Rattle.ripemd_mac.specs.Laws.{fed_nothing};
+
+    ghost fed_nothing = { fed_nothing (F.list F.start_of) F.step F.output };
+}
+
+// Keeps the state before the first byte behind a mark, and zeros behind it.
+pub(crate) fn init_kept<S: Kept>(key: &[u8], mark: u8, state: &mut [u8]) -> bool
+    requires room { S.Saved.LEN < length state.old }
+    requires most { length state.old ≤ 225 }
+    ensures kept { IsTrue result }
+    ensures marked { slice_index state.new 0 ≡ mark }
+    ensures saved { IsSaved S.is_valid S.state_bytes (S.fed (S.first key.now) []) (saved_in S.Saved.LEN state.new) }
+    ensures zeros { drop (1 + S.Saved.LEN) state.new ≡ replicate (length state.old - (1 + S.Saved.LEN)) 0 }
 {
-    match S::load(state) {
+    let saved = S::begin(key).save();
+    state.copy_from_slice(&[0; 225][..state.len()]);
+    state[0] = mark;
+    state[1..1 + <S::Saved as ByteArray>::LEN].copy_from_slice(saved.as_bytes());
+    true
+}
+
+// Appends bytes to a kept state. False exactly if no state is saved in these bytes, and then nothing is
+// written.
+pub(crate) fn update_kept<S: Resumable>(state: &mut [u8], bytes: &[u8]) -> bool
+    requires room { S.Saved.LEN < length state.old }
+    ensures updates { Updates (IsSaved S.is_valid S.state_bytes) S.fed
+        (saved_in S.Saved.LEN state.old) bytes.now (saved_in S.Saved.LEN state.new) result }
+    ensures mark { slice_index state.new 0 ≡ slice_index state.old 0 }
+    ensures behind { drop (1 + S.Saved.LEN) state.new ≡ drop (1 + S.Saved.LEN) state.old }
+    ensures unchanged { IsFalse result → state.new ≡ state.old }
+{
+    update_saved::<S>(&mut state[1..1 + <S::Saved as ByteArray>::LEN], bytes)
+}
+
+// Appends bytes to a saved state.
+fn update_saved<S: Resumable>(saved: &mut [u8], bytes: &[u8]) -> bool
+    requires { length saved.old ≡ S.Saved.LEN }
+    ensures updates { Updates (IsSaved S.is_valid S.state_bytes) S.fed saved.old bytes.now saved.new result }
+    ensures unchanged { IsFalse result → saved.new ≡ saved.old }
+{
+    S::append_saved(saved, bytes) || update_loaded::<S>(saved, bytes)
+}
+
+// The same by a loaded state. Not inlined, so that short pieces take none of its stack.
+#[inline(never)]
+fn update_loaded<S: Resumable>(saved: &mut [u8], bytes: &[u8]) -> bool
+    requires { length saved.old ≡ S.Saved.LEN }
+    ensures updates { Updates (IsSaved S.is_valid S.state_bytes) S.fed saved.old bytes.now saved.new result }
+    ensures unchanged { IsFalse result → saved.new ≡ saved.old }
+{
+    let Some(array) = S::Saved::from_slice(saved) else {
+        return false;
+    };
+    match S::load(&array) {
         Ok(loaded) => {
             let mut next = loaded;
             next.update(bytes);
-            *state = next.save();
+            let after = next.save();
+            saved.copy_from_slice(after.as_bytes());
             true
         }
         Err(_) => false,
     }
 }
 
-/// Writes the digest or the tag. False exactly if no state is saved as these bytes, and then nothing is
-/// written.
-pub(crate) fn final_state<S: Resumable>(
-    state: &S::Saved,
-    output: &mut <S::Hash as OutputSizeUser>::Output,
-) -> bool
-    ensures state { Finalizes (IsSaved S.is_valid S.state_bytes) S.finish (S.saved_bytes state.now)
-        (S.Hash.bytes_of output.old) (S.Hash.bytes_of output.new) result }
-    ensures message { (o : S.Origin) (message : List ℕ)
-        → IsSaved S.is_valid S.state_bytes (S.fed (S.new_state o) message) (S.saved_bytes state.now)
-        → IsTrue result × (S.Hash.bytes_of output.new ≡ S.whole o message) }
+// Writes the digest or the tag of a kept state to its place, if that has its size. False too if no state
+// is saved in these bytes, and then nothing is written.
+pub(crate) fn final_kept<S: Resumable>(state: &[u8], output: &mut [u8]) -> bool
+    requires room { S.Saved.LEN < length state.now }
+    ensures { WithOutput (IsSaved S.is_valid S.state_bytes) S.new_state S.fed S.finish S.whole
+        (saved_in S.Saved.LEN state.now)
+        (λ out. Writes (length output.old ≡ S.Hash.OUTPUT_SIZE) out output.old output.new result)
+        (Refuses output.old output.new result) }
 {
-    match S::load(state) {
-        Ok(loaded) => {
-            *output = loaded.finalize();
-            true
-        }
+    final_saved::<S>(&state[1..1 + <S::Saved as ByteArray>::LEN], output)
+}
+
+// Writes the digest or the tag of a saved state to its place, if that has its size.
+fn final_saved<S: Resumable>(saved: &[u8], output: &mut [u8]) -> bool
+    requires { length saved.now ≡ S.Saved.LEN }
+    ensures { WithOutput (IsSaved S.is_valid S.state_bytes) S.new_state S.fed S.finish S.whole saved.now
+        (λ out. Writes (length output.old ≡ S.Hash.OUTPUT_SIZE) out output.old output.new result)
+        (Refuses output.old output.new result) }
+{
+    let Some(array) = S::Saved::from_slice(saved) else {
+        return false;
+    };
+    match S::load(&array) {
+        Ok(loaded) => write(S::Hash::output_bytes(&loaded.finalize()), output),
+        Err(_) => false,
+    }
+}
+
+// Whether these bytes are the digest or the tag of a kept state, all of them. False too if no state is
+// saved there.
+pub(crate) fn verify_kept<S: Resumable>(state: &[u8], output: &[u8]) -> bool
+    requires room { S.Saved.LEN < length state.now }
+    ensures { WithOutput (IsSaved S.is_valid S.state_bytes) S.new_state S.fed S.finish S.whole
+        (saved_in S.Saved.LEN state.now) (λ out. IsTrue result ↔ (output.now ≡ out)) (IsFalse result) }
+{
+    verify_saved::<S>(&state[1..1 + <S::Saved as ByteArray>::LEN], output)
+}
+
+// Whether these bytes are the digest or the tag of a saved state, all of them.
+fn verify_saved<S: Resumable>(saved: &[u8], output: &[u8]) -> bool
+    requires { length saved.now ≡ S.Saved.LEN }
+    ensures { WithOutput (IsSaved S.is_valid S.state_bytes) S.new_state S.fed S.finish S.whole
+        saved.now (λ out. IsTrue result ↔ (output.now ≡ out)) (IsFalse result) }
+{
+    let Some(array) = S::Saved::from_slice(saved) else {
+        return false;
+    };
+    match S::load(&array) {
+        Ok(loaded) => all_equal(S::Hash::output_bytes(&loaded.finalize()), output),
         Err(_) => false,
     }
 }

@@ -1,23 +1,13 @@
-ghost use Rattle.std.specs.Prelude.{◌≤◌, ◌<◌};
+ghost use Rattle.std.specs.Prelude.{◌≤◌, ◌<◌, length};
 
-use crate::each::{
-    nattizhu_hmac_ripemd160_each_nonnull, nattizhu_ripemd128_each_nonnull,
-    nattizhu_ripemd160_each_nonnull, nattizhu_ripemd256_each_nonnull,
-    nattizhu_ripemd320_each_nonnull,
-};
-use crate::streams::{
-    nattizhu_ripemd160_final, nattizhu_ripemd160_init, nattizhu_ripemd160_update_nonnull,
-};
+use crate::each::{nattizhu_each_nonnull, nattizhu_hmac_each_nonnull, nattizhu_list_nonnull};
+use crate::keys::{nattizhu_pbkdf2_list_nonnull, nattizhu_pbkdf2_nonnull};
+use crate::streams::{nattizhu_final_nonnull, nattizhu_init, nattizhu_update_nonnull};
 use crate::tags::{
-    nattizhu_hmac_ripemd160_final, nattizhu_hmac_ripemd160_init_nonnull,
-    nattizhu_hmac_ripemd160_nonnull, nattizhu_hmac_ripemd160_update_nonnull,
-    nattizhu_hmac_ripemd160_verify_nonnull, nattizhu_hmac_ripemd160_verify_text_nonnull,
+    nattizhu_hmac_final_nonnull, nattizhu_hmac_init_nonnull, nattizhu_hmac_nonnull,
+    nattizhu_hmac_update_nonnull, nattizhu_hmac_verify_nonnull, nattizhu_hmac_verify_text_nonnull,
 };
-use crate::{
-    nattizhu_ripemd128_nonnull, nattizhu_ripemd160_nonnull, nattizhu_ripemd256_nonnull,
-    nattizhu_ripemd320_nonnull,
-};
-use ripemd::{Digest, Ripemd128, Ripemd160, Ripemd256, Ripemd320};
+use crate::{nattizhu_digest_nonnull, nattizhu_digest_size};
 
 // The authors' digests of "abc".
 const BY_128: [u8; 16] = [
@@ -40,20 +30,60 @@ const BY_320: [u8; 40] = [
     0xa9, 0x42, 0xd6, 0x4c, 0xdb, 0xc4, 0x68, 0x2d,
 ];
 
+// Whether this is the digest of "abc", whole and in pieces, and nothing is written to a place that is one
+// byte longer or shorter.
+fn is_of_abc(variant: u32, wanted: &[u8]) -> bool
+    requires some { 0 < length wanted.now }
+    requires most { length wanted.now ≤ 40 }
+{
+    let mut digest = [7; 41];
+    let mut state = [7; 113];
+    let size = wanted.len();
+    let whole = nattizhu_digest_nonnull(variant, b"abc", &mut digest[..size])
+        && &digest[..size] == wanted;
+    digest = [7; 41];
+    let pieces = nattizhu_init(variant, &mut state)
+        && nattizhu_update_nonnull(&mut state, b"a")
+        && nattizhu_update_nonnull(&mut state, b"bc")
+        && nattizhu_final_nonnull(&state, &mut digest[..size])
+        && &digest[..size] == wanted;
+    digest = [7; 41];
+    let refused = !nattizhu_digest_nonnull(variant, b"abc", &mut digest[..size + 1])
+        && !nattizhu_digest_nonnull(variant, b"abc", &mut digest[1..size])
+        && !nattizhu_final_nonnull(&state, &mut digest[..size + 1])
+        && !nattizhu_final_nonnull(&state, &mut digest[1..size]);
+    whole && pieces && refused && digest == [7; 41] && nattizhu_digest_size(variant) == size
+}
+
 #[test]
 fn one_message(rt: HostRuntime) {
-    let mut by_128 = [0; 16];
-    nattizhu_ripemd128_nonnull(b"abc", &mut by_128);
-    assert!(rt; by_128 == BY_128);
-    let mut by_160 = [0; 20];
-    nattizhu_ripemd160_nonnull(b"abc", &mut by_160);
-    assert!(rt; by_160 == BY_160);
-    let mut by_256 = [0; 32];
-    nattizhu_ripemd256_nonnull(b"abc", &mut by_256);
-    assert!(rt; by_256 == BY_256);
-    let mut by_320 = [0; 40];
-    nattizhu_ripemd320_nonnull(b"abc", &mut by_320);
-    assert!(rt; by_320 == BY_320);
+    assert!(rt; is_of_abc(128, &BY_128));
+    assert!(rt; is_of_abc(160, &BY_160));
+    assert!(rt; is_of_abc(256, &BY_256));
+    assert!(rt; is_of_abc(320, &BY_320));
+}
+
+// Where there is no such variant, no call writes anything.
+#[test]
+fn no_variant(rt: HostRuntime) {
+    for variant in [0, 16, 20, 129, u32::MAX] {
+        let mut out = [7; 20];
+        let mut state = [7; 113];
+        let mut hmac_state = [7; 225];
+        assert!(rt; nattizhu_digest_size(variant) == 0);
+        assert!(rt; !nattizhu_digest_nonnull(variant, b"abc", &mut out));
+        assert!(rt; !nattizhu_digest_nonnull(variant, b"abc", &mut []));
+        assert!(rt; !nattizhu_each_nonnull(variant, &[], 0, &mut []));
+        assert!(rt; !nattizhu_list_nonnull(variant, &[], &mut []));
+        assert!(rt; !nattizhu_init(variant, &mut state));
+        assert!(rt; !nattizhu_hmac_nonnull(variant, &KEY, b"Hi There", &mut out));
+        assert!(rt; !nattizhu_hmac_verify_text_nonnull(variant, &KEY, b"Hi There", &TAG));
+        assert!(rt; !nattizhu_hmac_init_nonnull(variant, &mut hmac_state, &KEY));
+        assert!(rt; !nattizhu_pbkdf2_nonnull(variant, b"password", b"salt", 1, &mut out));
+        assert!(rt; out == [7; 20]);
+        assert!(rt; state == [7; 113]);
+        assert!(rt; hmac_state == [7; 225]);
+    }
 }
 
 // Bytes that differ from record to record.
@@ -66,82 +96,43 @@ fn bytes() -> [u8; 9_030] {
 }
 
 // Whether each record has the digest that it has alone.
-fn have_digests<D: Digest>(records: &[u8], size: usize, digests: &[D::Output]) -> bool
+fn have_digests(variant: u32, records: &[u8], size: usize, digests: &[u8]) -> bool
     requires { 0 < size }
 {
-    let records = records.chunks(size);
-    if records.len() != digests.len() {
+    let width = nattizhu_digest_size(variant);
+    if width == 0 {
         return false;
     }
-    for (record, digest) in records.zip(digests) {
-        let wanted = D::digest(record);
-        if D::output_bytes(digest) != D::output_bytes(&wanted) {
+    let mut wanted = [0; 40];
+    for (record, digest) in records.chunks(size).zip(digests.chunks(width)) {
+        if !nattizhu_digest_nonnull(variant, record, &mut wanted[..width])
+            || &wanted[..width] != digest
+        {
             return false;
         }
     }
     true
 }
 
-// Whether this is so of up to 300 records, by RIPEMD-128.
-fn agree_by_128(records: &[u8], size: usize, count: usize) -> bool
-    requires size { 0 < size }
-    requires count { count ≤ 300 }
-{
-    let mut digests = [[0; 16]; 300];
-    let digests = &mut digests[..count];
-    nattizhu_ripemd128_each_nonnull(records, size, digests)
-        && have_digests::<Ripemd128>(records, size, digests)
-}
-
-// The same by RIPEMD-160.
-fn agree_by_160(records: &[u8], size: usize, count: usize) -> bool
-    requires size { 0 < size }
-    requires count { count ≤ 300 }
-{
-    let mut digests = [[0; 20]; 300];
-    let digests = &mut digests[..count];
-    nattizhu_ripemd160_each_nonnull(records, size, digests)
-        && have_digests::<Ripemd160>(records, size, digests)
-}
-
-// The same by RIPEMD-256.
-fn agree_by_256(records: &[u8], size: usize, count: usize) -> bool
-    requires size { 0 < size }
-    requires count { count ≤ 300 }
-{
-    let mut digests = [[0; 32]; 300];
-    let digests = &mut digests[..count];
-    nattizhu_ripemd256_each_nonnull(records, size, digests)
-        && have_digests::<Ripemd256>(records, size, digests)
-}
-
-// The same by RIPEMD-320.
-fn agree_by_320(records: &[u8], size: usize, count: usize) -> bool
-    requires size { 0 < size }
-    requires count { count ≤ 300 }
-{
-    let mut digests = [[0; 40]; 300];
-    let digests = &mut digests[..count];
-    nattizhu_ripemd320_each_nonnull(records, size, digests)
-        && have_digests::<Ripemd320>(records, size, digests)
-}
-
-// Whether this is so by each hasher, of so many records of so many bytes.
+// Whether this is so of so many records of so many bytes, by each variant.
 fn all_agree(count: usize, size: usize) -> bool
     requires size { 0 < size }
     requires count { count ≤ 300 }
 {
     let bytes = bytes();
-    let Some(len) = count.checked_mul(size) else {
+    let mut digests = [0; 12_000];
+    let Some(records) = size.checked_mul(count).and_then(|len| bytes.get(..len)) else {
         return false;
     };
-    let Some(records) = bytes.get(..len) else {
-        return false;
-    };
-    agree_by_128(records, size, count)
-        && agree_by_160(records, size, count)
-        && agree_by_256(records, size, count)
-        && agree_by_320(records, size, count)
+    for variant in [128, 160, 256, 320] {
+        let digests = &mut digests[..count * nattizhu_digest_size(variant)];
+        if !nattizhu_each_nonnull(variant, records, size, digests)
+            || !have_digests(variant, records, size, digests)
+        {
+            return false;
+        }
+    }
+    true
 }
 
 // Many records of three bytes; records longer than a block, as many as a group has, and one more.
@@ -152,56 +143,57 @@ fn many_records(rt: HostRuntime) {
     assert!(rt; all_agree(65, 70));
 }
 
-// Records of no bytes: each digest is that of the empty message, as published.
+// The authors' digests of no bytes: of records of no bytes, and of a list.
 const EMPTY_128: [u8; 16] = [
     0xcd, 0xf2, 0x62, 0x13, 0xa1, 0x50, 0xdc, 0x3e, 0xcb, 0x61, 0x0f, 0x18, 0xf6, 0xb3, 0x8b, 0x46,
 ];
 
 #[test]
-fn empty_records(rt: HostRuntime) {
-    let mut digests = [[0; 16]; 9];
-    assert!(rt; nattizhu_ripemd128_each_nonnull(&[], 0, &mut digests));
-    assert!(rt; digests == [EMPTY_128; 9]);
-    assert!(rt; nattizhu_ripemd128_each_nonnull(&[], 7, &mut []));
+fn empty_records_and_lists(rt: HostRuntime) {
+    let mut digests = [0; 32];
+    assert!(rt; nattizhu_each_nonnull(128, &[], 0, &mut digests));
+    assert!(rt; &digests[..16] == &EMPTY_128[..]);
+    assert!(rt; &digests[16..] == &EMPTY_128[..]);
+    assert!(rt; nattizhu_each_nonnull(128, &[], 7, &mut []));
+    assert!(rt; nattizhu_list_nonnull(128, &[b"abc", b""], &mut digests));
+    assert!(rt; &digests[..16] == &BY_128[..]);
+    assert!(rt; &digests[16..] == &EMPTY_128[..]);
+    assert!(rt; nattizhu_list_nonnull(128, &[], &mut []));
 }
 
 // Records that are not as many as the places, or whose length is no number of 64 bits: nothing is
 // written.
 #[test]
 fn wrong_lengths(rt: HostRuntime) {
-    let mut by_128 = [[7; 16]; 2];
-    assert!(rt; !nattizhu_ripemd128_each_nonnull(b"abcde", 3, &mut by_128));
-    assert!(rt; !nattizhu_ripemd128_each_nonnull(&[], 1 << 63, &mut by_128));
-    assert!(rt; by_128 == [[7; 16]; 2]);
-    let mut by_160 = [[7; 20]; 2];
-    assert!(rt; !nattizhu_ripemd160_each_nonnull(b"abcdefg", 3, &mut by_160));
-    assert!(rt; by_160 == [[7; 20]; 2]);
-    let mut by_256 = [[7; 32]; 2];
-    assert!(rt; !nattizhu_ripemd256_each_nonnull(b"abc", 3, &mut by_256));
-    assert!(rt; by_256 == [[7; 32]; 2]);
-    let mut by_320 = [[7; 40]; 2];
-    assert!(rt; !nattizhu_ripemd320_each_nonnull(b"abcdef", 0, &mut by_320));
-    assert!(rt; by_320 == [[7; 40]; 2]);
+    let mut digests = [7; 40];
+    assert!(rt; !nattizhu_each_nonnull(160, b"abcde", 3, &mut digests));
+    assert!(rt; !nattizhu_each_nonnull(160, b"abcdefg", 3, &mut digests));
+    assert!(rt; !nattizhu_each_nonnull(160, b"abcdef", 3, &mut digests[1..]));
+    assert!(rt; !nattizhu_each_nonnull(160, &[], 1 << 63, &mut digests));
+    assert!(rt; !nattizhu_each_nonnull(160, b"abcdef", 0, &mut digests));
+    assert!(rt; !nattizhu_list_nonnull(160, &[b"abc"], &mut digests));
+    assert!(rt; !nattizhu_list_nonnull(160, &[b"abc", b""], &mut digests[1..]));
+    assert!(rt; digests == [7; 40]);
 }
 
-// "abc" in two pieces, and then a state with a byte behind its tail that is not zero: nothing is
+// A state with a byte behind its tail that is not zero, one of another kind, and one of zeros: nothing is
 // written.
 #[test]
-fn pieces(rt: HostRuntime) {
-    let mut state = [7; 92];
-    nattizhu_ripemd160_init(&mut state);
-    assert!(rt; nattizhu_ripemd160_update_nonnull(&mut state, b"a"));
-    assert!(rt; nattizhu_ripemd160_update_nonnull(&mut state, b"bc"));
+fn no_states(rt: HostRuntime) {
     let mut digest = [7; 20];
-    assert!(rt; nattizhu_ripemd160_final(&state, &mut digest));
-    assert!(rt; digest == BY_160);
-    state[91] = 1;
+    let mut state = [7; 113];
+    assert!(rt; nattizhu_init(160, &mut state));
+    state[92] = 1;
     let forged = state;
-    digest = [7; 20];
-    assert!(rt; !nattizhu_ripemd160_final(&state, &mut digest));
-    assert!(rt; digest == [7; 20]);
-    assert!(rt; !nattizhu_ripemd160_update_nonnull(&mut state, b"d"));
+    assert!(rt; !nattizhu_final_nonnull(&state, &mut digest));
+    assert!(rt; !nattizhu_update_nonnull(&mut state, b"d"));
     assert!(rt; state == forged);
+    state[0] = 148;
+    assert!(rt; !nattizhu_final_nonnull(&state, &mut digest));
+    state = [0; 113];
+    assert!(rt; !nattizhu_update_nonnull(&mut state, b"d"));
+    assert!(rt; state == [0; 113]);
+    assert!(rt; digest == [7; 20]);
 }
 
 // The tag of "Hi There" under 20 bytes 0x0b, of RFC 2286.
@@ -214,44 +206,82 @@ const KEY: [u8; 20] = [0x0b; 20];
 
 #[test]
 fn tag_in_pieces(rt: HostRuntime) {
-    let mut state = [7; 184];
-    nattizhu_hmac_ripemd160_init_nonnull(&mut state, &KEY);
-    assert!(rt; nattizhu_hmac_ripemd160_update_nonnull(&mut state, b"Hi "));
-    assert!(rt; nattizhu_hmac_ripemd160_update_nonnull(&mut state, b"There"));
+    let mut state = [7; 225];
+    assert!(rt; nattizhu_hmac_init_nonnull(160, &mut state, &KEY));
+    assert!(rt; nattizhu_hmac_update_nonnull(&mut state, b"Hi "));
+    assert!(rt; nattizhu_hmac_update_nonnull(&mut state, b"There"));
     let mut tag = [7; 20];
-    assert!(rt; nattizhu_hmac_ripemd160_final(&state, &mut tag));
+    assert!(rt; nattizhu_hmac_final_nonnull(&state, &mut tag));
     assert!(rt; tag == TAG);
-    assert!(rt; nattizhu_hmac_ripemd160_verify_nonnull(&state, &TAG));
-    assert!(rt; !nattizhu_hmac_ripemd160_verify_nonnull(&state, &TAG[..19]));
-    state[183] = 1;
+    assert!(rt; nattizhu_hmac_verify_nonnull(&state, &TAG));
+    assert!(rt; !nattizhu_hmac_verify_nonnull(&state, &TAG[..19]));
+    state[184] = 1;
     tag = [7; 20];
-    assert!(rt; !nattizhu_hmac_ripemd160_final(&state, &mut tag));
+    assert!(rt; !nattizhu_hmac_final_nonnull(&state, &mut tag));
     assert!(rt; tag == [7; 20]);
-    assert!(rt; !nattizhu_hmac_ripemd160_update_nonnull(&mut state, b"!"));
-    assert!(rt; !nattizhu_hmac_ripemd160_verify_nonnull(&state, &TAG));
+    assert!(rt; !nattizhu_hmac_update_nonnull(&mut state, b"!"));
+    assert!(rt; !nattizhu_hmac_verify_nonnull(&state, &TAG));
+    state[184] = 0;
+    state[0] = 20;
+    assert!(rt; !nattizhu_hmac_verify_nonnull(&state, &TAG));
 }
 
 #[test]
 fn tag_of_a_text(rt: HostRuntime) {
     let mut tag = [7; 20];
-    nattizhu_hmac_ripemd160_nonnull(&KEY, b"Hi There", &mut tag);
+    assert!(rt; nattizhu_hmac_nonnull(160, &KEY, b"Hi There", &mut tag));
     assert!(rt; tag == TAG);
-    assert!(rt; nattizhu_hmac_ripemd160_verify_text_nonnull(&KEY, b"Hi There", &TAG));
-    assert!(rt; !nattizhu_hmac_ripemd160_verify_text_nonnull(&KEY, b"Hi there", &TAG));
-    assert!(rt; !nattizhu_hmac_ripemd160_verify_text_nonnull(&KEY, b"Hi There", &TAG[..10]));
+    assert!(rt; nattizhu_hmac_verify_text_nonnull(160, &KEY, b"Hi There", &TAG));
+    assert!(rt; !nattizhu_hmac_verify_text_nonnull(160, &KEY, b"Hi there", &TAG));
+    assert!(rt; !nattizhu_hmac_verify_text_nonnull(160, &KEY, b"Hi There", &TAG[..10]));
+    assert!(rt; !nattizhu_hmac_verify_text_nonnull(128, &KEY, b"Hi There", &TAG));
     tag[19] = 0;
-    assert!(rt; !nattizhu_hmac_ripemd160_verify_text_nonnull(&KEY, b"Hi There", &tag));
+    assert!(rt; !nattizhu_hmac_verify_text_nonnull(160, &KEY, b"Hi There", &tag));
 }
 
 // Two records, and then one byte too few for them.
 #[test]
 fn tags_of_records(rt: HostRuntime) {
     let mut other = [0; 20];
-    nattizhu_hmac_ripemd160_nonnull(&KEY, b"Hi Where", &mut other);
-    let mut tags = [[7; 20]; 2];
-    assert!(rt; nattizhu_hmac_ripemd160_each_nonnull(&KEY, b"Hi WhereHi There", 8, &mut tags));
-    assert!(rt; tags == [other, TAG]);
-    tags = [[7; 20]; 2];
-    assert!(rt; !nattizhu_hmac_ripemd160_each_nonnull(&KEY, b"Hi WhereHi Ther", 8, &mut tags));
-    assert!(rt; tags == [[7; 20]; 2]);
+    assert!(rt; nattizhu_hmac_nonnull(160, &KEY, b"Hi Where", &mut other));
+    let mut tags = [7; 40];
+    assert!(rt; nattizhu_hmac_each_nonnull(160, &KEY, b"Hi WhereHi There", 8, &mut tags));
+    assert!(rt; &tags[..20] == &other[..]);
+    assert!(rt; &tags[20..] == &TAG[..]);
+    tags = [7; 40];
+    assert!(rt; !nattizhu_hmac_each_nonnull(160, &KEY, b"Hi WhereHi Ther", 8, &mut tags));
+    assert!(rt; tags == [7; 40]);
+}
+
+// The key that OpenSSL derives by one round, alone and in a list; and no key of no rounds.
+#[test]
+fn keys(rt: HostRuntime) {
+    const DERIVED: [u8; 20] = [
+        0xb7, 0x25, 0x25, 0x8b, 0x12, 0x5e, 0x0b, 0xac, 0xb0, 0xe2, 0x30, 0x7e, 0x34, 0xfe, 0xb1,
+        0x6a, 0x4d, 0x0d, 0x6a, 0xed,
+    ];
+    let mut key = [7; 20];
+    assert!(rt; nattizhu_pbkdf2_nonnull(160, b"password", b"salt", 1, &mut key));
+    assert!(rt; key == DERIVED);
+    let mut keys = [7; 40];
+    assert!(rt;
+        nattizhu_pbkdf2_list_nonnull(
+            160,
+            &[b"a", b"password"],
+            &[b"b", b"salt"],
+            1,
+            20,
+            &mut keys
+        )
+    );
+    assert!(rt; &keys[20..] == &DERIVED[..]);
+    keys = [7; 40];
+    assert!(rt;
+        !nattizhu_pbkdf2_list_nonnull(160, &[b"a", b"password"], &[b"b"], 1, 20, &mut keys)
+    );
+    assert!(rt; !nattizhu_pbkdf2_list_nonnull(160, &[b"a", b"b"], &[b"c", b"d"], 0, 20, &mut keys));
+    assert!(rt;
+        !nattizhu_pbkdf2_list_nonnull(160, &[b"a", b"b"], &[b"c", b"d"], 1, 20, &mut keys[1..])
+    );
+    assert!(rt; keys == [7; 40]);
 }

@@ -200,8 +200,6 @@ impl<F: ResumableFunction> Hmac<BlockHasher<F>> {
 impl<F: ResumableFunction> Resumable for Hmac<BlockHasher<F>> {
     type Saved = F::SavedHmac;
 
-    ghost saved_bytes = { F.SavedHmac.bytes };
-
     ghost is_valid = { IsKeyedState F.are_words };
 
     ghost state_bytes = { hmac_bytes F.output };
@@ -232,8 +230,8 @@ impl<F: ResumableFunction> Resumable for Hmac<BlockHasher<F>> {
     ghost injective = { hmac_bytes_injective F.injective_output };
 }
 
-// Whether bytes are equal. Where both are as many, it compares all of them, whatever they are.
-fn all_equal(a: &[u8], b: &[u8]) -> bool
+/// Whether bytes are equal. Where both are as many, it compares all of them, whatever they are.
+pub fn all_equal(a: &[u8], b: &[u8]) -> bool
     ensures { IsTrue result ↔ (a.now ≡ b.now) }
 {
     if a.len() != b.len() {

@@ -1,10 +1,15 @@
-use Rattle.std.proofs.Common.{◌≡◌, ℕ, List, [], ◌∷◌, ◌++◌, length, replicate, drop, get_or, refl, sym, ap, ◌∙◌, arith, rules}
+use Rattle.std.proofs.Common.{◌≡◌, ℕ, List, [], ◌∷◌, ◌++◌, codes, length, replicate, drop, get_or, refl, sym, ap, subst, ◌∙◌, arith, rules}
 use Rattle.std.proofs.Math.Seq.{drop-append_seam}
 use Rattle.ripemd.specs.Standard.Words.{word_bytes}
-use Rattle.ripemd.specs.Standard.Compression.{ripemd160, registers_after, lines_after, compress}
-use Rattle.ripemd.specs.Standard.Hashing.{blocks, partial_block}
-use Rattle.ripemd.specs.States.{HashState, IsState, fed, output_and_count, core_and_tail}
-use Rattle.ripemd_block.specs.Laws.Saving.{word_bytes_output, length-output_and_count, core_and_tail-split, tail_bytes}
+use Rattle.ripemd.specs.Standard.Compression.{ripemd128, ripemd160, ripemd256, ripemd320, registers_after, lines_after, compress}
+use Rattle.ripemd.specs.Standard.Hashing.{with_padding, blocks, partial_block, hash}
+use Rattle.ripemd.specs.States.{HashState, IsState, new_state, fed, output_and_count, core_and_tail}
+use Rattle.ripemd_block.specs.Laws.Saving.{word_bytes_output, length-output_and_count, length-core_and_tail, core_and_tail-split, tail_bytes}
+use Rattle.ripemd_mac.specs.Keyed.{KeyedState, key_block, inner_message, outer_message, hmac, keyed_state, fed_text}
+use Rattle.ripemd_mac.specs.Worked.{saved_inner, saved_outer}
+use Rattle.ripemd_c.specs.SavedStates.{IsSavedState, IsSavedHmac}
+use Rattle.ripemd_c.specs.Worked.{forged, key, abc}
+use Rattle.ripemd_c.proofs.Working.{written, refused, not_answered}
 use Rattle.ripemd_c.proofs.facts.worked_states.Goals as goal
 
 -- the hash state
@@ -22,22 +27,97 @@ is_state = record {
   tail = record { short = omega arith; bytes = search rules };
 }
 
--- a tail of one byte has zero bytes behind it
-zero_behind : (tail : List ℕ) → tail_bytes tail ≡ 1 ∷ 0x62 ∷ replicate 61 0 ++ 1 ∷ [] → ⊥
-zero_behind [] same = let size : 0 ≡ 1 = ap (λ (bs : List ℕ). get_or bs 0 0) same in omega (arith, size)
-zero_behind (x ∷ []) same = let last : 0 ≡ 1 = ap (λ (bs : List ℕ). get_or bs 63 0) same in omega (arith, last)
-zero_behind (x ∷ y ∷ rest) same =
-    let size : length (x ∷ y ∷ rest) ≡ 1 = ap (λ (bs : List ℕ). get_or bs 0 0) same in
-    omega (arith, size)
+-- the forged bytes have a tail of 255
+not_state : (h : HashState) → ¬ IsSavedState ripemd160 h forged
+not_state h is =
+    let core : length (output_and_count word_bytes h) ≡ 28 = length-output_and_count (word_bytes_output 5) h is.valid in
+    let tail : tail_bytes h.tail ≡ drop 28 forged =
+    sym (drop-append_seam (output_and_count word_bytes h) (tail_bytes h.tail))
+    ∙ rw core (ap (drop 28) (sym (core_and_tail-split word_bytes h) ∙ is.saved)) in
+    let size : length h.tail ≡ 255 = ap (λ (bs : List ℕ). get_or bs 0 0) tail in
+    omega (arith, size, is.valid.tail.short)
 
-pub returns : goal.returns
-unfolding registers_after lines_after compress blocks partial_block fed output_and_count core_and_tail
-returns c = record {
-  saved = record { valid = is_state; saved = refl };
-  not_zero = λ h is_saved.
-      let core : length (output_and_count word_bytes h) ≡ 28 = length-output_and_count (word_bytes_output 5) h is_saved.valid in
-      let both = sym (core_and_tail-split word_bytes h) ∙ is_saved.saved in
-      zero_behind h.tail
-      (sym (drop-append_seam (output_and_count word_bytes h) (tail_bytes h.tail))
-      ∙ rw core (ap (drop 28) both));
+no_outer : (s : KeyedState) → ¬ IsSavedHmac ripemd160 s (saved_inner ++ forged)
+no_outer s is =
+    let inner : length (core_and_tail word_bytes s.inner) ≡ 92 = length-core_and_tail (word_bytes_output 5) s.inner is.valid.inner in
+    not_state s.outer (record {
+      valid = is.valid.outer;
+      saved = sym (drop-append_seam (core_and_tail word_bytes s.inner) (core_and_tail word_bytes s.outer))
+          ∙ rw inner (ap (drop 92) is.saved);
+    })
+
+-- the HMAC state of the key
+abbrev start : KeyedState
+start = keyed_state ripemd160.start (compress ripemd160) word_bytes key
+
+pub returns-clause-states : goal.returns-clause-states
+unfolding registers_after lines_after compress with_padding blocks partial_block hash fed output_and_count core_and_tail
+returns-clause-states c = record {
+  finalized = λ new done does.
+      written refl refl (does.message tt (replicate 64 0x61 ++ 0x62 ∷ [])
+      (record { valid = is_state; saved = refl }));
+  short = λ new done does.
+      refused done (λ fits. absurd (omega (arith, fits))) (does.state after (record { valid = is_state; saved = refl }));
+  not_finalized = λ new done does. does.refused not_state;
+  other_kind = λ new done does. does;
+  not_updated = λ piece new done does.
+      let unfit = does.0.refused.1 not_state in (unfit, does.1.unchanged unfit);
+  of128 = λ any first next begun fed init update.
+      let call = rw init.marked at update in
+      let after = call.0.message (new_state ripemd128) [] init.saved in (
+        init.kept,
+        after.0,
+        λ new done does. written refl refl ((rw (call.1.mark ∙ init.marked) at does).message tt abc after.1),
+      );
+  of160 = λ any first next begun fed init update.
+      let call = rw init.marked at update in
+      let after = call.0.message (new_state ripemd160) [] init.saved in (
+        init.kept,
+        after.0,
+        λ new done does. written refl refl ((rw (call.1.mark ∙ init.marked) at does).message tt abc after.1),
+      );
+  of256 = λ any first next begun fed init update.
+      let call = rw init.marked at update in
+      let after = call.0.message (new_state ripemd256) [] init.saved in (
+        init.kept,
+        after.0,
+        λ new done does. written refl refl ((rw (call.1.mark ∙ init.marked) at does).message tt abc after.1),
+      );
+  of320 = λ any first next begun fed init update.
+      let call = rw init.marked at update in
+      let after = call.0.message (new_state ripemd320) [] init.saved in (
+        init.kept,
+        after.0,
+        λ new done does. written refl refl ((rw (call.1.mark ∙ init.marked) at does).message tt abc after.1),
+      );
+  behind = λ first next begun fed init update. (rw init.marked at update).1.behind ∙ init.zeros;
+  unknown = λ old new done does. does;
 }
+
+pub returns-clause-hmac_states : goal.returns-clause-hmac_states
+unfolding registers_after lines_after compress with_padding blocks hash key_block inner_message outer_message hmac
+returns-clause-hmac_states c =
+    let saved_for = c.saved_tag.ensures.saved in
+    let text : IsSavedHmac ripemd160 (fed_text (compress ripemd160) start (codes "Hi There")) (saved_inner ++ saved_outer) =
+    subst (λ s. IsSavedHmac ripemd160 s (saved_inner ++ saved_outer))
+    saved_for.stands.is (record { valid = saved_for.valid; saved = saved_for.saved }) in
+    record {
+      finalized = λ new done does. written refl refl (does.message key (codes "Hi There") text);
+      not_finalized = λ new done does. does.refused no_outer;
+      other_kind = λ answer does. does;
+      verified = λ answer does. (does.message key (codes "Hi There") text).1 refl;
+      wrong = λ answer does.
+          not_answered answer (λ same. omega (arith, ap (λ (bytes : List ℕ). get_or bytes 0 0) same))
+          (does.message key (codes "Hi There") text).0;
+      not_verified = λ some answer does. does.refused no_outer;
+      not_updated = λ piece new done does.
+          let unfit = does.0.refused.1 no_outer in (unfit, does.1.unchanged unfit);
+      tagged = λ any first next begun fed init update.
+          let call = rw init.marked at update in
+          let after = call.0.message start [] init.saved in (
+            init.kept,
+            after.0,
+            λ new done does. written refl refl ((rw (call.1.mark ∙ init.marked) at does).message key (codes "Hi There") after.1),
+          );
+      unknown = λ old new done does. does;
+    }

@@ -1,0 +1,7 @@
+use Rattle.ripemd_c.proofs.SavedStates.{appended}
+use Rattle.ripemd_c.proofs.states.update_saved.Goals as goal
+
+pub returns-then-append_saved-clause-updates : goal.returns-then-append_saved-clause-updates
+returns-then-append_saved-clause-updates g c =
+    appended g.met.S.Resumable.injective g.met.S.Incremental.fed_twice c.append_saved.result c.if-append_saved.true
+    (c.append_saved.ensures.appended c.if-append_saved.true)

@@ -1,4 +1,0 @@
-use Rattle.ripemd_c.proofs.streams.nattizhu_ripemd160_final.Goals as goal
-
-pub returns-clause-message : goal.returns-clause-message
-returns-clause-message c = c.final_state.ensures.message tt
