@@ -50,9 +50,10 @@ static size_t next_group(nattizhu_message group[GROUP], const nattizhu_message *
   return n;
 }
 
-/* Whether a length is so many times a size, which is not 0. */
+/* Whether a length is so many times a size. */
 static bool is_product(size_t length, size_t count, size_t size) {
-  return length / size == count && length % size == 0;
+  size_t product;
+  return !__builtin_mul_overflow(count, size, &product) && length == product;
 }
 
 const char *nattizhu_version(void) { return NATTIZHU_VERSION; }
@@ -74,8 +75,13 @@ bool nattizhu_each(nattizhu_variant variant, const uint8_t *records, size_t leng
 
 bool nattizhu_list(nattizhu_variant variant, const nattizhu_message *messages, size_t count,
                    uint8_t *digests, size_t digests_length) {
-  const size_t size = nattizhu_digest_size(variant);
   nattizhu_message group[GROUP];
+  size_t size;
+  if (count <= GROUP) { /* as for more, and faster for a few */
+    next_group(group, messages, 0, count);
+    return nattizhu_list_nonnull(variant, group, count, place(digests), digests_length);
+  }
+  size = nattizhu_digest_size(variant);
   if (size == 0 || !is_product(digests_length, count, size))
     return false;
   for (size_t at = 0, n; at < count; at += n) {
@@ -168,7 +174,7 @@ bool nattizhu_pbkdf2_list(nattizhu_variant variant, const nattizhu_message *pass
                           size_t size, uint8_t *keys, size_t keys_length) {
   nattizhu_message password_group[GROUP], salt_group[GROUP];
   size_t at = 0, n;
-  if (salt_count != count || (size ? !is_product(keys_length, count, size) : keys_length != 0))
+  if (salt_count != count || !is_product(keys_length, count, size))
     return false;
   do {
     n = next_group(password_group, passwords, at, count);

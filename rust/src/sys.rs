@@ -186,16 +186,23 @@ fn sizes_as_the_library_says() {
 fn has_v3() -> bool {
     #[cfg(feature = "std")]
     {
-        // What the level has beyond x86-64-v2. For MOVBE, bit 22 of the features that CPUID gives, the
-        // standard library of Rust 1.63 has no name.
-        std::is_x86_feature_detected!("avx2")
-            && std::is_x86_feature_detected!("bmi1")
-            && std::is_x86_feature_detected!("bmi2")
-            && std::is_x86_feature_detected!("f16c")
-            && std::is_x86_feature_detected!("fma")
-            && std::is_x86_feature_detected!("lzcnt")
-            // SAFETY: every x86-64 processor has CPUID, with this leaf.
-            && unsafe { core::arch::x86_64::__cpuid(1) }.ecx & (1 << 22) != 0
+        use core::sync::atomic::{AtomicU8, Ordering::Relaxed};
+        // 1 if it has not, 2 if it has, and 0 before it was asked: in a virtual machine CPUID is slow.
+        static FOUND: AtomicU8 = AtomicU8::new(0);
+        if FOUND.load(Relaxed) == 0 {
+            // What the level has beyond x86-64-v2. For MOVBE, bit 22 of the features that CPUID gives,
+            // the standard library of Rust 1.63 has no name.
+            let all = std::is_x86_feature_detected!("avx2")
+                && std::is_x86_feature_detected!("bmi1")
+                && std::is_x86_feature_detected!("bmi2")
+                && std::is_x86_feature_detected!("f16c")
+                && std::is_x86_feature_detected!("fma")
+                && std::is_x86_feature_detected!("lzcnt")
+                // SAFETY: every x86-64 processor has CPUID, with this leaf.
+                && unsafe { core::arch::x86_64::__cpuid(1) }.ecx & (1 << 22) != 0;
+            FOUND.store(1 + u8::from(all), Relaxed);
+        }
+        FOUND.load(Relaxed) == 2
     }
     #[cfg(not(feature = "std"))]
     false

@@ -1,5 +1,3 @@
--- Outputs written one after another.
-mod Placing
 -- Saved bytes tell their state.
 pub mod SavedStates
 -- What calls do with some values.

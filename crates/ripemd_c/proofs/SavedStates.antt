@@ -1,12 +1,7 @@
 -- Saved bytes tell their state: what is loaded is what was saved, and what follows of it is saved again.
-use Rattle.std.proofs.Common.{◌≡◌, ◌↔◌, ℕ, zero, suc, ◌+◌, ◌-◌, ◌<◌, arith, rules, refl, sym, ap, subst, ◌∙◌}
-use Rattle.std.proofs.Common.{List, [], ◌∷◌, ◌++◌, length, drop, replicate, slice_set}
-use Rattle.std.proofs.Common.{IsTrue, IsFalse, Bool, true, false}
-use Rattle.std.proofs.Math.Seq.{drop-append_seam}
-use Rattle.std.proofs.lemmas.List.{drop-replicate}
-use borrow.Rule.Slice.PartMut.{put_mid}
+use Rattle.std.proofs.Common.{◌≡◌, ◌↔◌, ℕ, List, ◌++◌, IsTrue, IsFalse, Bool, true, false, rules, refl, sym, ap, subst, ◌∙◌}
 use Rattle.ripemd.specs.Saved.{IsSaved, IsAppended}
-use Rattle.ripemd_c.specs.SavedStates.{Updates, WithOutput}
+use Rattle.ripemd_c.specs.SavedStates.{Updates}
 
 module _ {S : Type 0} {is_valid : S → Type 0} {state_bytes : S → List ℕ}
     (injective : (s t : S) → is_valid s → is_valid t → state_bytes s ≡ state_bytes t → s ≡ t)
@@ -35,17 +30,6 @@ module _ {S : Type 0} {is_valid : S → Type 0} {state_bytes : S → List ℕ}
           refused = not_refused;
         }
 
-  -- what is done with its output
-  pub with_output : {O : Type 0} {new_state : O → S} {fed : S → List ℕ → S} {output : S → List ℕ} {whole : O → List ℕ → List ℕ}
-      (ends : (o : O) (message : List ℕ) → output (fed (new_state o) message) ≡ whole o message)
-      {Does : List ℕ → Type 0} {Otherwise : Type 0} → Does (output loaded)
-      → WithOutput (IsSaved is_valid state_bytes) new_state fed output whole old Does Otherwise
-  with_output {output} ends {Does} does = record {
-    state = λ s is. subst Does (ap output (one_saved is)) does;
-    message = λ o message is. subst Does (ap output (one_saved is) ∙ ends o message) does;
-    refused = λ none. absurd (none loaded (record { valid = valid; saved = same }));
-  }
-
 -- the state after a piece that was appended in the saved bytes
 pub appended : {S : Type 0} {is_valid : S → Type 0} {state_bytes : S → List ℕ}
     (injective : (s t : S) → is_valid s → is_valid t → state_bytes s ≡ state_bytes t → s ≡ t)
@@ -55,22 +39,3 @@ pub appended : {S : Type 0} {is_valid : S → Type 0} {state_bytes : S → List 
 appended injective twice {piece = piece} true done added =
     updates injective added.before.valid added.before.saved twice piece refl added.after.valid (sym added.after.saved)
 appended injective twice false done added = absurd (search (rules, done))
-
--- ---- what is behind a state
-
--- it does not change with the saved bytes
-pub behind_part : (xs part : List ℕ) (n len : ℕ) → len ≡ n → 0 < length xs → length part ≡ n
-    → drop (1 + n) (put_mid 1 (1 + len - 1) xs part) ≡ drop (1 + n) xs
-behind_part [] part n len is some many = absurd (omega (arith, some))
-behind_part (x ∷ xs) part n len is some many =
-    let size : 1 + len - 1 ≡ n = omega (arith, is) in
-    let next : 1 + n ≡ suc n = omega arith in
-    rw (size, next, ← many) (drop-append_seam part (drop (length part) xs))
-
--- nor with the mark
-pub behind_zeros : (len n mark : ℕ) → 0 < len → drop (1 + n) (slice_set (replicate len 0) 0 mark) ≡ replicate (len - (1 + n)) 0
-behind_zeros zero n mark some = absurd (omega (arith, some))
-behind_zeros (suc len) n mark some =
-    let next : 1 + n ≡ suc n = omega arith in
-    let rest : suc len - suc n ≡ len - n = omega arith in
-    rw (next, rest) (drop-replicate {X = ℕ} n len 0)

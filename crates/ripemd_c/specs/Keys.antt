@@ -4,7 +4,7 @@ use Rattle.ripemd.specs.Standard.Hashing.{ripemd}
 use Rattle.ripemd_mac.specs.Keyed.{hmac}
 use Rattle.ripemd_mac.specs.Pbkdf2.{pbkdf2}
 use Rattle.ripemd_batch.specs.Keys.{pbkdf2_each}
-use Rattle.ripemd_c.specs.Variants.{AtVariant, Refuses, Writes, digest_size}
+use Rattle.ripemd_c.specs.Variants.{ByVariant, Writes, digest_size}
 
 -- so many rounds and bytes of a key are allowed, by digests of this size: at least one round, and 2^32 - 1 digests
 -- at most
@@ -27,9 +27,8 @@ FillsKeys hash width passwords salts rounds size old new done =
 
 -- the same by the variant of a number
 abbrev pub DerivesKey : (bits : ℕ) → (password salt : List ℕ) → (rounds : ℕ) → (old new : List ℕ) → Bool → Type 0
-DerivesKey bits password salt rounds old new done =
-    AtVariant bits (λ v. FillsKey (ripemd v) (digest_size v) password salt rounds old new done) (Refuses old new done)
+DerivesKey bits password salt rounds = ByVariant bits (λ v. FillsKey (ripemd v) (digest_size v) password salt rounds)
 
 abbrev pub DerivesKeys : (bits : ℕ) → (passwords salts : List (List ℕ)) → (rounds size : ℕ) → (old new : List ℕ) → Bool → Type 0
-DerivesKeys bits passwords salts rounds size old new done =
-    AtVariant bits (λ v. FillsKeys (ripemd v) (digest_size v) passwords salts rounds size old new done) (Refuses old new done)
+DerivesKeys bits passwords salts rounds size =
+    ByVariant bits (λ v. FillsKeys (ripemd v) (digest_size v) passwords salts rounds size)

@@ -4,15 +4,15 @@ use Rattle.std.specs.List.{flat_map, range_with_len}
 use Rattle.ripemd.specs.Standard.Compression.{Parameters}
 use Rattle.ripemd.specs.Standard.Hashing.{ripemd}
 use Rattle.ripemd_mac.specs.Keyed.{hmac}
-use Rattle.ripemd_c.specs.Variants.{AtVariant, Refuses, Writes, digest_size}
+use Rattle.ripemd_c.specs.Variants.{ByVariant, Writes, digest_size}
 
 -- record i: the bytes from i * size on, as many as the size
 abbrev pub record_at : ℕ → List ℕ → ℕ → List ℕ
 record_at size bytes i = slice_range bytes (i * size) (i * size + size)
 
--- the first n records
-abbrev pub records : ℕ → ℕ → List ℕ → List (List ℕ)
-records n size bytes = map (record_at size bytes) (range_with_len 0 n)
+-- n records from record i on
+abbrev pub records : (i n size : ℕ) → List ℕ → List (List ℕ)
+records i n size bytes = map (record_at size bytes) (range_with_len i n)
 
 -- ---- calls
 
@@ -28,18 +28,16 @@ abbrev pub FillsEach : (width : ℕ) → (output_of : List ℕ → List ℕ) →
     → (old new : List ℕ) → Bool → Type 0
 FillsEach width output_of bytes size old new done =
     Writes ((length old ≡ length old / width * width) × (length bytes ≡ length old / width * size))
-    (flat_map output_of (records (length old / width) size bytes)) old new done
+    (flat_map output_of (records 0 (length old / width) size bytes)) old new done
 
 -- the same by the variant of a number
 abbrev pub WritesList : (bits : ℕ) → (output_of : Parameters → List ℕ → List ℕ) → (messages : List (List ℕ))
     → (old new : List ℕ) → Bool → Type 0
-WritesList bits output_of messages old new done =
-    AtVariant bits (λ v. FillsList (digest_size v) (output_of v) messages old new done) (Refuses old new done)
+WritesList bits output_of messages = ByVariant bits (λ v. FillsList (digest_size v) (output_of v) messages)
 
 abbrev pub WritesEach : (bits : ℕ) → (output_of : Parameters → List ℕ → List ℕ) → (bytes : List ℕ) → (size : ℕ)
     → (old new : List ℕ) → Bool → Type 0
-WritesEach bits output_of bytes size old new done =
-    AtVariant bits (λ v. FillsEach (digest_size v) (output_of v) bytes size old new done) (Refuses old new done)
+WritesEach bits output_of bytes size = ByVariant bits (λ v. FillsEach (digest_size v) (output_of v) bytes size)
 
 -- digests, and tags under a key
 abbrev pub WritesDigests : (bits : ℕ) → (messages : List (List ℕ)) → (old new : List ℕ) → Bool → Type 0

@@ -9,7 +9,7 @@ use Rattle.ripemd.specs.States.{HashState, AreWords, IsState, new_state, fed, fi
 use Rattle.ripemd.specs.Saved.{IsSaved}
 use Rattle.ripemd_mac.specs.Keyed.{KeyedState, hmac, keyed_state, fed_text, tag_of}
 use Rattle.ripemd_mac.specs.Saved.{IsKeyedState, hmac_bytes}
-use Rattle.ripemd_c.specs.Variants.{AtVariant, Refuses, Writes, digest_size}
+use Rattle.ripemd_c.specs.Variants.{AtVariant, ByVariant, Refuses, Writes, digest_size}
 
 -- ---- states
 
@@ -49,8 +49,10 @@ pub record Updates {S : Type 0} (IsSavedAs : S → List ℕ → Type 0) (fed : S
       → IsTrue done × IsSavedAs (fed start (message ++ piece)) new
   pub refused : IsFalse done ↔ ((s : S) → ¬ IsSavedAs s old)
 
--- what is around the saved bytes stays, and if the call refuses, all does
-pub record Stays (size : ℕ) (old new : List ℕ) (done : Bool) : Type 0 where
+-- so it does with the saved bytes in a state; what is around them stays, and if the call refuses, all does
+pub record TakesIn {S : Type 0} (IsSavedAs : S → List ℕ → Type 0) (fed : S → List ℕ → S) (size : ℕ)
+    (piece old new : List ℕ) (done : Bool) : Type 0 where
+  pub saved : Updates IsSavedAs fed (saved_in size old) piece (saved_in size new) done
   pub mark : slice_index new 0 ≡ slice_index old 0
   pub behind : drop (1 + size) new ≡ drop (1 + size) old
   pub unchanged : IsFalse done → new ≡ old
@@ -84,45 +86,30 @@ WithTag v =
 
 -- the state of no bytes
 abbrev pub InitsState : (bits : ℕ) → (old new : List ℕ) → Bool → Type 0
-InitsState bits old new done =
-    AtVariant bits
-    (λ v. Keeps (IsSavedState v) (digest_size v) (saved_size v) (fed (compress v) (new_state v) []) old new done)
-    (Refuses old new done)
+InitsState bits =
+    ByVariant bits (λ v. Keeps (IsSavedState v) (digest_size v) (saved_size v) (fed (compress v) (new_state v) []))
 
 abbrev pub InitsHmac : (bits : ℕ) → (key old new : List ℕ) → Bool → Type 0
-InitsHmac bits key old new done =
-    AtVariant bits
-    (λ v. Keeps (IsSavedHmac v) (128 + digest_size v) (saved_hmac_size v)
-    (fed_text (compress v) (keyed_state v.start (compress v) word_bytes key) []) old new done)
-    (Refuses old new done)
+InitsHmac bits key =
+    ByVariant bits (λ v. Keeps (IsSavedHmac v) (128 + digest_size v) (saved_hmac_size v)
+    (fed_text (compress v) (keyed_state v.start (compress v) word_bytes key) []))
 
 abbrev pub UpdatesState : (old piece new : List ℕ) → Bool → Type 0
-UpdatesState old piece new done =
-    AtVariant (bits_of_state old)
-    (λ v. Updates (IsSavedState v) (fed (compress v)) (saved_in (saved_size v) old) piece (saved_in (saved_size v) new) done
-    × Stays (saved_size v) old new done)
-    (Refuses old new done)
+UpdatesState old piece = ByVariant (bits_of_state old) (λ v. TakesIn (IsSavedState v) (fed (compress v)) (saved_size v) piece) old
 
 abbrev pub UpdatesHmac : (old piece new : List ℕ) → Bool → Type 0
-UpdatesHmac old piece new done =
-    AtVariant (bits_of_hmac old)
-    (λ v. Updates (IsSavedHmac v) (fed_text (compress v)) (saved_in (saved_hmac_size v) old) piece (saved_in (saved_hmac_size v) new) done
-    × Stays (saved_hmac_size v) old new done)
-    (Refuses old new done)
+UpdatesHmac old piece =
+    ByVariant (bits_of_hmac old) (λ v. TakesIn (IsSavedHmac v) (fed_text (compress v)) (saved_hmac_size v) piece) old
 
 abbrev pub FinalizesState : (state old new : List ℕ) → Bool → Type 0
-FinalizesState state old new done =
-    AtVariant (bits_of_state state)
-    (λ v. WithDigest v (saved_in (saved_size v) state) (λ digest. Writes (length old ≡ digest_size v) digest old new done)
-    (Refuses old new done))
-    (Refuses old new done)
+FinalizesState state =
+    ByVariant (bits_of_state state) (λ v old new done. WithDigest v (saved_in (saved_size v) state)
+    (λ digest. Writes (length old ≡ digest_size v) digest old new done) (Refuses old new done))
 
 abbrev pub FinalizesHmac : (state old new : List ℕ) → Bool → Type 0
-FinalizesHmac state old new done =
-    AtVariant (bits_of_hmac state)
-    (λ v. WithTag v (saved_in (saved_hmac_size v) state) (λ tag. Writes (length old ≡ digest_size v) tag old new done)
-    (Refuses old new done))
-    (Refuses old new done)
+FinalizesHmac state =
+    ByVariant (bits_of_hmac state) (λ v old new done. WithTag v (saved_in (saved_hmac_size v) state)
+    (λ tag. Writes (length old ≡ digest_size v) tag old new done) (Refuses old new done))
 
 abbrev pub VerifiesHmac : (state tag : List ℕ) → Bool → Type 0
 VerifiesHmac state bytes answer =

@@ -24,14 +24,19 @@ RefusesRoom Does size =
 abbrev pub abc : List ℕ
 abc = codes "abc"
 
+-- a variant gives this digest of it, whole and as a piece after the start
+pub record DigestsAbc (bits size : ℕ) (digest : List ℕ) : Type 0 where
+  pub whole : Gives (WritesDigest bits abc) size digest
+  pub pieces : (any first next : List ℕ) (begun fed : Bool) → InitsState bits any first begun → UpdatesState first abc next fed
+      → IsTrue begun × IsTrue fed × Gives (FinalizesState next) size digest
+
 pub record WorkedDigests : Type 0 where
-  pub of128 : Gives (WritesDigest 128 abc) 16 (codes "c14a12199c66e4ba84636b0f69144c77")
-  pub of160 : Gives (WritesDigest 160 abc) 20 (codes "8eb208f7e05d987a9b044a8e98c6b087f15a0bfc")
-  pub of256 : Gives (WritesDigest 256 abc) 32 (codes "afbd6e228b9d8cbbcef5ca2d03e6dba10ac0bc7dcbe4680e1e42d2e975459b65")
-  pub of320 : Gives (WritesDigest 320 abc) 40
-      (codes "de4c01b3054f8930a79d09ae738e92301e5a17085beffdc1b8d116713e74f82fa942d64cdbc4682d")
+  pub of128 : DigestsAbc 128 16 (codes "c14a12199c66e4ba84636b0f69144c77")
+  pub of160 : DigestsAbc 160 20 (codes "8eb208f7e05d987a9b044a8e98c6b087f15a0bfc")
+  pub of256 : DigestsAbc 256 32 (codes "afbd6e228b9d8cbbcef5ca2d03e6dba10ac0bc7dcbe4680e1e42d2e975459b65")
+  pub of320 : DigestsAbc 320 40 (codes "de4c01b3054f8930a79d09ae738e92301e5a17085beffdc1b8d116713e74f82fa942d64cdbc4682d")
   pub short : RefusesRoom (WritesDigest 160 abc) 19
-  pub unknown : RefusesRoom (WritesDigest 20 abc) 20
+  pub no_variant : RefusesRoom (WritesDigest 20 abc) 20
 
 -- of RFC 2286
 abbrev pub key : List ℕ
@@ -47,7 +52,7 @@ pub record WorkedTags : Type 0 where
   pub verified : (answer : Bool) → VerifiesTag 160 key (codes "Hi There") tag answer → IsTrue answer
   pub wrong : (answer : Bool) → VerifiesTag 160 key (codes "Hi there") tag answer → IsFalse answer
   pub part : (answer : Bool) → VerifiesTag 160 key (codes "Hi There") (take 10 tag) answer → IsFalse answer
-  pub unknown : (answer : Bool) → VerifiesTag 0 key (codes "Hi There") tag answer → IsFalse answer
+  pub no_variant : (answer : Bool) → VerifiesTag 0 key (codes "Hi There") tag answer → IsFalse answer
 
 -- ---- records and lists
 
@@ -70,8 +75,6 @@ pub record WorkedLists : Type 0 where
       (codes "9c1185a5c5e9fc54612808977ee8f548b2258d319c1185a5c5e9fc54612808977ee8f548b2258d31")
   pub few_bytes : RefusesRoom (Each (codes "abcabdab")) 60
   pub more_bytes : RefusesRoom (Each (codes "abcabdabca")) 60
-  pub unknown_of_records : RefusesRoom (WritesEachDigest 20 [] 3) 0
-  pub unknown_of_list : RefusesRoom (WritesDigests 20 []) 0
   pub little_room : RefusesRoom (Each (codes "abcabdabc")) 59
   pub list : Gives (Listed (abc ∷ codes "abd" ∷ abc ∷ [])) 60 three_digests
   pub no_messages : Gives (Listed []) 0 []
@@ -95,13 +98,11 @@ pub record WorkedKeys : Type 0 where
   pub too_long : (old new : List ℕ) (done : Bool) → length old ≡ 20 * (2 ^ 32 - 1) + 1 → Key 1 old new done → Refuses old new done
   pub no_bytes : Gives (Key 1) 0 []
   pub no_rounds : RefusesRoom (Key 0) 20
-  pub unknown : RefusesRoom (DerivesKey 20 (codes "password") (codes "salt") 1) 20
   pub list : Gives (Keys 2 25) 50
       (codes "768dcc27b7bfdef794a1ff9d935090fcf598555e66913180b9d92ac58575f940a39c429575de3180045194d5488ed8de5ccd")
   pub no_passwords : Gives (DerivesKeys 160 [] [] 1 20) 0 []
   pub longest_of_none : Gives (DerivesKeys 160 [] [] 1 (20 * (2 ^ 32 - 1))) 0 []
   pub too_long_of_none : RefusesRoom (DerivesKeys 160 [] [] 1 (20 * (2 ^ 32 - 1) + 1)) 0
-  pub unknown_of_none : RefusesRoom (DerivesKeys 20 [] [] 1 20) 0
   pub other_room : RefusesRoom (Keys 2 25) 49
   pub one_salt : RefusesRoom (DerivesKeys 160 (codes "password" ∷ codes "secret" ∷ []) (codes "salt" ∷ []) 2 25) 50
   pub no_rounds_of_none : RefusesRoom (DerivesKeys 160 [] [] 0 20) 0
@@ -126,12 +127,6 @@ saved_bytes =
 abbrev pub forged : List ℕ
 forged = replicate 92 0xff
 
--- what comes in a piece after the start is what is hashed
-abbrev pub Hashes : (bits size : ℕ) → (output : List ℕ) → Type 0
-Hashes bits size output =
-    (any first next : List ℕ) (begun fed : Bool) → InitsState bits any first begun → UpdatesState first abc next fed
-    → IsTrue begun × IsTrue fed × Gives (FinalizesState next) size output
-
 -- that state gives the digest of its message, and bytes of no state and of one of the other kind are refused
 pub record WorkedStates : Type 0 where
   pub finalized : Gives (FinalizesState (kept saved_bytes)) 20 (codes "d747cddb32a3bc8e8029dd1cacdcca01392299d6")
@@ -139,13 +134,8 @@ pub record WorkedStates : Type 0 where
   pub not_finalized : RefusesRoom (FinalizesState (kept forged)) 20
   pub other_kind : RefusesRoom (FinalizesState (148 ∷ saved_bytes ++ replicate 20 0)) 20
   pub not_updated : (piece new : List ℕ) (done : Bool) → UpdatesState (kept forged) piece new done → Refuses (kept forged) new done
-  pub of128 : Hashes 128 16 (codes "c14a12199c66e4ba84636b0f69144c77")
-  pub of160 : Hashes 160 20 (codes "8eb208f7e05d987a9b044a8e98c6b087f15a0bfc")
-  pub of256 : Hashes 256 32 (codes "afbd6e228b9d8cbbcef5ca2d03e6dba10ac0bc7dcbe4680e1e42d2e975459b65")
-  pub of320 : Hashes 320 40 (codes "de4c01b3054f8930a79d09ae738e92301e5a17085beffdc1b8d116713e74f82fa942d64cdbc4682d")
   pub behind : (first next : List ℕ) (begun fed : Bool) → InitsState 160 (replicate 113 7) first begun
       → UpdatesState first abc next fed → drop 93 next ≡ replicate 20 0
-  pub unknown : (old new : List ℕ) (done : Bool) → InitsState 20 old new done → Refuses old new done
 
 -- the same of the HMAC state of "Hi There" under that key, with OpenSSL's words, and of an outer state that is none
 pub record WorkedHmacStates : Type 0 where
@@ -161,4 +151,3 @@ pub record WorkedHmacStates : Type 0 where
   pub tagged : (any first next : List ℕ) (begun fed : Bool) → InitsHmac 160 key any first begun
       → UpdatesHmac first (codes "Hi There") next fed
       → IsTrue begun × IsTrue fed × Gives (FinalizesHmac next) 20 (hexadecimal tag)
-  pub unknown : (old new : List ℕ) (done : Bool) → InitsHmac 0 key old new done → Refuses old new done

@@ -1,13 +1,13 @@
 //! Digests of many messages, and their tags under one key (RFC 2104): of records of one size that lie
 //! one after another, and of a list of messages of any sizes.
 
-ghost use Rattle.std.specs.Prelude.{◌≡◌, ◌↔◌, ℕ, ◌+◌, ◌-◌, ◌*◌, ◌/◌, ◌^◌, ◌<◌, ◌≤◌, min, length, IsTrue};
+ghost use Rattle.std.specs.Prelude.{◌≡◌, ◌↔◌, ◌+◌, ◌*◌, ◌^◌, ◌<◌, ◌≤◌, length, take, IsTrue};
 ghost use Rattle.std.specs.List.{flat_map};
 ghost use Rattle.std.specs.Mem.{type_size};
 ghost use Rattle.ripemd.specs.Standard.Hashing.{hash};
 ghost use Rattle.ripemd_mac.specs.Keyed.{hmac};
-ghost use Rattle.ripemd_batch.specs.Lanes.{list_at, made_by, targets};
-ghost use Rattle.ripemd_c.specs.Records.{FillsEach, FillsList, record_at};
+ghost use Rattle.ripemd_batch.specs.Lanes.{made_by, targets};
+ghost use Rattle.ripemd_c.specs.Records.{FillsEach, FillsList, record_at, records};
 ghost use Rattle.ripemd_c.specs.Records.{WritesDigests, WritesEachDigest, WritesEachTag, WritesTags};
 
 use ripemd::block_api::ByteArray;
@@ -16,8 +16,11 @@ use ripemd::{Digest, Ripemd128, Ripemd160, Ripemd256, Ripemd320};
 use ripemd_batch::passwords::digest_size;
 use ripemd_batch::{BatchDigest, ListHasher};
 
-// How many messages a group has.
+// How many messages a group has at most: so many outputs lie in an array before they are written.
 const GROUP: usize = 64;
+
+// So few messages have an array of their own, which takes less time to make.
+const FEW: usize = 8;
 
 /// Writes the digests of records by the variant, one after another to `digests`. The records lie one
 /// after another, each of `size` bytes. True exactly if there is such a variant, `digests` is a whole
@@ -31,7 +34,10 @@ pub extern "C" fn nattizhu_each_nonnull(
 ) -> bool
     ensures { WritesEachDigest variant bytes.now size digests.old digests.new result }
 {
-    by_variant!(variant, digest_records(bytes, size, digests))
+    by_variant!(
+        variant,
+        write_each(&ListHasher::new(), bytes, size, digests)
+    )
 }
 
 /// Writes the tags of records under the key, as `nattizhu_each_nonnull` writes their digests. The key has
@@ -46,7 +52,10 @@ pub extern "C" fn nattizhu_hmac_each_nonnull(
 ) -> bool
     ensures { WritesEachTag variant key.now bytes.now size tags.old tags.new result }
 {
-    by_variant!(variant, tag_records(key, bytes, size, tags))
+    by_variant!(
+        variant,
+        write_each(&ListHasher::keyed(key), bytes, size, tags)
+    )
 }
 
 /// Writes the digests of messages by the variant, one after another to `digests`. True exactly if there is
@@ -59,7 +68,7 @@ pub extern "C" fn nattizhu_list_nonnull(
 ) -> bool
     ensures { WritesDigests variant (targets messages.now) digests.old digests.new result }
 {
-    by_variant!(variant, digest_list(messages, digests))
+    by_variant!(variant, write_list(&ListHasher::new(), messages, digests))
 }
 
 /// Writes the tags of texts under the key, as `nattizhu_list_nonnull` writes their digests. The key has
@@ -73,44 +82,10 @@ pub extern "C" fn nattizhu_hmac_list_nonnull(
 ) -> bool
     ensures { WritesTags variant key.now (targets texts.now) tags.old tags.new result }
 {
-    by_variant!(variant, tag_list(key, texts, tags))
+    by_variant!(variant, write_list(&ListHasher::keyed(key), texts, tags))
 }
 
-fn digest_records<D: BatchDigest>(bytes: &[u8], size: usize, digests: &mut [u8]) -> bool
-    requires width { 0 < D.OUTPUT_SIZE }
-    requires memory { 64 * type_size D.Output.row < 2 ^ 63 }
-    ensures { FillsEach D.OUTPUT_SIZE (hash D.start D.step D.output) bytes.now size digests.old digests.new result }
-{
-    write_each(&ListHasher::<D>::new(), bytes, size, digests)
-}
-
-fn tag_records<D: BatchDigest>(key: &[u8], bytes: &[u8], size: usize, tags: &mut [u8]) -> bool
-    requires width { 0 < D.OUTPUT_SIZE }
-    requires memory { 64 * type_size D.Output.row < 2 ^ 63 }
-    ensures { FillsEach D.OUTPUT_SIZE (hmac (hash D.start D.step D.output) key.now) bytes.now size
-        tags.old tags.new result }
-{
-    write_each(&ListHasher::<D>::keyed(key), bytes, size, tags)
-}
-
-fn digest_list<D: BatchDigest>(messages: &[&[u8]], digests: &mut [u8]) -> bool
-    requires memory { 64 * type_size D.Output.row < 2 ^ 63 }
-    ensures { FillsList D.OUTPUT_SIZE (hash D.start D.step D.output) (targets messages.now)
-        digests.old digests.new result }
-{
-    write_list(&ListHasher::<D>::new(), messages, digests)
-}
-
-fn tag_list<D: BatchDigest>(key: &[u8], texts: &[&[u8]], tags: &mut [u8]) -> bool
-    requires memory { 64 * type_size D.Output.row < 2 ^ 63 }
-    ensures { FillsList D.OUTPUT_SIZE (hmac (hash D.start D.step D.output) key.now) (targets texts.now)
-        tags.old tags.new result }
-{
-    write_list(&ListHasher::<D>::keyed(key), texts, tags)
-}
-
-// Writes what the hasher makes of each record, if the lengths fit. The records are handed on in groups, so
-// that nothing is allocated.
+// Writes what the hasher makes of each record, if the lengths fit.
 fn write_each<D: BatchDigest>(
     hasher: &ListHasher<D>,
     bytes: &[u8],
@@ -127,19 +102,18 @@ fn write_each<D: BatchDigest>(
     if !is_product(outputs.len(), count, width) || !is_product(bytes.len(), count, size) {
         return false;
     }
+    let mut messages: [&[u8]; GROUP] = [&[]; GROUP];
     let mut group = [D::Output::zeros(); GROUP];
-    let mut at = 0;
-    while at < count {
-        let n = group_len(count, at);
-        let messages = records_from(bytes, size, at, n);
-        write_group(
-            hasher,
-            &messages[..n],
-            &mut group,
-            &mut outputs[width * at..width * (at + n)],
-        );
-        at += n;
-    }
+    write_records(
+        hasher,
+        bytes,
+        size,
+        0,
+        count,
+        &mut messages,
+        &mut group,
+        outputs,
+    );
     true
 }
 
@@ -153,22 +127,15 @@ fn write_list<D: BatchDigest>(
     ensures { FillsList D.OUTPUT_SIZE (made_by D.step D.output hasher.now) (targets messages.now)
         outputs.old outputs.new result }
 {
-    let width = digest_size::<D>();
-    let count = messages.len();
-    if !is_product(outputs.len(), count, width) {
+    if !is_product(outputs.len(), messages.len(), digest_size::<D>()) {
         return false;
     }
-    let mut group = [D::Output::zeros(); GROUP];
-    let mut at = 0;
-    while at < count {
-        let n = group_len(count, at);
-        write_group(
-            hasher,
-            &messages[at..at + n],
-            &mut group,
-            &mut outputs[width * at..width * (at + n)],
-        );
-        at += n;
+    if messages.len() <= FEW {
+        let mut group = [D::Output::zeros(); FEW];
+        write_messages(hasher, messages, &mut group, outputs);
+    } else {
+        let mut group = [D::Output::zeros(); GROUP];
+        write_messages(hasher, messages, &mut group, outputs);
     }
     true
 }
@@ -180,44 +147,78 @@ fn is_product(len: usize, count: usize, size: usize) -> bool
     count.checked_mul(size) == Some(len)
 }
 
-// Writes what the hasher makes of a group of messages.
-fn write_group<D: BatchDigest>(
+// Writes what the hasher makes of so many records from one on. More than a group has are halved, so that
+// nothing is allocated.
+fn write_records<'a, D: BatchDigest>(
     hasher: &ListHasher<D>,
-    messages: &[&[u8]],
-    outputs: &mut [D::Output; GROUP],
-    place: &mut [u8],
+    bytes: &'a [u8],
+    size: usize,
+    at: usize,
+    count: usize,
+    messages: &mut [&'a [u8]; GROUP],
+    group: &mut [D::Output; GROUP],
+    outputs: &mut [u8],
 )
-    requires most { length messages.now ≤ 64 }
-    requires room { length place.old ≡ D.Output.LEN * length messages.now }
-    ensures { place.new ≡ flat_map (made_by D.step D.output hasher.now) (targets messages.now) }
-{
-    let n = messages.len();
-    hasher.hash_each(messages, &mut outputs[..n]);
-    place.copy_from_slice(D::Output::joined(&outputs[..n]));
-}
-
-// How many of `len` messages the group from `at` on has.
-#[inline(always)]
-fn group_len(len: usize, at: usize) -> usize
-    requires { at < len }
-    ensures { result ≡ min 64 (len - at) }
-{
-    if len - at < GROUP { len - at } else { GROUP }
-}
-
-// The first `count` of these are the records from `at` on.
-#[inline(always)]
-fn records_from<'a>(bytes: &'a [u8], size: usize, at: usize, count: usize) -> [&'a [u8]; GROUP]
-    requires most { count ≤ 64 }
     requires fits { at + count < 2 ^ 64 }
     requires length { (at + count) * size ≤ length bytes.now }
-    ensures { (j : ℕ) → j < count → list_at (targets result) j ≡ record_at size bytes.now (at + j) }
+    requires room { length outputs.old ≡ count * D.Output.LEN }
+    ensures { outputs.new ≡ flat_map (made_by D.step D.output hasher.now) (records at count size bytes.now) }
 {
-    let mut messages: [&[u8]; GROUP] = [&[]; GROUP];
-    for j in 0..count {
-        messages[j] = record_slice(bytes, size, at + j);
+    if count > GROUP {
+        let half = half_of(count);
+        let rest = count - half;
+        let (front, back) = outputs.split_at_mut(half * <D::Output as ByteArray>::LEN);
+        write_records(hasher, bytes, size, at, half, messages, group, front);
+        write_records(hasher, bytes, size, at + half, rest, messages, group, back);
+        return;
     }
-    messages
+    put_records(bytes, size, at, &mut messages[..count]);
+    write_messages(hasher, &messages[..count], group, outputs);
+}
+
+// Writes what the hasher makes of messages. More than a group has are halved.
+fn write_messages<D: BatchDigest>(
+    hasher: &ListHasher<D>,
+    messages: &[&[u8]],
+    group: &mut [D::Output],
+    outputs: &mut [u8],
+)
+    requires group { 8 ≤ length group.old }
+    requires room { length outputs.old ≡ length messages.now * D.Output.LEN }
+    ensures { outputs.new ≡ flat_map (made_by D.step D.output hasher.now) (targets messages.now) }
+{
+    let count = messages.len();
+    if count > group.len() {
+        let half = half_of(count);
+        let (first, rest) = messages.split_at(half);
+        let (front, back) = outputs.split_at_mut(half * <D::Output as ByteArray>::LEN);
+        write_messages(hasher, first, group, front);
+        write_messages(hasher, rest, group, back);
+        return;
+    }
+    hasher.hash_each(messages, &mut group[..count]);
+    outputs.copy_from_slice(D::Output::joined(&group[..count]));
+}
+
+// Half of them, and as many more as make whole eights, which are hashed at once.
+#[inline(always)]
+fn half_of(count: usize) -> usize
+    requires { 8 < count }
+    ensures { (0 < result) × (result < count) }
+{
+    count.div_ceil(16) * 8
+}
+
+// Puts the records from `at` on in these places.
+#[inline(always)]
+fn put_records<'a>(bytes: &'a [u8], size: usize, at: usize, places: &mut [&'a [u8]])
+    requires fits { at + length places.old < 2 ^ 64 }
+    requires length { (at + length places.old) * size ≤ length bytes.now }
+    ensures { targets places.new ≡ records at (length places.old) size bytes.now }
+{
+    for j in 0..places.len() {
+        places[j] = record_slice(bytes, size, at + j);
+    }
 }
 
 // Record `i`.

@@ -9,11 +9,11 @@ ghost use Rattle.ripemd_c.specs.Worked.{WorkedStates, WorkedTags};
 /// Three records of two bytes, with a byte behind them; two that are longer than a block; and two
 /// empty ones.
 pub fn worked_records()
-    ensures short { records 3 2 (1 ∷ 2 ∷ 3 ∷ 4 ∷ 5 ∷ 6 ∷ 7 ∷ [])
+    ensures short { records 0 3 2 (1 ∷ 2 ∷ 3 ∷ 4 ∷ 5 ∷ 6 ∷ 7 ∷ [])
         ≡ (1 ∷ 2 ∷ []) ∷ (3 ∷ 4 ∷ []) ∷ (5 ∷ 6 ∷ []) ∷ [] }
-    ensures long { records 2 65 (1 ∷ replicate 65 2 ++ 3 ∷ replicate 63 4)
+    ensures long { records 0 2 65 (1 ∷ replicate 65 2 ++ 3 ∷ replicate 63 4)
         ≡ (1 ∷ replicate 64 2) ∷ (2 ∷ 3 ∷ replicate 63 4) ∷ [] }
-    ensures empty { records 2 0 [] ≡ [] ∷ [] ∷ [] }
+    ensures empty { records 0 2 0 [] ≡ [] ∷ [] ∷ [] }
 {}
 
 /// Digests and tags, those of records and lists, and keys: what is written, and what is refused.

@@ -55,16 +55,16 @@ impl<F: ResumableFunction> Kept for Hmac<BlockHasher<F>> {
 // Keeps the state before the first byte behind a mark, and zeros behind it.
 pub(crate) fn init_kept<S: Kept>(key: &[u8], mark: u8, state: &mut [u8]) -> bool
     requires room { S.Saved.LEN < length state.old }
-    requires most { length state.old ≤ 225 }
     ensures kept { IsTrue result }
     ensures marked { slice_index state.new 0 ≡ mark }
     ensures saved { IsSaved S.is_valid S.state_bytes (S.fed (S.first key.now) []) (saved_in S.Saved.LEN state.new) }
     ensures zeros { drop (1 + S.Saved.LEN) state.new ≡ replicate (length state.old - (1 + S.Saved.LEN)) 0 }
 {
-    let saved = S::begin(key).save();
-    state.copy_from_slice(&[0; 225][..state.len()]);
-    state[0] = mark;
-    state[1..1 + <S::Saved as ByteArray>::LEN].copy_from_slice(saved.as_bytes());
+    let (first, rest) = state.split_at_mut(1);
+    let (saved, behind) = rest.split_at_mut(<S::Saved as ByteArray>::LEN);
+    first[0] = mark;
+    saved.copy_from_slice(S::begin(key).save().as_bytes());
+    behind.fill(0);
     true
 }
 
@@ -78,7 +78,9 @@ pub(crate) fn update_kept<S: Resumable>(state: &mut [u8], bytes: &[u8]) -> bool
     ensures behind { drop (1 + S.Saved.LEN) state.new ≡ drop (1 + S.Saved.LEN) state.old }
     ensures unchanged { IsFalse result → state.new ≡ state.old }
 {
-    update_saved::<S>(&mut state[1..1 + <S::Saved as ByteArray>::LEN], bytes)
+    let (_, rest) = state.split_at_mut(1);
+    let (saved, _) = rest.split_at_mut(<S::Saved as ByteArray>::LEN);
+    update_saved::<S>(saved, bytes)
 }
 
 // Appends bytes to a saved state.
@@ -121,17 +123,7 @@ pub(crate) fn final_kept<S: Resumable>(state: &[u8], output: &mut [u8]) -> bool
         (λ out. Writes (length output.old ≡ S.Hash.OUTPUT_SIZE) out output.old output.new result)
         (Refuses output.old output.new result) }
 {
-    final_saved::<S>(&state[1..1 + <S::Saved as ByteArray>::LEN], output)
-}
-
-// Writes the digest or the tag of a saved state to its place, if that has its size.
-fn final_saved<S: Resumable>(saved: &[u8], output: &mut [u8]) -> bool
-    requires { length saved.now ≡ S.Saved.LEN }
-    ensures { WithOutput (IsSaved S.is_valid S.state_bytes) S.new_state S.fed S.finish S.whole saved.now
-        (λ out. Writes (length output.old ≡ S.Hash.OUTPUT_SIZE) out output.old output.new result)
-        (Refuses output.old output.new result) }
-{
-    let Some(array) = S::Saved::from_slice(saved) else {
+    let Some(array) = S::Saved::from_slice(&state[1..1 + <S::Saved as ByteArray>::LEN]) else {
         return false;
     };
     match S::load(&array) {
@@ -147,16 +139,7 @@ pub(crate) fn verify_kept<S: Resumable>(state: &[u8], output: &[u8]) -> bool
     ensures { WithOutput (IsSaved S.is_valid S.state_bytes) S.new_state S.fed S.finish S.whole
         (saved_in S.Saved.LEN state.now) (λ out. IsTrue result ↔ (output.now ≡ out)) (IsFalse result) }
 {
-    verify_saved::<S>(&state[1..1 + <S::Saved as ByteArray>::LEN], output)
-}
-
-// Whether these bytes are the digest or the tag of a saved state, all of them.
-fn verify_saved<S: Resumable>(saved: &[u8], output: &[u8]) -> bool
-    requires { length saved.now ≡ S.Saved.LEN }
-    ensures { WithOutput (IsSaved S.is_valid S.state_bytes) S.new_state S.fed S.finish S.whole
-        saved.now (λ out. IsTrue result ↔ (output.now ≡ out)) (IsFalse result) }
-{
-    let Some(array) = S::Saved::from_slice(saved) else {
+    let Some(array) = S::Saved::from_slice(&state[1..1 + <S::Saved as ByteArray>::LEN]) else {
         return false;
     };
     match S::load(&array) {

@@ -1,21 +1,43 @@
-use Rattle.std.proofs.Common.{ℕ, List, length, get_or, refl, rules, arith, ap}
+use Rattle.std.proofs.Common.{◌≡◌, ℕ, ◌*◌, List, [], Some, Bool, IsTrue, length, get_or, refl, rules, arith, ap, ◌∙◌}
+use Rattle.std.proofs.lemmas.List.FromFn.{length-range_with_len}
+use Rattle.ripemd.specs.Published.{hexadecimal}
+use Rattle.ripemd.specs.Standard.Compression.{Parameters, ripemd128, ripemd160, ripemd256, ripemd320}
 use Rattle.ripemd.specs.Standard.Compression.{registers_after, lines_after, compress}
-use Rattle.ripemd.specs.Standard.Hashing.{with_padding, blocks, hash}
+use Rattle.ripemd.specs.Standard.Hashing.{with_padding, blocks, hash, ripemd}
+use Rattle.ripemd.specs.States.{new_state}
 use Rattle.ripemd_mac.specs.Keyed.{key_block, inner_message, outer_message, hmac}
 use Rattle.ripemd_mac.specs.Pbkdf2.{U, F, pbkdf2}
 use Rattle.ripemd_batch.specs.Keys.{pbkdf2_each}
+use Rattle.ripemd_c.specs.Variants.{digest_size, variant_of}
+use Rattle.ripemd_c.specs.SavedStates.{InitsState, UpdatesState, FinalizesState}
+use Rattle.ripemd_c.specs.Worked.{Gives, abc}
 use Rattle.ripemd_c.proofs.Working.{written, refused, not_answered}
 use Rattle.ripemd_c.proofs.facts.worked_calls.Goals as goal
+
+-- a piece that is "abc", after the start
+pieces : (bits : ℕ) (v : Parameters) {digest : List ℕ} (any first next : List ℕ) (begun fed : Bool) → variant_of bits ≡ Some v
+    → 8 * digest_size v ≡ bits → hexadecimal (ripemd v abc) ≡ digest
+    → InitsState bits any first begun → UpdatesState first abc next fed
+    → IsTrue begun × IsTrue fed × Gives (FinalizesState next) (digest_size v) digest
+pieces bits v any first next begun fed is eight computed init update =
+    let inits = rw is at init in
+    let call = rw (inits.marked, eight, is) at update in
+    let after = call.saved.message (new_state v) [] inits.saved in (
+      inits.kept,
+      after.0,
+      λ new done does. written (length-range_with_len 0 (digest_size v)) computed
+          ((rw (call.mark ∙ inits.marked, eight, is) at does).message tt abc after.1),
+    )
 
 pub returns-clause-digests : goal.returns-clause-digests
 unfolding registers_after lines_after compress with_padding blocks hash
 returns-clause-digests c = record {
-  of128 = λ new done does. written refl refl does;
-  of160 = λ new done does. written refl refl does;
-  of256 = λ new done does. written refl refl does;
-  of320 = λ new done does. written refl refl does;
+  of128 = record { whole = λ new done does. written refl refl does; pieces = λ any first next begun fed. pieces 128 ripemd128 any first next begun fed refl refl refl };
+  of160 = record { whole = λ new done does. written refl refl does; pieces = λ any first next begun fed. pieces 160 ripemd160 any first next begun fed refl refl refl };
+  of256 = record { whole = λ new done does. written refl refl does; pieces = λ any first next begun fed. pieces 256 ripemd256 any first next begun fed refl refl refl };
+  of320 = record { whole = λ new done does. written refl refl does; pieces = λ any first next begun fed. pieces 320 ripemd320 any first next begun fed refl refl refl };
   short = λ new done does. refused done (λ fits. absurd (omega (arith, fits))) does;
-  unknown = λ new done does. does;
+  no_variant = λ new done does. does;
 }
 
 pub returns-clause-tags : goal.returns-clause-tags
@@ -24,11 +46,9 @@ returns-clause-tags c = record {
   whole = λ new done does. written refl refl does;
   long = λ new done does. refused done (λ fits. absurd (omega (arith, fits))) does;
   verified = λ answer does. does.1 refl;
-  wrong = λ answer does.
-      not_answered answer (λ same. omega (arith, ap (λ (bytes : List ℕ). get_or bytes 0 0) same)) does.0;
-  part = λ answer does.
-      not_answered answer (λ same. omega (arith, ap (λ (bytes : List ℕ). length bytes) same)) does.0;
-  unknown = λ answer does. does;
+  wrong = λ answer does. not_answered answer (λ same. omega (arith, ap (λ (bytes : List ℕ). get_or bytes 0 0) same)) does.0;
+  part = λ answer does. not_answered answer (λ same. omega (arith, ap (λ (bytes : List ℕ). length bytes) same)) does.0;
+  no_variant = λ answer does. does;
 }
 
 pub returns-clause-lists : goal.returns-clause-lists
@@ -37,13 +57,9 @@ returns-clause-lists c = record {
   records = λ new done does. written (refl, refl) refl does;
   no_records = λ new done does. written (refl, refl) refl does;
   empty_records = λ new done does. written (refl, refl) refl does;
-  few_bytes = λ new done does.
-      refused done (λ fits. absurd (omega (arith, fits.1))) does;
+  few_bytes = λ new done does. refused done (λ fits. absurd (omega (arith, fits.1))) does;
   more_bytes = λ new done does. refused done (λ fits. absurd (omega (arith, fits.1))) does;
-  unknown_of_records = λ new done does. does;
-  unknown_of_list = λ new done does. does;
-  little_room = λ new done does.
-      refused done (λ fits. absurd (omega (arith, fits.0))) does;
+  little_room = λ new done does. refused done (λ fits. absurd (omega (arith, fits.0))) does;
   list = λ new done does. written refl refl does;
   no_messages = λ new done does. written refl refl does;
   less_room = λ new done does. refused done (λ fits. absurd (omega (arith, fits))) does;
@@ -59,16 +75,12 @@ returns-clause-keys c = record {
   longest = λ old new done size does. does.fits.1 (search rules, omega (arith, size));
   too_long = λ old new done size does. refused done (λ fits. absurd (omega (arith, size, fits.1))) does;
   no_bytes = λ new done does. written (search rules, omega arith) refl does;
-  unknown = λ new done does. does;
   no_rounds = λ new done does. refused done (λ fits. absurd (fits.0 refl)) does;
   list = λ new done does. written ((search rules, omega arith), refl, refl) refl does;
   no_passwords = λ new done does. written ((search rules, omega arith), refl, refl) refl does;
   longest_of_none = λ new done does. written ((search rules, omega arith), refl, refl) refl does;
   too_long_of_none = λ new done does. refused done (λ fits. absurd (omega (arith, fits.0.1))) does;
-  unknown_of_none = λ new done does. does;
-  other_room = λ new done does.
-      refused done (λ fits. absurd (omega (arith, fits.2))) does;
-  one_salt = λ new done does.
-      refused done (λ fits. absurd (omega (arith, fits.1))) does;
+  other_room = λ new done does. refused done (λ fits. absurd (omega (arith, fits.2))) does;
+  one_salt = λ new done does. refused done (λ fits. absurd (omega (arith, fits.1))) does;
   no_rounds_of_none = λ new done does. refused done (λ fits. absurd (fits.0.0 refl)) does;
 }

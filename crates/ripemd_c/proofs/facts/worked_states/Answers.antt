@@ -1,14 +1,14 @@
 use Rattle.std.proofs.Common.{◌≡◌, ℕ, List, [], ◌∷◌, ◌++◌, codes, length, replicate, drop, get_or, refl, sym, ap, subst, ◌∙◌, arith, rules}
 use Rattle.std.proofs.Math.Seq.{drop-append_seam}
 use Rattle.ripemd.specs.Standard.Words.{word_bytes}
-use Rattle.ripemd.specs.Standard.Compression.{ripemd128, ripemd160, ripemd256, ripemd320, registers_after, lines_after, compress}
+use Rattle.ripemd.specs.Standard.Compression.{ripemd160, registers_after, lines_after, compress}
 use Rattle.ripemd.specs.Standard.Hashing.{with_padding, blocks, partial_block, hash}
-use Rattle.ripemd.specs.States.{HashState, IsState, new_state, fed, output_and_count, core_and_tail}
+use Rattle.ripemd.specs.States.{HashState, IsState, fed, output_and_count, core_and_tail}
 use Rattle.ripemd_block.specs.Laws.Saving.{word_bytes_output, length-output_and_count, length-core_and_tail, core_and_tail-split, tail_bytes}
 use Rattle.ripemd_mac.specs.Keyed.{KeyedState, key_block, inner_message, outer_message, hmac, keyed_state, fed_text}
 use Rattle.ripemd_mac.specs.Worked.{saved_inner, saved_outer}
 use Rattle.ripemd_c.specs.SavedStates.{IsSavedState, IsSavedHmac}
-use Rattle.ripemd_c.specs.Worked.{forged, key, abc}
+use Rattle.ripemd_c.specs.Worked.{forged, key}
 use Rattle.ripemd_c.proofs.Working.{written, refused, not_answered}
 use Rattle.ripemd_c.proofs.facts.worked_states.Goals as goal
 
@@ -53,45 +53,14 @@ start = keyed_state ripemd160.start (compress ripemd160) word_bytes key
 pub returns-clause-states : goal.returns-clause-states
 unfolding registers_after lines_after compress with_padding blocks partial_block hash fed output_and_count core_and_tail
 returns-clause-states c = record {
-  finalized = λ new done does.
-      written refl refl (does.message tt (replicate 64 0x61 ++ 0x62 ∷ [])
+  finalized = λ new done does. written refl refl (does.message tt (replicate 64 0x61 ++ 0x62 ∷ [])
       (record { valid = is_state; saved = refl }));
-  short = λ new done does.
-      refused done (λ fits. absurd (omega (arith, fits))) (does.state after (record { valid = is_state; saved = refl }));
+  short = λ new done does. refused done (λ fits. absurd (omega (arith, fits))) (does.state after (record { valid = is_state; saved = refl }));
   not_finalized = λ new done does. does.refused not_state;
   other_kind = λ new done does. does;
   not_updated = λ piece new done does.
-      let unfit = does.0.refused.1 not_state in (unfit, does.1.unchanged unfit);
-  of128 = λ any first next begun fed init update.
-      let call = rw init.marked at update in
-      let after = call.0.message (new_state ripemd128) [] init.saved in (
-        init.kept,
-        after.0,
-        λ new done does. written refl refl ((rw (call.1.mark ∙ init.marked) at does).message tt abc after.1),
-      );
-  of160 = λ any first next begun fed init update.
-      let call = rw init.marked at update in
-      let after = call.0.message (new_state ripemd160) [] init.saved in (
-        init.kept,
-        after.0,
-        λ new done does. written refl refl ((rw (call.1.mark ∙ init.marked) at does).message tt abc after.1),
-      );
-  of256 = λ any first next begun fed init update.
-      let call = rw init.marked at update in
-      let after = call.0.message (new_state ripemd256) [] init.saved in (
-        init.kept,
-        after.0,
-        λ new done does. written refl refl ((rw (call.1.mark ∙ init.marked) at does).message tt abc after.1),
-      );
-  of320 = λ any first next begun fed init update.
-      let call = rw init.marked at update in
-      let after = call.0.message (new_state ripemd320) [] init.saved in (
-        init.kept,
-        after.0,
-        λ new done does. written refl refl ((rw (call.1.mark ∙ init.marked) at does).message tt abc after.1),
-      );
-  behind = λ first next begun fed init update. (rw init.marked at update).1.behind ∙ init.zeros;
-  unknown = λ old new done does. does;
+      let unfit = does.saved.refused.1 not_state in (unfit, does.unchanged unfit);
+  behind = λ first next begun fed init update. (rw init.marked at update).behind ∙ init.zeros;
 }
 
 pub returns-clause-hmac_states : goal.returns-clause-hmac_states
@@ -111,13 +80,12 @@ returns-clause-hmac_states c =
           (does.message key (codes "Hi There") text).0;
       not_verified = λ some answer does. does.refused no_outer;
       not_updated = λ piece new done does.
-          let unfit = does.0.refused.1 no_outer in (unfit, does.1.unchanged unfit);
+          let unfit = does.saved.refused.1 no_outer in (unfit, does.unchanged unfit);
       tagged = λ any first next begun fed init update.
           let call = rw init.marked at update in
-          let after = call.0.message start [] init.saved in (
+          let after = call.saved.message start [] init.saved in (
             init.kept,
             after.0,
-            λ new done does. written refl refl ((rw (call.1.mark ∙ init.marked) at does).message key (codes "Hi There") after.1),
+            λ new done does. written refl refl ((rw (call.mark ∙ init.marked) at does).message key (codes "Hi There") after.1),
           );
-      unknown = λ old new done does. does;
     }

@@ -1,7 +1,11 @@
-use Rattle.std.proofs.Common.{rules, arith}
-use Rattle.ripemd_c.proofs.SavedStates.{behind_part}
+use Rattle.std.proofs.Common.{ℕ, drop, rules, sym, ap, ◌∙◌}
+use Rattle.std.proofs.lemmas.List.{drop_at, drop-drop}
 use Rattle.ripemd_c.proofs.states.update_kept.Goals as goal
 
 pub returns-clause-behind : goal.returns-clause-behind
 returns-clause-behind g c =
-    behind_part c.args.state.now c.update_saved.new.saved _ c.LEN.result c.LEN.ensures (omega arith) (search rules)
+    let size : ℕ = g.S.Saved.ByteArray.LEN in
+    let parts = c.split_at_mut-saved.ensures in
+    sym (drop-drop size 1 _) ∙ ap (drop size) (drop_at _ _ 1 c.split_at_mut-rest.ensures.front_len)
+    ∙ drop_at _ _ size (search rules) ∙ parts.back ∙ ap (λ (n : ℕ). drop n c.split_at_mut-rest.result.1.now) c.LEN.ensures
+    ∙ ap (drop size) c.split_at_mut-rest.ensures.back ∙ drop-drop size 1 c.args.state.now

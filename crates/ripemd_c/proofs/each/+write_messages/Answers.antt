@@ -1,23 +1,13 @@
-use Rattle.std.proofs.Common.{ℕ, ◌*◌, length, rules, sym, ap, ◌∙◌}
-use Rattle.std.proofs.Math.Nat.{mul_comm}
+use Rattle.std.proofs.Common.{rules, sym, ap, ◌∙◌}
 use Rattle.std.proofs.lemmas.List.{take_at}
 use Rattle.std.proofs.lemmas.List.Folds.{flat_map-map}
 use Rattle.std.specs.List.{flat_map}
 use Rattle.ripemd_batch.specs.Lanes.{made_by, targets}
 use Rattle.ripemd_batch.proofs.Placing.{map_same}
-use Rattle.ripemd_c.proofs.each.write_group.Goals as goal
-
-pub copy_from_slice-requires : goal.copy_from_slice-requires
-copy_from_slice-requires g c =
-    let size : ℕ = g.D.Output.ByteArray.LEN in
-    let count : ℕ = length c.args.messages.now in
-    c.requires.room ∙ mul_comm size count
-    ∙ sym (c.joined.ensures.size
-    ∙ ap (λ xs. length xs * size) (take_at c.hash_each.new.outputs _ _ (search rules))
-    ∙ ap (λ (n : ℕ). n * size) (search rules))
+use Rattle.ripemd_c.proofs.each.+write_messages.Goals as goal
 
 pub returns : goal.returns
-returns g c =
+returns g t c =
     let bytes = g.D.Output.ByteArray.bytes in
     let outputs = c.hash_each.new.outputs in
     c.copy_from_slice.ensures.after ∙ c.joined.ensures.bytes
