@@ -1,9 +1,10 @@
 # What people who install software are used to, over the toolchain's command `rt`.
 #
 #   make               builds the program, proved, as crates/ripemd_sum/out/ripemd_sum
-#   make check         the gate: every proof, every mutant and every test from nothing, and then the
-#                      built program and libraries on their cases
-#   make quick         the proofs and tests, without the mutants and over what earlier runs kept
+#   make check         every proof and every test from nothing: those of the crates, and with pytest those of
+#                      the built program, libraries and packages
+#   make mutants       every mutant, which the prover has to refuse, and each allocation failing in turn
+#   make gate          both
 #   make bench         the program's speed on 256 MiB in memory, beside the library's and that of other
 #                      programs, as a table; then, with a C compiler, the speed of the functions that C
 #                      calls beside those of other libraries; that of lists of messages, at once
@@ -40,43 +41,45 @@ HWCAPS = glibc-hwcaps/x86-64-v3
 AT = $(DESTDIR)$(PREFIX)
 LIBRARIES = $(AT)/$(LIBDIR)
 PAGES = $(AT)/share/man
-# What nattizhu.pc names as the prefix.
-PC_PREFIX = $(PREFIX)
+# What nattizhu.pc names as the prefix, with a backslash before each space.
+PC_PREFIX = $(subst $(subst ,, ),\\ ,$(PREFIX))
 VERSION = $(shell sed -n 's/^\#define NATTIZHU_VERSION "\(.*\)"/\1/p' crates/ripemd_c/nattizhu.h)
 # The functions of nattizhu.h, each of which has a name for the manual page of all.
-FUNCTIONS = $(shell sed -n 's/^function \([^ ]*\) .*/\1/p' tests/interface.txt)
+FUNCTIONS = $(shell sed -n 's/^function \([^ ]*\) .*/\1/p' tests/data/interface.txt)
 # Where the python3 on the path has its modules below a prefix; nothing, where there is none.
 SITE = $(shell python3 -c 'import sys; sys.version_info < (3, 11) or \
   print("lib/python%d.%d/site-packages" % sys.version_info[:2])' 2>/dev/null)
 
-.PHONY: all library wheel dist toolchain prefix check quick bench install install-program install-library \
+.PHONY: all library wheel dist toolchain prefix check mutants gate bench install install-program install-library \
   install-python uninstall clean
 
 # `rt run` proves, builds and then runs the program, here on no input. The libraries are proved first,
 # where they have changed.
 all: toolchain
 	@[ -e $(PROGRAM) ] || echo 'make: proving and building the program: some minutes the first time' >&2
-	@tests/tell $$$$ >&2 & teller=$$!; \
-	(cd crates/ripemd_sum && rt run $(if $(CPU),--cpu $(CPU)) </dev/null >/dev/null); status=$$?; \
-	kill $$teller; exit $$status
+	@cd crates/ripemd_sum && ../../build/tell rt run $(if $(CPU),--cpu $(CPU)) </dev/null >/dev/null
 
 toolchain:
 	@rt version >/dev/null 2>&1 || { echo 'make: the command rt of the Rattle toolchain does not run;' \
 	  'it needs python3' >&2; exit 1; }
 
-check:
-	tests/check rt ci
+check: toolchain
+	@tests/check
 
-quick:
-	tests/check rt all test
+mutants: toolchain
+	@build/tell rt ci
+	@for python in python3 /usr/bin/python3; do \
+	  ! $$python -c 'import pytest' 2>/dev/null || exec $$python -m pytest -q -m mutants; \
+	done; echo 'make: no allocation was made to fail, since there is no pytest (Debian: python3-pytest)'
+
+gate: check mutants
 
 bench: all
 	@echo "Measured on $$(date -u +%F), $$(uname -sr), as built for $(or $(CPU),x86-64-v2)"
 	@awk '/^(model name|flags)/ && !seen[$$1]++' /proc/cpuinfo && echo
 	@cd crates/ripemd_bench && rt run $(if $(CPU),--cpu $(CPU)) </dev/null >/dev/null
-	@tests/bench
-	@tests/linked | tee $(SPEED).txt
-	@! grep -q '^One message' $(SPEED).txt || tests/picture $(SPEED).txt >$(SPEED).svg
+	@bench/bench.py program
+	@! command -v cc >/dev/null || { bench/bench.py library | tee $(SPEED).txt && bench/picture $(SPEED).txt >$(SPEED).svg; }
 	@echo && crates/ripemd_bench/out/ripemd_bench lists
 	@echo && crates/ripemd_bench/out/ripemd_bench blocks
 	@echo && crates/ripemd_bench/out/ripemd_bench pieces
@@ -84,16 +87,16 @@ bench: all
 
 library: toolchain
 	@echo 'make: proving and building the library' >&2
-	@mkdir -p $(BUILT) && tests/library $(or $(CPU),x86-64-v2) x86-64-v3 >$(BUILT)/log 2>&1 || { cat $(BUILT)/log; exit 1; }
-	@tests/shared $(BUILT) $(CPU)
+	@mkdir -p $(BUILT) && build/library $(or $(CPU),x86-64-v2) x86-64-v3 >$(BUILT)/log 2>&1 || { cat $(BUILT)/log; exit 1; }
+	@build/shared $(BUILT) $(CPU)
 
 wheel: library
-	@tests/wheel dist
+	@build/wheel dist
 
 dist:
 	@[ -z '$(CPU)' ] || { echo 'make: packages are for each processor: leave CPU out' >&2; exit 1; }
 	@$(MAKE) --no-print-directory all library
-	@tests/dist dist
+	@build/dist dist
 
 # nattizhu.pc has the prefix in it.
 prefix:
@@ -131,7 +134,7 @@ install-library: prefix
 	cd "$(PAGES)/man3" && for name in $(FUNCTIONS); do ln -sf nattizhu.3 $$name.3; done
 
 install-python: prefix
-	@room=$$(mktemp -d); trap 'rm -rf "$$room"' EXIT; tests/wheel "$$room"; \
+	@room=$$(mktemp -d); trap 'rm -rf "$$room"' EXIT; build/wheel "$$room"; \
 	if [ ! -e "$$room"/*.whl ]; then \
 	  :; \
 	elif [ -n "$(SITE)" ] && python3 -m pip --version >/dev/null 2>&1; then \

@@ -11,6 +11,7 @@ import hmac
 import io
 import mmap
 import os
+import pathlib
 import pickle
 import random
 import signal
@@ -47,40 +48,9 @@ ENVIRONMENT = {**os.environ,
                "PYTHONPATH": os.path.dirname(
                    os.path.dirname(nattizhu.__file__))}
 
-LARGE_KEY = b"Test Using Larger Than Block-Size Key"
 # RFC 2286, sections 2 and 3: key, text and tag.
-RFC_2286 = {
-    "ripemd128": (
-        (b"\x0b" * 16, b"Hi There", "fbf61f9492aa4bbf81c172e84e0734db"),
-        (b"Jefe", b"what do ya want for nothing?",
-         "875f828862b6b334b427c55f9f7ff09b"),
-        (b"\xaa" * 16, b"\xdd" * 50, "09f0b2846d2f543da363cbec8d62a38d"),
-        (bytes(range(1, 26)), b"\xcd" * 50,
-         "bdbbd7cf03e44b5aa60af815be4d2294"),
-        (b"\x0c" * 16, b"Test With Truncation",
-         "e79808f24b25fd031c155f0d551d9a3a"),
-        (b"\xaa" * 80, LARGE_KEY + b" - Hash Key First",
-         "dc732928de98104a1f59d373c150acbb"),
-        (b"\xaa" * 80, LARGE_KEY + b" and Larger Than One Block-Size Data",
-         "5c6bec96793e16d40690c237635f30c5"),
-    ),
-    "ripemd160": (
-        (b"\x0b" * 20, b"Hi There",
-         "24cb4bd67d20fc1a5d2ed7732dcc39377f0a5668"),
-        (b"Jefe", b"what do ya want for nothing?",
-         "dda6c0213a485a9e24f4742064a7f033b43c4069"),
-        (b"\xaa" * 20, b"\xdd" * 50,
-         "b0b105360de759960ab4f35298e116e295d8e7c1"),
-        (bytes(range(1, 26)), b"\xcd" * 50,
-         "d5ca862f4d21d5e610e18b4cf1beb97a4365ecf4"),
-        (b"\x0c" * 20, b"Test With Truncation",
-         "7619693978f91d90539ae786500ff3d8e0518e39"),
-        (b"\xaa" * 80, LARGE_KEY + b" - Hash Key First",
-         "6466ca07ac5eac29e1bd523e5ada7605b791fd8b"),
-        (b"\xaa" * 80, LARGE_KEY + b" and Larger Than One Block-Size Data",
-         "69ea60798d71616cce5fd0871e23754cd75d5a0a"),
-    ),
-}
+with (pathlib.Path(__file__).parents[2] / "tests/data/rfc2286.txt").open() as file:
+    RFC_2286 = [line.split() for line in file if line[0] != "#"]
 
 
 def pieces_of(source, message):
@@ -732,7 +702,8 @@ class States(unittest.TestCase):
                               "0100000000000000") + bytes(64)
         tag = nattizhu.hmac_from_state("ripemd160", inner + outer)
         tag.update(b"There")
-        self.assertEqual(tag.hexdigest(), RFC_2286["ripemd160"][0][2])
+        self.assertEqual(tag.hexdigest(),
+                         "24cb4bd67d20fc1a5d2ed7732dcc39377f0a5668")
 
     def test_another_process(self):
         program = ("import pickle, sys; x = pickle.load(sys.stdin.buffer); "
@@ -761,12 +732,11 @@ class States(unittest.TestCase):
 
 class Tags(unittest.TestCase):
     def test_published(self):
-        for name, lines in RFC_2286.items():
-            for key, text, tag in lines:
-                self.assertEqual(
-                    nattizhu.hmac_digest(key, text, name).hex(), tag)
-                self.assertEqual(
-                    nattizhu.hmac_new(key, text, name).hexdigest(), tag)
+        for variant, key, text, tag in RFC_2286:
+            given = (bytes.fromhex(key), bytes.fromhex(text), "rmd" + variant)
+            self.assertEqual(nattizhu.hmac_digest(*given).hex(), tag)
+            self.assertEqual(nattizhu.hmac_new(*given).hexdigest(), tag)
+        self.assertEqual(len(RFC_2286), 14)
 
     def test_digestmod_of_the_standard_hmac(self):
         source = random.Random(5)
@@ -880,7 +850,7 @@ class Keys(unittest.TestCase):
                                  hashlib.pbkdf2_hmac(*arguments))
 
     def test_other_implementations(self):
-        """The first of each variant in tests/keys.txt."""
+        """The first of each variant in tests/data/keys.txt."""
         wanted = {
             "ripemd128":
                 "756433ef95e294e6cbadabc3e806b755efe460c8400a31cc4f5f2d23"

@@ -8,7 +8,7 @@ use nattizhu::*;
 
 each_variant! { records lists tags_of_records_and_lists wrong_lengths }
 
-/// Each record is one of the messages of `tests/digests-*.txt`, and then each is another.
+/// Each record is one of the messages of `tests/data/digests-*.txt`, and then each is another.
 fn records<D: Ripemd>(bits: usize) {
     for (message, digest) in every_length(bits) {
         for count in [0, 1, 7, 8, 9, 17] {
@@ -27,7 +27,7 @@ fn records<D: Ripemd>(bits: usize) {
     }
 }
 
-/// Lists of the messages of `tests/digests-*.txt`, from each of some places on.
+/// Lists of the messages of `tests/data/digests-*.txt`, from each of some places on.
 fn lists<D: Ripemd>(bits: usize) {
     let messages = [every_length(bits), every_length(bits)].concat();
     for count in [0, 1, 2, 7, 8, 9, 16, 127, 128, 129, 201, 256, 257, 300] {
@@ -43,7 +43,7 @@ fn lists<D: Ripemd>(bits: usize) {
     }
 }
 
-/// The text of `tests/tags.txt` between others.
+/// The text of `tests/data/tags.txt` between others.
 fn tags_of_records_and_lists<D: Ripemd>(bits: usize) {
     let text = ramp(0, 150);
     for (length, tag) in lines_of(bits, "tags.txt") {

@@ -21,7 +21,7 @@ fn state(words: &str, blocks: u8, tail: &[u8]) -> Vec<u8> {
 }
 
 /// After the bytes 0 to 129: LibTomCrypt 1.18.2's words after two blocks, and the tail. The digest of 132
-/// bytes is that of `tests/digests-*.txt`.
+/// bytes is that of `tests/data/digests-*.txt`.
 fn from_outside<D: Ripemd>(bits: usize) {
     let words = match bits {
         128 => "f17a9c1d86490b7f68f333296b25f41f",
@@ -41,7 +41,7 @@ fn from_outside<D: Ripemd>(bits: usize) {
 }
 
 /// Under a key of 20 bytes 1, 2 and so on: LibTomCrypt 1.18.2's words after each masked key. The tag is
-/// that of `tests/tags.txt`.
+/// that of `tests/data/tags.txt`.
 fn hmac_from_outside<D: Ripemd>(bits: usize) {
     let (inner, outer) = match bits {
         128 => (

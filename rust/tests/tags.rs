@@ -29,15 +29,15 @@ fn has_tag<M: Mac + KeyInit + Clone>(key: &[u8], text: &[u8], tag: &[u8]) {
 
 #[test]
 fn published() {
-    for (key, text, tag) in rfc_2286(128) {
-        has_tag::<hmac::SimpleHmac<Ripemd128>>(&key, text, &tag);
-        has_tag::<hmac::Hmac<Ripemd128>>(&key, text, &tag);
-        has_tag::<Hmac<Ripemd128>>(&key, text, &tag);
+    for [key, text, tag] in rfc_2286(128) {
+        has_tag::<hmac::SimpleHmac<Ripemd128>>(&key, &text, &tag);
+        has_tag::<hmac::Hmac<Ripemd128>>(&key, &text, &tag);
+        has_tag::<Hmac<Ripemd128>>(&key, &text, &tag);
     }
-    for (key, text, tag) in rfc_2286(160) {
-        has_tag::<hmac::SimpleHmac<Ripemd160>>(&key, text, &tag);
-        has_tag::<hmac::Hmac<Ripemd160>>(&key, text, &tag);
-        has_tag::<Hmac<Ripemd160>>(&key, text, &tag);
+    for [key, text, tag] in rfc_2286(160) {
+        has_tag::<hmac::SimpleHmac<Ripemd160>>(&key, &text, &tag);
+        has_tag::<hmac::Hmac<Ripemd160>>(&key, &text, &tag);
+        has_tag::<Hmac<Ripemd160>>(&key, &text, &tag);
     }
 }
 

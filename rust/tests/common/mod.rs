@@ -42,22 +42,27 @@ pub fn ramp(first: u8, length: usize) -> Vec<u8> {
     (0..length).map(|i| first.wrapping_add(i as u8)).collect()
 }
 
-/// The lines of a file of the repository's `tests`: numbers, and behind them bytes. The head of each
-/// file says from which implementations these come.
-pub fn lines(file: &str) -> Vec<(Vec<usize>, Vec<u8>)> {
-    let path = format!("{}/../tests/{file}", env!("CARGO_MANIFEST_DIR"));
+/// The words of each line of a file of the repository's `tests/data`. The head of the file says where
+/// they come from.
+fn words(file: &str) -> Vec<Vec<String>> {
+    let path = format!("{}/../tests/data/{file}", env!("CARGO_MANIFEST_DIR"));
     let lines: Vec<_> = read_to_string(&path)
         .unwrap_or_else(|error| panic!("{path}: {error}"))
         .lines()
         .filter(|line| !line.starts_with('#'))
-        .map(|line| {
-            let (numbers, bytes) = line.rsplit_once(' ').unwrap();
-            let numbers = numbers.split(' ').map(|n| n.parse().unwrap());
-            (numbers.collect(), hex(bytes))
-        })
+        .map(|line| line.split(' ').map(String::from).collect())
         .collect();
     assert!(!lines.is_empty());
     lines
+}
+
+/// The lines of such a file: numbers, and behind them bytes.
+pub fn lines(file: &str) -> Vec<(Vec<usize>, Vec<u8>)> {
+    let line = |mut words: Vec<String>| {
+        let bytes = hex(&words.pop().unwrap());
+        (words.iter().map(|n| n.parse().unwrap()).collect(), bytes)
+    };
+    words(file).into_iter().map(line).collect()
 }
 
 /// The lines of such a file that begin with the number of the variant, without it.
@@ -82,44 +87,12 @@ pub fn every_length(bits: usize) -> Vec<(Vec<u8>, Vec<u8>)> {
 }
 
 /// RFC 2286, sections 2 and 3: key, text and tag.
-pub fn rfc_2286(bits: usize) -> Vec<(Vec<u8>, &'static [u8], Vec<u8>)> {
-    const FIRST: &[u8] = b"Test Using Larger Than Block-Size Key - Hash Key First";
-    const LARGER: &[u8] =
-        b"Test Using Larger Than Block-Size Key and Larger Than One Block-Size Data";
-    let tags = match bits {
-        128 => [
-            "fbf61f9492aa4bbf81c172e84e0734db",
-            "875f828862b6b334b427c55f9f7ff09b",
-            "09f0b2846d2f543da363cbec8d62a38d",
-            "bdbbd7cf03e44b5aa60af815be4d2294",
-            "e79808f24b25fd031c155f0d551d9a3a",
-            "dc732928de98104a1f59d373c150acbb",
-            "5c6bec96793e16d40690c237635f30c5",
-        ],
-        160 => [
-            "24cb4bd67d20fc1a5d2ed7732dcc39377f0a5668",
-            "dda6c0213a485a9e24f4742064a7f033b43c4069",
-            "b0b105360de759960ab4f35298e116e295d8e7c1",
-            "d5ca862f4d21d5e610e18b4cf1beb97a4365ecf4",
-            "7619693978f91d90539ae786500ff3d8e0518e39",
-            "6466ca07ac5eac29e1bd523e5ada7605b791fd8b",
-            "69ea60798d71616cce5fd0871e23754cd75d5a0a",
-        ],
-        _ => unreachable!("RFC 2286 has RIPEMD-128 and RIPEMD-160"),
-    };
-    let size = bits / 8;
-    let cases: [(Vec<u8>, &[u8]); 7] = [
-        (vec![0x0b; size], b"Hi There"),
-        (b"Jefe".to_vec(), b"what do ya want for nothing?"),
-        (vec![0xaa; size], &[0xdd; 50]),
-        (ramp(1, 25), &[0xcd; 50]),
-        (vec![0x0c; size], b"Test With Truncation"),
-        (vec![0xaa; 80], FIRST),
-        (vec![0xaa; 80], LARGER),
-    ];
-    cases
-        .into_iter()
-        .zip(tags)
-        .map(|((key, text), tag)| (key, text, hex(tag)))
+pub fn rfc_2286(bits: usize) -> Vec<[Vec<u8>; 3]> {
+    let mut lines = words("rfc2286.txt");
+    lines.retain(|words| words[0] == bits.to_string());
+    assert_eq!(lines.len(), 7);
+    lines
+        .iter()
+        .map(|words| [1, 2, 3].map(|place| hex(&words[place])))
         .collect()
 }

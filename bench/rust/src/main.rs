@@ -1,7 +1,7 @@
 //! The speed of a hasher of RIPEMD-160 beside that of one call of the function in C (`digest_message`), as
 //! a table in Markdown. Each figure is the least of many slices; those of the two columns alternate.
 //!
-//! `cargo run --release --example speed`
+//! `cargo run --release`
 
 use nattizhu::{digest_each, digest_message, Digest, Ripemd160};
 use std::time::Instant;

@@ -2,7 +2,7 @@
 // the machine has, and prints tables in Markdown on standard output.
 //   linked LEVEL=FILE.so..      ours, as built for some levels of processors
 // A function is timed only after its digests were compared with a published one and, at many
-// lengths, with ours, its tags with a published one, and its keys with one of tests/keys.txt and with
+// lengths, with ours, its tags with a published one, and its keys with one of tests/data/keys.txt and with
 // ours. A figure is the best of many slices of some 10 ms, in the thread's processor time. The
 // libraries take turns, and the rounds are outermost: a disturbance of seconds spoils a round of all
 // figures, not all rounds of one. There are more rounds while figures still fall. Below each table
@@ -62,7 +62,7 @@ static const struct {
 } KEYS[] = {{20, 1}, {64, 1}, {192, 1}, {20, PASSWORDS}};
 enum { KEYS_COUNT = sizeof KEYS / sizeof KEYS[0] };
 
-// The key by 3 rounds in tests/keys.txt, from the bytes 1 to 8 with the salt 0 to 7.
+// The key by 3 rounds in tests/data/keys.txt, from the bytes 1 to 8 with the salt 0 to 7.
 static const char DERIVED[] =
     "95948057310ca113412571efb203bbeedcc2555d24d45a8c3cd021a6f714a324fcfa312ef638b48ac59b1e5a0becf0"
     "9f5191a002478e944bc587eb85313e628d26cca0";

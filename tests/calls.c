@@ -1,8 +1,8 @@
-// Tries the functions of nattizhu.h as a caller in C has them, and as one in C++. All memory that is
-// handed over lies against an unmapped page, first behind it and then in front of it, and what a call must
-// not write is looked at. A pointer to no bytes is null, and then to such a page.
-//   c DIRECTORY [VARIANT]      of digests-*.txt, tags.txt and keys.txt, whose lines other implementations
-//                              gave; and 160, for example, if only one variant is to be tried
+// Tries the functions of nattizhu.h as a caller in C has them, and as one in C++. All memory that
+// is handed over lies against an unmapped page, first behind it and then in front of it, and what a
+// call must not write is looked at. A pointer to no bytes is null, and then to such a page.
+//   calls DIRECTORY [VARIANT]  of digests-*.txt, tags.txt, keys.txt and rfc2286.txt, which others
+//                              published or gave; and 160, for example, to try one variant alone
 #include <stdio.h>
 #include <stdlib.h>
 #include <string.h>
@@ -11,7 +11,7 @@
 
 #include "nattizhu.h"
 
-// The most messages of a list. tests/c takes fewer where a checker makes all of it slow.
+// The most messages of a list. tests/test_c.py takes fewer where a checker makes all of it slow.
 #ifndef MOST
 #define MOST 300
 #endif
@@ -31,7 +31,7 @@ static int tried, failed;
 static void check(bool right, const char *what, size_t at) {
   tried++;
   if (!right && failed++ < 10)
-    printf("c: FAILED: %s, RIPEMD-%u, %zu\n", what, (unsigned)v, at);
+    printf("calls: FAILED: %s, RIPEMD-%u, %zu\n", what, (unsigned)v, at);
 }
 
 // ---- memory between unmapped pages
@@ -49,7 +49,7 @@ static void make_rooms(void) {
                                    MAP_PRIVATE | MAP_ANONYMOUS, -1, 0);
     if (all == MAP_FAILED || mprotect(all, page, PROT_NONE) ||
         mprotect(all + page + room_size, page, PROT_NONE)) {
-      perror("c");
+      perror("calls");
       exit(2);
     }
     rooms[i] = all + page;
@@ -134,8 +134,8 @@ static bool call(int kind, nattizhu_variant variant, const input *in, uint8_t *o
   }
 }
 
-// A call has to write these bytes; or, if they are null, to refuse and to write nothing. What it reads
-// stays, of which it has copies.
+// A call has to write these bytes; or, if they are null, to refuse and to write nothing. What it
+// reads stays, of which it has copies.
 static void try_call(nattizhu_variant variant, int kind, const input *in, const uint8_t *wanted,
                      size_t length) {
   const size_t list = in->count * sizeof *in->list, salts = in->salt_count * sizeof *in->salts;
@@ -170,7 +170,8 @@ static input inputs(const uint8_t *key, size_t key_length, const uint8_t *bytes,
   return in;
 }
 
-// Messages of unlike lengths, one behind the other in a room. Empty ones are null or at an unmapped page.
+// Messages of unlike lengths, one behind the other in a room. Empty ones are null or at an unmapped
+// page.
 static void make_list(int room, nattizhu_message *messages, size_t count, size_t least,
                       size_t most) {
   size_t all = 0, at = 0;
@@ -186,8 +187,8 @@ static size_t next_count(size_t count) {
   return count + (count < 20 || (count + 3) % 64 < 6 || count + 11 > MOST ? 1 : 11);
 }
 
-// Digests of lists, and tags under one key, against those of each message alone; and of records, where the
-// messages have one length.
+// Digests of lists, and tags under one key, against those of each message alone; and of records,
+// where the messages have one length.
 static void try_many(void) {
   static const size_t lengths[][2] = {
       {0, 0}, {1, 1}, {64, 64}, {65, 65}, {LONGEST, LONGEST}, {0, 130}, {20, 120}, {0, LONGEST}};
@@ -217,8 +218,8 @@ static void try_many(void) {
     }
 }
 
-// Keys of unlike passwords and salts against those of each alone; none by no rounds, none to an output
-// that is too long, and none where there is a salt too many or too few.
+// Keys of unlike passwords and salts against those of each alone; none by no rounds, none to an
+// output that is too long, and none where there is a salt too many or too few.
 static void try_key_lists(void) {
   static const size_t counts[] = {0, 1, 3, 8, 9, 64, 65, 128, 129, PAIRS};
   const size_t lengths[] = {0, 1, size - 1, size, size + 1, 3 * size + 5};
@@ -293,8 +294,8 @@ static bool ends(const nattizhu_state *state, size_t length) {
   return right;
 }
 
-// The message in two pieces at every cut, and then the state copied and taken on in another place. Bytes
-// behind those that are saved are zeros after init, and no call looks at them.
+// The message in two pieces at every cut, and then the state copied and taken on in another place.
+// Bytes behind those that are saved are zeros after init, and no call looks at them.
 static void try_pieces(void) {
   const size_t saved = 1 + size + 72, rest = STATE_SIZE - saved;
   for (size_t cut = 0; cut <= MESSAGE; cut++) {
@@ -316,8 +317,8 @@ static void try_pieces(void) {
   }
 }
 
-// The rules for the bytes of a state, as docs/C.md has them: for what is saved with digests of so many
-// bytes, for a hash state, and for an HMAC state.
+// The rules for the bytes of a state, as docs/C.md has them: for what is saved with digests of so
+// many bytes, for a hash state, and for an HMAC state.
 static bool is_saved(const uint8_t *saved, size_t digest) {
   const size_t tail = saved[digest + 8];
   return tail < 64 && all_are(saved + digest + 9 + tail, 63 - tail, 0);
@@ -335,8 +336,8 @@ static bool is_hmac_state(const uint8_t *bytes) {
   return bytes[0] >= 128 && is_state(bytes, digest) && is_saved(bytes + 1 + digest + 72, digest);
 }
 
-// Bytes that may be no state: each call takes them exactly if they are one, and writes nothing if they are
-// none. `tag` is that of the state from which they were made.
+// Bytes that may be no state: each call takes them exactly if they are one, and writes nothing if
+// they are none. `tag` is that of the state from which they were made.
 static void try_bytes(const uint8_t *bytes, const uint8_t *tag, size_t at) {
   const bool right = is_state(bytes, bytes[0]), right_hmac = is_hmac_state(bytes);
   nattizhu_state *state = (nattizhu_state *)(void *)copied(STATE, bytes, STATE_SIZE);
@@ -367,8 +368,8 @@ static void try_bytes(const uint8_t *bytes, const uint8_t *tag, size_t at) {
   }
 }
 
-// Zeros; and states of both kinds after some lengths, with each value of the first byte, which has the
-// variant and the kind, and with some values of each other byte.
+// Zeros; and states of both kinds after some lengths, with each value of the first byte, which has
+// the variant and the kind, and with some values of each other byte.
 static void try_states(void) {
   static const uint8_t zeros[HMAC_STATE_SIZE] = {0}, values[] = {0, 63, 64, 255};
   try_bytes(zeros, ramp, 0);
@@ -413,8 +414,8 @@ static void try_saved_hmac(void) {
 
 // ---- what is refused
 
-// Outputs that are up to 40 bytes too short or too long, as those of the other variants are; and by no
-// variant, of any length.
+// Outputs that are up to 40 bytes too short or too long, as those of the other variants are; and by
+// no variant, of any length.
 static void try_refused(nattizhu_variant variant) {
   static const size_t counts[] = {0, 1, 65};
   nattizhu_message list[65];
@@ -455,11 +456,11 @@ static void try_no_variant(void) {
   }
 }
 
-// Records whose length is not their number times their size.
+// Records whose length is not their number times their size: a length, a size and a number.
 static void try_wrong_records(void) {
-  static const size_t wrong[][3] = { // the length, the size and the number
-      {6, 7, 1},  {8, 7, 1},  {0, 7, 1}, {7, 0, 1},
-      {27, 7, 4}, {29, 7, 4}, {7, 7, 0}, {0, SIZE_MAX / 2 + 1, 2}, {2, SIZE_MAX / 3 + 1, 3}};
+  const size_t half = SIZE_MAX / 2 + 1, third = SIZE_MAX / 3 + 1;
+  const size_t wrong[][3] = {{6, 7, 1},  {8, 7, 1}, {0, 7, 1},    {7, 0, 1},    {27, 7, 4},
+                             {29, 7, 4}, {7, 7, 0}, {0, half, 2}, {2, third, 3}};
   for (size_t i = 0; i < sizeof wrong / sizeof wrong[0]; i++)
     for (size_t key = 0; key <= 200; key += 100) {
       input in = inputs(ramp, key, ramp, wrong[i][0]);
@@ -469,8 +470,8 @@ static void try_wrong_records(void) {
     }
 }
 
-// A key of one byte more than 2^32 - 1 digests, in memory that nothing may touch. Then so many messages
-// there that the length of all keys overflows.
+// A key of one byte more than 2^32 - 1 digests, in memory that nothing may touch. Then so many
+// messages there that the length of all keys overflows.
 static void try_too_long(void) {
   const size_t most = (size_t)0xffffffff * size, length = most + 1, count = SIZE_MAX / most + 1;
   const nattizhu_message one = {ramp, 8};
@@ -481,7 +482,7 @@ static void try_too_long(void) {
   uint8_t *key =
       (uint8_t *)mmap(NULL, length, PROT_NONE, MAP_PRIVATE | MAP_ANONYMOUS | MAP_NORESERVE, -1, 0);
   if (key == MAP_FAILED) {
-    printf("c: there are no addresses for a key that is too long\n");
+    printf("calls: there are no addresses for a key that is too long\n");
     return;
   }
   const nattizhu_message *list = (const nattizhu_message *)(void *)key;
@@ -495,7 +496,8 @@ static void try_too_long(void) {
 
 // ---- what others gave
 
-// A tag whole and in two pieces, and verified: as it is, too short or too long, and with each byte wrong.
+// A tag whole and in two pieces, and verified: as it is, too short or too long, and with each byte
+// wrong.
 static void try_tag(const input *in, uint8_t *tag) {
   const size_t third = in->length / 3, more = in->length - third, whole = in->length / 64;
   uint8_t *bytes = output(STATE, HMAC_STATE_SIZE), *outer = bytes + 1 + size + 72;
@@ -528,8 +530,20 @@ static void try_tag(const input *in, uint8_t *tag) {
   check(right && holds(STATE, &kept, HMAC_STATE_SIZE), "a tag in pieces", in->key_length);
 }
 
-// The lines of a file about the variant. Keys and passwords are the bytes 1, 2 and so on. Each key is tried
-// with the empty text too.
+// A file of the directory, which has to be there.
+static FILE *opened(const char *directory, const char *name) {
+  char path[4096];
+  snprintf(path, sizeof path, "%s/%s", directory, name);
+  FILE *file = fopen(path, "r");
+  if (!file) {
+    perror(path);
+    exit(2);
+  }
+  return file;
+}
+
+// The lines of a file about the variant. Keys and passwords are the bytes 1, 2 and so on. Each key
+// is tried with the empty text too.
 static void try_file(const char *directory, const char *name, int kind) {
   enum { TIMES = 9 };
   char line[4096], digits[900];
@@ -538,12 +552,7 @@ static void try_file(const char *directory, const char *name, int kind) {
   size_t length, salt, lines = 0;
   for (int i = 0; i < 255; i++)
     key[i] = (uint8_t)(i + 1);
-  snprintf(line, sizeof line, "%s/%s", directory, name);
-  FILE *file = fopen(line, "r");
-  if (!file) {
-    perror(line);
-    exit(2);
-  }
+  FILE *file = opened(directory, name);
   while (fgets(line, sizeof line, file)) {
     if (!(kind == DIGEST ? sscanf(line, "%zu %99s", &length, digits) == 2 && length <= MESSAGE
           : kind == HMAC
@@ -578,41 +587,24 @@ static void try_file(const char *directory, const char *name, int kind) {
   check(lines >= (kind == DIGEST ? MESSAGE + 1 : 5), name, lines);
 }
 
-// RFC 2286, sections 2 and 3. A key and a text are these letters, again and again to their length.
-static void try_published(void) {
-  static const struct {
-    const char *key;
-    size_t key_length; // 0: that of a digest
-    const char *text;
-    size_t length;
-    const char *by_128, *by_160;
-  } cases[] = {
-      {"\x0b", 0, "Hi There", 8, "fbf61f9492aa4bbf81c172e84e0734db",
-       "24cb4bd67d20fc1a5d2ed7732dcc39377f0a5668"},
-      {"Jefe", 4, "what do ya want for nothing?", 28, "875f828862b6b334b427c55f9f7ff09b",
-       "dda6c0213a485a9e24f4742064a7f033b43c4069"},
-      {"\xaa", 0, "\xdd", 50, "09f0b2846d2f543da363cbec8d62a38d",
-       "b0b105360de759960ab4f35298e116e295d8e7c1"},
-      {"\1\2\3\4\5\6\7\10\11\12\13\14\15\16\17\20\21\22\23\24\25\26\27\30\31", 25, "\xcd", 50,
-       "bdbbd7cf03e44b5aa60af815be4d2294", "d5ca862f4d21d5e610e18b4cf1beb97a4365ecf4"},
-      {"\x0c", 0, "Test With Truncation", 20, "e79808f24b25fd031c155f0d551d9a3a",
-       "7619693978f91d90539ae786500ff3d8e0518e39"},
-      {"\xaa", 80, "Test Using Larger Than Block-Size Key - Hash Key First", 54,
-       "dc732928de98104a1f59d373c150acbb", "6466ca07ac5eac29e1bd523e5ada7605b791fd8b"},
-      {"\xaa", 80, "Test Using Larger Than Block-Size Key and Larger Than One Block-Size Data", 73,
-       "5c6bec96793e16d40690c237635f30c5", "69ea60798d71616cce5fd0871e23754cd75d5a0a"},
-  };
-  for (size_t i = 0; i < sizeof cases / sizeof cases[0]; i++) {
-    uint8_t key[80], text[80], tag[MAX + 1] = {0};
-    for (size_t k = 0; k < 80; k++) {
-      key[k] = (uint8_t)cases[i].key[k % strlen(cases[i].key)];
-      text[k] = (uint8_t)cases[i].text[k % strlen(cases[i].text)];
+// The lines of RFC 2286 about the variant: a key, a text and a tag, in hexadecimal.
+static void try_published(const char *directory) {
+  char line[512], key_digits[200], text_digits[200], tag_digits[200];
+  uint8_t key[100], text[100], tag[100] = {0};
+  unsigned bits;
+  size_t lines = 0;
+  FILE *file = opened(directory, "rfc2286.txt");
+  while (fgets(line, sizeof line, file))
+    if (sscanf(line, "%u %199s %199s %199s", &bits, key_digits, text_digits, tag_digits) == 4 &&
+        bits == (unsigned)v) {
+      const size_t key_length = from_hex(key_digits, key);
+      const input in = inputs(key, key_length, text, from_hex(text_digits, text));
+      check(from_hex(tag_digits, tag) == size, "the length of a published tag", lines);
+      try_tag(&in, tag);
+      lines++;
     }
-    const input in =
-        inputs(key, cases[i].key_length ? cases[i].key_length : size, text, cases[i].length);
-    from_hex(v == NATTIZHU_RIPEMD128 ? cases[i].by_128 : cases[i].by_160, tag);
-    try_tag(&in, tag);
-  }
+  fclose(file);
+  check(lines == (size <= 20 ? 7 : 0), "published tags", lines);
 }
 
 int main(int argc, char **argv) {
@@ -632,8 +624,7 @@ int main(int argc, char **argv) {
     try_file(argv[1], digests, DIGEST);
     try_file(argv[1], "tags.txt", HMAC);
     try_file(argv[1], "keys.txt", PBKDF2);
-    if (size <= 20)
-      try_published();
+    try_published(argv[1]);
     if (size == 20)
       try_saved_hmac();
     try_many();
@@ -652,6 +643,6 @@ int main(int argc, char **argv) {
             nattizhu_hmac_state_size() == sizeof(nattizhu_hmac_state),
         "the sizes of states", 0);
   check(!strcmp(nattizhu_version(), NATTIZHU_VERSION), "the version", 0);
-  printf("c: %d of %d cases as expected\n", tried - failed, tried);
+  printf("calls: %d of %d cases as expected\n", tried - failed, tried);
   return failed != 0;
 }

@@ -1,36 +1,4 @@
-#!/usr/bin/env bash
-# Measures the functions of crates/ripemd_c, as callers in C have them, beside those of librhash,
-# libgcrypt, libavutil, libnettle and libcrypto, whichever the machine has (tests/linked.c). Ours are
-# built for the toolchain's default level of processors, and for x86-64-v3 where this processor has it.
-# Then, with python3, those of calls from Python beside those of hashlib and hmac. Tables on standard output,
-# in about a minute; the first time the crates are proved before.
-#   tests/linked
-set -u
-cd "$(dirname "$0")/.." || exit 2
-if ! command -v cc >/dev/null; then
-  echo 'There is no C compiler, and so there are no figures of the functions.'
-  exit
-fi
-room=$(mktemp -d)
-trap 'rm -rf "$room"' EXIT
-if ! { tests/library && tests/shared "$room"; } >"$room/log" 2>&1; then
-  cat "$room/log" >&2
-  exit 1
-fi
-built=("x86-64-v2=$room/libnattizhu.so.0")
-if /lib64/ld-linux-x86-64.so.2 --help | grep -q 'x86-64-v3 (supported'; then
-  built=("x86-64-v3=$room/glibc-hwcaps/x86-64-v3/libnattizhu.so.0" "${built[@]}")
-else
-  echo 'This processor has no AVX2: the figures are for x86-64-v2 alone.'
-fi
-
-cc -O2 -Wall -o "$room/linked" tests/linked.c -ldl || exit 1
-"$room/linked" "${built[@]}"
-
-tests/wheel "$room" "$room" >/dev/null || exit 0
-command -v python3 >/dev/null && python3 -m pip install --quiet --no-deps --no-index \
-  --disable-pip-version-check --target "$room/site" "$room"/nattizhu-*.whl 2>/dev/null || exit 0
-PYTHONPATH=$room/site PYTHONDONTWRITEBYTECODE=1 python3 - <<'END'
+"""The speed of calls from Python beside those of hashlib and hmac, as a table in Markdown."""
 import hashlib
 import hmac
 import threading
@@ -92,4 +60,3 @@ row("8,192 records of 32 bytes", "ns each", lambda: nattizhu.digest_each("ripemd
     None, 1, lambda ns: round(ns / 8192))
 print("| 64 MiB by each of four threads, of the time of one |", four_threads(nattizhu.ripemd160), "|",
       four_threads(lambda data: hashlib.new("ripemd160", data)) if THERE else "", "| |")
-END

@@ -1,0 +1,120 @@
+"""What the tests of what is built share: commands, the programs of a page, and the library, which is built
+and installed once."""
+import fcntl
+import os
+import pathlib
+import re
+import shutil
+import subprocess
+
+import pytest
+
+ROOT = pathlib.Path(__file__).resolve().parent.parent
+DATA = ROOT / "tests/data"
+BUILT = ROOT / "crates/ripemd_c/out"
+PROGRAM = ROOT / "crates/ripemd_sum/out/ripemd_sum"
+
+# The digest of "abc" by RIPEMD-160.
+ABC = "8eb208f7e05d987a9b044a8e98c6b087f15a0bfc"
+
+# Commands run without what a caller of make or Python may have set.
+ENVIRONMENT = {name: value for name, value in os.environ.items()
+               if not re.match("MAKE|MFLAGS|PYTHONPATH|PYTHONHOME|PYTEST|LIBNATTIZHU|NATTIZHU|PKG_CONFIG|"
+                               "RUST(?!UP)|LD_LIBRARY_PATH|GLIBC_TUNABLES|SOURCE_DATE_EPOCH", name)}
+ENVIRONMENT["PYTHONDONTWRITEBYTECODE"] = "1"
+
+
+def run(*command, status=0, env=None, cwd=ROOT, text=True, **options):
+    """Runs a command, which has to end with this status, and returns what it printed."""
+    if "input" not in options:
+        options.setdefault("stdin", subprocess.DEVNULL)
+    ended = subprocess.run([str(word) for word in command], cwd=cwd, env={**ENVIRONMENT, **(env or {})},
+                           stdout=subprocess.PIPE, stderr=subprocess.PIPE, text=text, check=False, **options)
+    if status is not None and ended.returncode != status:
+        pytest.fail(f"{' '.join(map(str, command))}\nended with {ended.returncode}, not {status}\n"
+                    f"{ended.stdout}\n{ended.stderr}", pytrace=False)
+    return ended
+
+
+def need(tool, package=None):
+    """The tests that ask for it are left out where the machine has no such tool."""
+    if shutil.which(tool) is None:
+        pytest.skip(f"there is no {tool}" + (f" (Debian's {package})" if package else ""))
+
+
+def lines(name):
+    """The words of each line of a file of tests/data."""
+    return [line.split() for line in (DATA / name).read_text("utf-8").splitlines() if line[:1] not in ("", "#")]
+
+
+def fences(page):
+    """The blocks of a page of Markdown between fences: pairs of a language and a text."""
+    return re.findall(r"^```(\w+)\n(.*?)^```$", (ROOT / page).read_text("utf-8"), re.MULTILINE | re.DOTALL)
+
+
+def programs(page, language):
+    """The programs of a page in this language, each with the text that stands below it, which it prints."""
+    blocks = fences(page)
+    return [(text, following[1] if following[0] == "text" else None)
+            for (name, text), following in zip(blocks, [*blocks[1:], ("", "")]) if name == language]
+
+
+def version():
+    """The version that nattizhu.h names."""
+    header = (ROOT / "crates/ripemd_c/nattizhu.h").read_text("utf-8")
+    return re.search(r'^#define NATTIZHU_VERSION "(.*)"$', header, re.MULTILINE)[1]
+
+
+@pytest.fixture(scope="session")
+def once(tmp_path_factory):
+    """Does something in a folder once for all processes that run the tests (pytest-xdist), and returns the
+    folder."""
+    shared = tmp_path_factory.getbasetemp()
+    if "PYTEST_XDIST_WORKER" in os.environ:
+        shared = shared.parent
+
+    def do(name, action):
+        with (shared / f"{name}.lock").open("w") as lock:
+            fcntl.flock(lock, fcntl.LOCK_EX)
+            if not (shared / f"{name}.done").exists():
+                action(shared / name)
+                (shared / f"{name}.done").touch()
+        return shared / name
+
+    return do
+
+
+@pytest.fixture(scope="session")
+def library(once):
+    """The folder of the libraries for C, which build/library and build/shared make."""
+    need("cc", "gcc")
+
+    def build(_):
+        run("build/library")
+        run("build/shared", BUILT)
+
+    once("library", build)
+    return BUILT
+
+
+@pytest.fixture(scope="session")
+def program():
+    """The program ripemd_sum, which `rt ci` and `make` build."""
+    if not PROGRAM.exists():
+        pytest.skip("ripemd_sum is not built (make)")
+    return PROGRAM
+
+
+@pytest.fixture(scope="session")
+def prefix(library, once):
+    """A folder into which `make install` copied what is built."""
+    parts = ["install-library", "install-python", *(["install-program"] if PROGRAM.exists() else [])]
+    return once("prefix", lambda folder: run("make", *parts, f"PREFIX={folder}", "DESTDIR="))
+
+
+def site(prefix):
+    """The folder of Python's packages below a prefix; the test is left out where there is none."""
+    found = list(prefix.glob("lib/python3.*/site-packages"))
+    if not found:
+        pytest.skip("the package for Python is not built (Debian's python3-dev, python3-setuptools, python3-wheel)")
+    return found[0]

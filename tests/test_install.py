@@ -1,0 +1,63 @@
+"""Tries what `make install` copies, as a program in C finds it, and `make uninstall`."""
+import os
+import shlex
+import shutil
+
+import pytest
+from conftest import ABC, need, run
+
+SOURCE = r"""
+#include <nattizhu.h>
+#include <stdio.h>
+
+int main(void) {
+  uint8_t digest[NATTIZHU_RIPEMD160_SIZE];
+  if (!nattizhu_digest(NATTIZHU_RIPEMD160, (const uint8_t *)"abc", 3, digest, sizeof digest))
+    return 1;
+  for (size_t i = 0; i < sizeof digest; i++)
+    printf("%02x", digest[i]);
+}
+"""
+
+
+@pytest.fixture(name="source")
+def fixture_source(tmp_path):
+    (tmp_path / "example.c").write_text(SOURCE)
+    return tmp_path / "example.c"
+
+
+def test_program(program, prefix):
+    assert run(prefix / "bin/ripemd_sum", input="abc").stdout == ABC + "\n"
+
+
+def by_pkg_config(prefix, source):
+    flags = run("pkg-config", "--cflags", "--libs", "nattizhu", env={"PKG_CONFIG_PATH": prefix / "lib/pkgconfig"}).stdout
+    run("cc", "-o", source.with_suffix(""), source, *shlex.split(flags))
+    assert run(source.with_suffix(""), env={"LD_LIBRARY_PATH": prefix / "lib"}).stdout == ABC
+
+
+def test_pkg_config(prefix, source):
+    need("pkg-config", "pkg-config")
+    by_pkg_config(prefix, source)
+
+
+def test_space_in_the_prefix(library, source, tmp_path):
+    need("pkg-config", "pkg-config")
+    run("make", "install-library", f"PREFIX={tmp_path / 'a prefix'}", "DESTDIR=")
+    by_pkg_config(tmp_path / "a prefix", source)
+
+
+def test_static_library(prefix, source):
+    run("cc", "-o", source.with_suffix(""), "-I", prefix / "include", source, prefix / "lib/libnattizhu.a")
+    assert run(source.with_suffix("")).stdout == ABC
+
+
+def test_exported_names(prefix):
+    names = [line.split()[-1] for line in run("nm", "-D", "--defined-only", prefix / "lib/libnattizhu.so").stdout.splitlines()]
+    assert names and all(name.startswith("nattizhu_") for name in names)
+
+
+def test_uninstall(prefix, tmp_path):
+    shutil.copytree(prefix, tmp_path / "prefix", symlinks=True)
+    run("make", "uninstall", f"PREFIX={tmp_path / 'prefix'}", "DESTDIR=")
+    assert [files for _, _, files in os.walk(tmp_path / "prefix") if files] == []

@@ -1,0 +1,184 @@
+"""Tries what `make dist` makes, and uses it in a fresh Debian that has a C compiler, pkg-config and python3, and no
+toolchain. Without root or debootstrap, the archive and the wheel are used on this machine."""
+import concurrent.futures
+import os
+import platform
+import re
+import shutil
+
+import pytest
+from conftest import ABC, ROOT, need, programs, run, version
+
+ARCHIVE = f"nattizhu-{version()}-linux-x86_64"
+# For each file, the version of the C library that it needs by docs/PACKAGES.md.
+OLDEST = dict(re.findall(r"^\| `([^`]+)`[^|]* \| ([0-9.]+) \|$", (ROOT / "docs/PACKAGES.md").read_text("utf-8"), re.M))
+# For each build of the shared library, what the loader is told of the processor so that it takes this one.
+BUILDS = {"x86-64-v2": "-AVX2", "x86-64-v3": ""}
+
+
+def bootstrap(folder):
+    """Makes a fresh Debian in a folder."""
+    if os.geteuid() != 0:
+        pytest.skip("debootstrap needs root")
+    need("debootstrap", "debootstrap")
+    made = run("debootstrap", "--variant=minbase", "--include=gcc,libc6-dev,pkg-config,python3,python3-venv",
+               platform.freedesktop_os_release()["VERSION_CODENAME"], folder, status=None)
+    if made.returncode != 0:
+        pytest.skip("there is no fresh Debian: " + (made.stdout + made.stderr).strip().rpartition("\n")[2])
+
+
+@pytest.fixture(name="debian", scope="session", autouse=True)
+def fixture_debian(request, library, program, once):
+    """The root of a fresh Debian, which is made while other tests run, if one of those that are to run uses it."""
+    used = any("shell" in test.fixturenames for test in request.session.items)
+    with concurrent.futures.ThreadPoolExecutor() as pool:
+        root = used and pool.submit(once, "debian", bootstrap)
+        yield root
+    if used and not root.exception() and "PYTEST_XDIST_WORKER" not in os.environ:  # other workers may still use it
+        run("rm", "-rf", "--one-file-system", root.result())
+
+
+@pytest.fixture(name="dist", scope="module")
+def fixture_dist(library, program, once):
+    return once("dist", lambda folder: run("build/dist", folder))
+
+
+@pytest.fixture(name="again", scope="module")
+def fixture_again(dist, once):
+    """What build/dist makes of the same tree and of what is built, copied to another folder."""
+    copy = """mkdir -p "$0" && { git ls-files -z --cached --others --exclude-standard &&
+      find .git crates/ripemd_c/out/{lib,glibc}* crates/ripemd_sum/out/ripemd_sum -type f -print0; } |
+      xargs -0 cp --parents -t "$0"; "$0/build/dist" "$0/dist" """
+    return once("again", lambda folder: run("bash", "-c", copy, folder)) / "dist"
+
+
+@pytest.fixture(name="debs", scope="module")
+def fixture_debs(dist):
+    return list(dist.glob("*.deb")) or pytest.skip("there are no packages (Debian's dpkg-dev, debhelper, dh-python)")
+
+
+@pytest.fixture(name="files", scope="module")
+def fixture_files(dist, tmp_path_factory):
+    """What is in the archive and in the wheel."""
+    folder = tmp_path_factory.mktemp("unpacked")
+    for archive in [dist / f"{ARCHIVE}.tar.gz", *dist.glob("*.whl")]:
+        shutil.unpack_archive(archive, folder, "zip" if archive.suffix == ".whl" else "gztar")
+    return [path for path in folder.rglob("*") if path.is_file() and not path.is_symlink()]
+
+
+def test_same_bytes_from_another_folder(dist, again):
+    run("diff", "-r", dist, again)
+
+
+def test_digests_of_the_files(dist):
+    run("sha256sum", "--quiet", "-c", "SHA256SUMS", cwd=dist)
+    assert sorted(["SHA256SUMS", *(dist / "SHA256SUMS").read_text().split()[1::2]]) == sorted(os.listdir(dist))
+
+
+def test_lintian(debs):
+    need("lintian", "lintian")
+    run("lintian", "--fail-on", "error", "--allow-root", *debs)
+
+
+def test_names_of_programs_libraries_and_pages(files):
+    names = {path.name for path in files if ".so" in path.name or path.parent.name == "bin"}
+    assert names | {"_nattizhu.abi3.so"} == set(OLDEST)
+    assert sorted(path.name for path in files if path.parts[-3] == "man") == ["nattizhu.3", "ripemd_sum.1"]
+
+
+@pytest.mark.parametrize("name", OLDEST)
+def test_oldest_c_library(files, name):
+    need("objdump", "binutils")
+    named = [path for path in files if path.name == name] or pytest.skip(f"there is no {name}")
+    versions = re.findall(r"\bGLIBC_([0-9.]+)", run("objdump", "-T", *named).stdout)
+    assert all([*map(int, text.split("."))] <= [*map(int, OLDEST[name].split("."))] for text in versions)
+
+
+@pytest.mark.parametrize("name", ["nattizhu.3", "ripemd_sum.1"])
+def test_manual_page(files, name):
+    need("man", "man-db")
+    shown = run("man", "--warnings", "-l", *(path for path in files if path.name == name))
+    assert shown.stderr == "" and f"nattizhu {version()}" in shown.stdout
+
+
+@pytest.fixture(name="shell", scope="module")
+def fixture_shell(debian, dist, tmp_path_factory):
+    """Runs a command in the fresh Debian, or here, beside the files of `dist` and the first programs of the pages."""
+    root = tmp_path_factory.mktemp("here") if debian.exception() else debian.result()
+    folder = shutil.copytree(dist, root / f"a folder/{os.getpid()}", dirs_exist_ok=True)
+    (folder / "first.c").write_text(programs("docs/C.md", "c")[0][0])
+    (folder / "first.py").write_text(programs("docs/PYTHON.md", "python")[0][0] + "print(hasher.hexdigest())\n")
+    enter = ["chroot", root, "env", "-i", "-C", f"/a folder/{os.getpid()}", "PATH=/usr/sbin:/usr/bin:/sbin:/bin",
+             "HOME=/root", "LC_ALL=C.UTF-8", "DEBIAN_FRONTEND=noninteractive"] if not debian.exception() else []
+
+    def inside(command, lacking=None):
+        ended = run(*enter, "bash", "-c", command, cwd=folder, status=None if lacking else 0)
+        return pytest.skip(f"there is no {lacking}") if ended.returncode else ended.stdout
+
+    inside(f"tar -xf {ARCHIVE}.tar.gz")
+    return inside
+
+
+def newest():
+    """The build that the loader takes on this processor."""
+    said = run("/lib64/ld-linux-x86-64.so.2", "--help", status=None).stdout
+    return "x86-64-v3" if "x86-64-v3 (supported" in said else "x86-64-v2"
+
+
+def uses_shared_library(shell, build, libraries, flags, environment=""):
+    """The first program of docs/C.md, compiled with these flags, takes this build from this folder."""
+    environment += f" GLIBC_TUNABLES=glibc.cpu.hwcaps={BUILDS[build]}"
+    assert shell(f"eval cc -o first first.c {flags} && {environment} ./first") == ABC + "\n"
+    taken = re.findall(r"calling init: (.*/libnattizhu\.so\.0.*)", shell(f"{environment} LD_DEBUG=libs ./first 2>&1"))
+    place = {"x86-64-v2": libraries, "x86-64-v3": f"{libraries}/glibc-hwcaps/x86-64-v3"}[build]
+    assert len(taken) == 1 and taken[0].endswith(f"/{place}/libnattizhu.so.0")
+
+
+def test_program_of_the_archive(shell):
+    assert shell(f"printf abc | {ARCHIVE}/bin/ripemd_sum") == ABC + "\n"
+
+
+def test_static_library_of_the_archive(shell):
+    assert shell(f"cc -o first -I {ARCHIVE}/include first.c {ARCHIVE}/lib/libnattizhu.a && ./first") == ABC + "\n"
+
+
+@pytest.mark.parametrize("build", BUILDS)
+def test_shared_library_of_the_archive(shell, build):
+    if build > newest():
+        pytest.skip(f"the loader takes no build for {build} here")
+    shell("command -v pkg-config", lacking="pkg-config (Debian's pkg-config)")
+    flags = f'$(PKG_CONFIG_PATH="$PWD/{ARCHIVE}/lib/pkgconfig" pkg-config --cflags --libs nattizhu)'
+    uses_shared_library(shell, build, f"{ARCHIVE}/lib", flags, f'LD_LIBRARY_PATH="$PWD/{ARCHIVE}/lib"')
+
+
+@pytest.fixture(name="python", scope="module")
+def fixture_python(shell):
+    """The interpreter of a fresh environment with the wheel and nothing else."""
+    shell("ls *.whl", lacking="wheel (Debian's python3-dev, python3-pip, python3-setuptools, python3-wheel)")
+    shell("python3 -c 'import ensurepip'", lacking="ensurepip (Debian's python3-venv)")
+    shell("python3 -m venv env && env/bin/pip install --no-index --disable-pip-version-check ./*.whl")
+    return "env/bin/python"
+
+
+def test_first_program_with_the_wheel(shell, python):
+    assert shell(f"{python} first.py") == ABC + "\n"
+
+
+def test_build_that_the_wheel_takes(shell, python):
+    assert shell(f"{python} -c 'import nattizhu._nattizhu as n; print(n._level)'") == newest() + "\n"
+
+
+def test_debian_packages(debian, shell, debs):
+    """Installed, used, and removed, after which nothing is left but what apt and dpkg note about themselves."""
+    debian.result()
+    files = "find / -xdev -regextype awk -regex '/(a folder|tmp|proc|var/(cache|lib/(apt|dpkg)|log))' -prune -o -print"
+    before = sorted(shell(files).split("\n"))
+    shell("apt-get -y install ./*.deb")
+    try:
+        assert shell("printf abc | ripemd_sum") == ABC + "\n"
+        for build in sorted({"x86-64-v2", newest()}):
+            uses_shared_library(shell, build, "lib/x86_64-linux-gnu", "$(pkg-config --cflags --libs nattizhu)")
+        assert shell("python3 first.py") == ABC + "\n"
+    finally:
+        shell("apt-get -y purge " + " ".join(deb.name.split("_")[0] for deb in debs))
+    assert sorted(shell(files).split("\n")) == before

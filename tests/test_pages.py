@@ -1,0 +1,42 @@
+"""Compares the pages with what they speak of."""
+import re
+
+import pytest
+from conftest import ROOT, fences, run, version
+
+# The examples of these pages, and the contracts that they quote, stand in files that are proved.
+USES = "crates/ripemd_uses"
+PROVED = {
+    "crates/ripemd_block/README.md": [f"{USES}/src/block.rt"],
+    "crates/ripemd/README.md": [f"{USES}/src/readme.rt"],
+    "crates/ripemd_batch/README.md": [f"{USES}/src/batch.rt"],
+    "crates/ripemd_batch/CALLING.md": [f"{USES}/src/batch.rt"],
+    "crates/ripemd/CALLING.md": [f"{USES}/src/calling.rt", "crates/ripemd/src/digest.rt",
+                                 f"{USES}/proofs/calling/digest_of_reader/Invariants.antt"],
+    "crates/ripemd/BLOCK_FUNCTIONS.md": [f"{USES}/src/calling.rt", f"{USES}/src/commands.rt"],
+    "crates/ripemd_mac/CALLING.md": [f"{USES}/src/tags.rt"],
+}
+
+# What names the version beside nattizhu.h, from which everything else has it.
+VERSIONS = {
+    "rust/Cargo.toml": r'^version = "(.*)"$',
+    "CHANGELOG.md": r"^## (.*)$",
+    "debian/changelog": r"^nattizhu \((.*)-[0-9]*\) ",
+}
+
+
+@pytest.mark.parametrize("page", PROVED)
+def test_examples_are_those_that_are_proved(page):
+    examples = [text for language, text in fences(page) if language in ("rust", "antt")]
+    proved = [(ROOT / file).read_text("utf-8") for file in PROVED[page]]
+    assert examples
+    assert [example for example in examples if not any(example in text for text in proved)] == []
+
+
+@pytest.mark.parametrize("file", VERSIONS)
+def test_version(file):
+    assert re.search(VERSIONS[file], (ROOT / file).read_text("utf-8"), re.MULTILINE)[1] == version()
+
+
+def test_picture_is_that_of_the_tables():
+    assert run("bench/picture", "docs/PERFORMANCE.md").stdout == (ROOT / "docs/speed.svg").read_text("utf-8")

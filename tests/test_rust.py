@@ -1,0 +1,131 @@
+"""Tries the crate for Rust: its tests and the examples of its documentation, clippy, rustfmt and rustdoc, how its
+build finds the library, and the programs of docs/RUST.md. Other crates are Debian's: nothing is downloaded."""
+import os
+import pathlib
+import shutil
+
+import pytest
+from conftest import DATA, ROOT, fences, need, programs, run
+
+REGISTRY = pathlib.Path("/usr/share/cargo/registry")
+PACKAGES = {"clippy": "rust-clippy", "fmt": "rustfmt"}
+PAGE = "docs/RUST.md"
+# What each program of the page prints.
+PRINTED = {f"program-{number}": text for number, (_, text) in enumerate(programs(PAGE, "rust"), 1)}
+# The one that keeps a state in a file.
+PIECES = "program-2"
+
+
+def need_cargo(package, *command):
+    """As `need`, for cargo and its commands: rustup has their names, which then fail, where it did not install them."""
+    need("cargo", package)
+    if run("cargo", *command, "--version", status=None).returncode != 0:
+        pytest.skip(f"there is no {' '.join(['cargo', *command])} (Debian's {package})")
+
+
+@pytest.fixture(scope="module", name="cargo")
+def fixture_cargo(once):
+    """Runs cargo in a folder. All that it builds lies in one place, so that nothing is compiled twice. pkg-config
+    finds nothing, unless it is told where."""
+    need("cc", "gcc")
+    need_cargo("cargo")
+    for name, version in [("digest", "0.10"), ("hmac", "0.12"), ("pbkdf2", "0.11")]:
+        if not any(REGISTRY.glob(f"{name}-{version}.*")):
+            pytest.skip(f"there is no crate {name} {version} in {REGISTRY} (Debian's librust-{name}-dev)")
+
+    def configure(folder):
+        folder.mkdir()
+        (folder / "config.toml").write_text(
+            f'net.offline = true\nsource.crates-io.replace-with = "debian"\nsource.debian.directory = "{REGISTRY}"\n')
+
+    home = once("cargo", configure)
+    settings = {name: value for name, value in os.environ.items() if name.startswith("RUSTUP_")}
+    settings |= {"CARGO_HOME": str(home), "CARGO_TARGET_DIR": str(home / "target"), "CARGO_TERM_COLOR": "never",
+                 "RUSTDOCFLAGS": "-D warnings", "PKG_CONFIG_LIBDIR": str(home)}
+
+    def runs(folder, *words, env=None, **options):
+        return run("cargo", *words, cwd=folder, env={**settings, **(env or {})}, **options)
+
+    return runs
+
+
+def copy_crate(folder):
+    """Copies the crate into a folder, and returns where it is."""
+    return shutil.copytree(ROOT / "rust", folder / "rust", ignore=shutil.ignore_patterns("target", "Cargo.lock"))
+
+
+@pytest.fixture(scope="module", name="crate")
+def fixture_crate(library, once):
+    """A copy of the crate, with the library where the repository has it."""
+
+    def copy(folder):
+        copy_crate(folder)
+        shutil.copytree(DATA, folder / "tests/data")
+        (folder / "crates/ripemd_c/out").mkdir(parents=True)
+        for archive in library.glob("*.a"):
+            shutil.copy(archive, folder / "crates/ripemd_c/out")
+
+    return once("crate", copy) / "rust"
+
+
+@pytest.fixture(scope="module", name="page")
+def fixture_page(cargo, prefix, once):
+    """Runs a program of the page. Each Cargo.toml of the page begins a project with the programs below it, whose build
+    asks pkg-config for the library."""
+    need("pkg-config", "pkgconf")
+
+    def write(folder):
+        copy_crate(folder / "nattizhu")
+        names = iter(PRINTED)
+        for number, (language, text) in enumerate(fences(PAGE)):
+            if language == "toml":
+                project = folder / f"project-{number}"
+                (project / "src/bin").mkdir(parents=True)
+                (project / "Cargo.toml").write_text(
+                    f'[package]\nname = "{project.name}"\nedition = "2021"\nversion = "0.1.0"\n\n{text}')
+            elif language == "rust":
+                (project / f"src/bin/{next(names)}.rs").write_text(text)
+
+    projects = once("projects", write)
+
+    def runs(name, *words, **options):
+        [source] = projects.glob(f"*/src/bin/{name}.rs")
+        return cargo(source.parent, "run", "--bin", name, "--", *words,
+                     env={"PKG_CONFIG_PATH": str(prefix / "lib/pkgconfig")}, **options)
+
+    return runs
+
+
+# Without std, the crate calls the default build of the library alone.
+@pytest.mark.parametrize("command", [
+    "test", "test --no-default-features --tests", "clippy --all-targets -- -D warnings",
+    "clippy --all-targets --no-default-features -- -D warnings", "fmt --check", "doc --no-deps"])
+def test_crate(cargo, crate, command):
+    words = command.split()
+    if words[0] in PACKAGES:
+        need_cargo(PACKAGES[words[0]], words[0])
+    cargo(crate, *words)
+
+
+def test_named_folder_without_the_library(cargo, crate, tmp_path):
+    """The library is not looked for elsewhere then, and the build says what to run."""
+    assert "run `make library`" in cargo(crate, "build", env={"NATTIZHU_LIB_DIR": str(tmp_path)}, status=101).stderr
+
+
+def test_named_folder_with_the_library(cargo, library, tmp_path):
+    cargo(copy_crate(tmp_path), "build", "--no-default-features", env={"NATTIZHU_LIB_DIR": str(library)})
+
+
+@pytest.mark.parametrize("name", [name for name in PRINTED if name != PIECES])
+def test_program_of_the_page(page, name):
+    assert page(name).stdout == PRINTED[name]
+
+
+@pytest.mark.parametrize("first, second", [("Rust", "Rust"), ("C", "Rust"), ("Rust", "C")])
+def test_state_of_one_process_taken_up_by_another(page, prefix, tmp_path, first, second):
+    """By the program of the page that keeps a state, and that of docs/C.md."""
+    source, program, kept = tmp_path / "pieces.c", tmp_path / "pieces", tmp_path / "kept"
+    source.write_text(programs("docs/C.md", "c")[1][0])
+    run("cc", "-o", program, "-I", prefix / "include", source, prefix / "lib/libnattizhu.a")
+    by = {"C": lambda piece: run(program, kept, input=piece), "Rust": lambda piece: page(PIECES, kept, input=piece)}
+    assert by[first]("a").stdout + by[second]("bc").stdout == PRINTED[PIECES]
