@@ -177,10 +177,6 @@ def fixture_build(request, library, tmp_path):
     return build
 
 
-def test_page_has_programs():
-    assert PROGRAMS
-
-
 @pytest.mark.parametrize("text, printed", PROGRAMS, ids=[f"program {at}" for at in range(1, len(PROGRAMS) + 1)])
 def test_page(build, tmp_path, text, printed):
     """A program with an argument goes on from the state that its first run leaves in that file."""

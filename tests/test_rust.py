@@ -1,6 +1,5 @@
 """Tries the crate for Rust: its tests and the examples of its documentation, clippy, rustfmt and rustdoc, how its
 build finds the library, and the programs of docs/RUST.md. Other crates are Debian's: nothing is downloaded."""
-import os
 import pathlib
 import shutil
 
@@ -39,9 +38,8 @@ def fixture_cargo(once):
             f'net.offline = true\nsource.crates-io.replace-with = "debian"\nsource.debian.directory = "{REGISTRY}"\n')
 
     home = once("cargo", configure)
-    settings = {name: value for name, value in os.environ.items() if name.startswith("RUSTUP_")}
-    settings |= {"CARGO_HOME": str(home), "CARGO_TARGET_DIR": str(home / "target"), "CARGO_TERM_COLOR": "never",
-                 "RUSTDOCFLAGS": "-D warnings", "PKG_CONFIG_LIBDIR": str(home)}
+    settings = {"CARGO_HOME": str(home), "CARGO_TARGET_DIR": str(home / "target"), "CARGO_TERM_COLOR": "never",
+                "RUSTDOCFLAGS": "-D warnings", "PKG_CONFIG_LIBDIR": str(home)}
 
     def runs(folder, *words, env=None, **options):
         return run("cargo", *words, cwd=folder, env={**settings, **(env or {})}, **options)
