@@ -88,6 +88,3 @@ fn write(output: &[u8], place: &mut [u8]) -> bool
     place.copy_from_slice(output);
     true
 }
-
-#[cfg(test)]
-mod tests;

@@ -13,7 +13,7 @@ use Rattle.ripemd_mac.specs.declared.reduction.MacCollision.TheVariants.{Inner, 
 use Rattle.ripemd_mac.specs.Keyed.{hmac, inner_message, outer_message}
 use Rattle.ripemd_mac.specs.MacCollisions.{InnerAgree, IsMacCollision}
 use Rattle.ripemd_mac.specs.Saved.{IsSavedFor}
-use Rattle.ripemd_mac.specs.Pbkdf2.{pbkdf2}
+use Rattle.ripemd_mac.specs.Pbkdf2.{F, pbkdf2}
 
 -- ---- tags
 
@@ -101,3 +101,6 @@ pub record WorkedKeys : Type 0 where
   pub two : derived (codes "password") (codes "salt") 2 45 ≡ codes "768dcc27b7bfdef794a1ff9d935090fcf598555e66913180b9ce363c615e9ed953b95fd07169be535e38afbea2"
   pub no_salt : derived (codes "password") [] 3 20 ≡ codes "22f218113a0d856b0ec1a8a5308b1f94e00e4386"
   pub long_password : derived (replicate 65 0x61) (codes "salt") 1 25 ≡ codes "85890e1e1d2403309e94d5d319895e7fd1b8565eb520b0e34a"
+  -- the block whose number has four different bytes, 01 02 03 04
+  pub large_number : hexadecimal (F (hmac (ripemd ripemd160)) (codes "password") (codes "salt") 1 0x01020304)
+      ≡ codes "845033f482fa5170b087e883a8a05e8d85ce77c8"

@@ -1,10 +1,5 @@
 //! The hashers of `ripemd`.
 
-use crate::digits::{
-    ABC_128, ABC_160, ABC_256, ABC_320, EMPTY_128, EMPTY_160, EMPTY_256, EMPTY_320, HELLO_160,
-    HELLO_320, MILLION_128, MILLION_160, MILLION_256, MILLION_320, TWO_BLOCKS, TWO_BLOCKS_128,
-    TWO_BLOCKS_160, TWO_BLOCKS_256, TWO_BLOCKS_320, is_written,
-};
 use ripemd::block_api::{
     BlockCore, BlockSizeUser, FixedOutputCore, ListBlockFunction, OutputSizeUser, Reset,
     Ripemd128Core, Ripemd128Function, Ripemd160Core, Ripemd160Function, Ripemd256Core,
@@ -12,6 +7,11 @@ use ripemd::block_api::{
 };
 use ripemd::buffer::Buffer;
 use ripemd::{BlockHasher, Digest, Ripemd128, Ripemd160, Ripemd256, Ripemd320};
+use ripemd_vectors::digits::{
+    ABC_128, ABC_160, ABC_256, ABC_320, EMPTY_128, EMPTY_160, EMPTY_256, EMPTY_320, HELLO_160,
+    HELLO_320, MILLION_128, MILLION_160, MILLION_256, MILLION_320, TWO_BLOCKS, TWO_BLOCKS_128,
+    TWO_BLOCKS_160, TWO_BLOCKS_256, TWO_BLOCKS_320, is_written,
+};
 
 // Whether the digest of the message is this one, by whatever hasher.
 fn has_digest<D: Digest>(message: &[u8], digits: &str) -> bool {

@@ -4,11 +4,11 @@ mod answers;
 mod errors;
 mod random_lists;
 
-use crate::digits::is_written;
 use crate::state::{rest_of, tail_of};
 use ripemd::digest::SerializableState;
 use ripemd::replay::{Command, ReplayError, replay};
 use ripemd::{Digest, Ripemd160};
+use ripemd_vectors::digits::is_written;
 use std::alloc::Global;
 
 // The words of a new RIPEMD-160 hasher, as another implementation has them.

@@ -1,6 +1,5 @@
 //! Hashers saved as bytes.
 
-mod appended;
 mod refused;
 mod resumed;
 mod saved;

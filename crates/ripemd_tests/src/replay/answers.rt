@@ -1,9 +1,9 @@
 //! The digests that lists of commands give.
 
 use super::{START_WORDS, gives, state_160};
-use crate::digits::{ABC_160, EMPTY_160, EMPTY_320, HELLO_160, HELLO_320};
 use ripemd::replay::Command;
 use ripemd::{Ripemd160, Ripemd320};
+use ripemd_vectors::digits::{ABC_160, EMPTY_160, EMPTY_320, HELLO_160, HELLO_320};
 use std::alloc::{AllocError, Global};
 use std::test::Fail;
 

@@ -4,7 +4,6 @@ ghost use Rattle.std.specs.Prelude.{◌<◌};
 
 mod plain;
 
-use crate::random::Random;
 use plain::plain_replay;
 use ripemd::block_api::{
     ByteArray, Ripemd128Function, Ripemd160Function, Ripemd256Function, Ripemd320Function,
@@ -12,6 +11,7 @@ use ripemd::block_api::{
 use ripemd::digest::SerializableState;
 use ripemd::replay::{Command, ReplayError, replay};
 use ripemd::{BlockHasher, Digest, ResumableFunction};
+use ripemd_vectors::random::Random;
 use std::alloc::{AllocError, Global};
 use std::test::Fail;
 

@@ -1,15 +1,15 @@
 //! The digests of hashers that were saved and loaded.
 
 use super::{load_with, tail_of};
-use crate::digits::{
-    ABC_128, ABC_160, ABC_256, ABC_320, MILLION_128, MILLION_160, MILLION_256, MILLION_320,
-};
 use crate::hashers::finishes;
 use ripemd::block_api::{
     Ripemd128Function, Ripemd160Function, Ripemd256Function, Ripemd320Function,
 };
 use ripemd::digest::SerializableState;
 use ripemd::{BlockHasher, Digest, ResumableFunction, Ripemd128, Ripemd160, Ripemd256, Ripemd320};
+use ripemd_vectors::digits::{
+    ABC_128, ABC_160, ABC_256, ABC_320, MILLION_128, MILLION_160, MILLION_256, MILLION_320,
+};
 
 // Whether a hasher that was saved after "abc" has the digest of that when it is loaded.
 fn abc_finishes<F: ResumableFunction>(digits: &str) -> bool {

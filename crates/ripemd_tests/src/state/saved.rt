@@ -1,13 +1,13 @@
 //! The bytes that hashers are saved as.
 
 use super::{load_with, rest_of, tail_of};
-use crate::digits::is_written;
 use ripemd::block_api::{
     BlockCore, ByteArray, Ripemd128Function, Ripemd160Function, Ripemd256Function,
     Ripemd320Function,
 };
 use ripemd::digest::SerializableState;
 use ripemd::{BlockHasher, Digest, ResumableFunction};
+use ripemd_vectors::digits::is_written;
 
 // The bytes of the paper's start words.
 const START_128: &str = "0123456789abcdeffedcba9876543210";

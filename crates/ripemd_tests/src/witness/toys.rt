@@ -4,6 +4,7 @@ ghost use Rattle.std.specs.Prelude.{◌≡◌, ◌+◌, ◌%◌, ⊤};
 ghost use Rattle.std.specs.List.{fold};
 
 use ripemd::witness::BlockFunction;
+use ripemd_vectors::bytes::sum_from;
 
 // Its step adds the bytes of the block to the state.
 pub(super) enum Adding {}
@@ -73,15 +74,4 @@ impl BlockFunction for Forgetting {
     ghost output_injective = { λ s t _ _ same. same };
 
     ghost same_state = { eqb-true };
-}
-
-// The sum of a number and bytes, modulo 256.
-pub(crate) fn sum_from(start: u8, bytes: &[u8]) -> u8
-    ensures { result ≡ fold (λ sum byte. (sum + byte) % 256) start bytes.now }
-{
-    let mut sum = start;
-    for byte in bytes {
-        sum = sum.wrapping_add(*byte);
-    }
-    sum
 }

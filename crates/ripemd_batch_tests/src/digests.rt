@@ -1,13 +1,10 @@
-//! The tests of `ripemd_batch`.
+//! Digests of many messages.
 
-mod keys;
-mod tags;
-
-use crate::digits::{
-    ABC_128, ABC_160, ABC_256, ABC_320, EMPTY_128, EMPTY_160, EMPTY_256, EMPTY_320, is_written,
-};
 use ripemd::{Digest, Ripemd128, Ripemd160, Ripemd256, Ripemd320};
 use ripemd_batch::{BatchDigest, digest_each};
+use ripemd_vectors::digits::{
+    ABC_128, ABC_160, ABC_256, ABC_320, EMPTY_128, EMPTY_160, EMPTY_256, EMPTY_320, is_written,
+};
 use std::test::Fail;
 
 // Lengths around those where a message needs another block.
@@ -16,7 +13,7 @@ const LENGTHS: [usize; 20] = [
 ];
 
 // Bytes that differ from place to place.
-fn bytes() -> [u8; 500] {
+pub(crate) fn bytes() -> [u8; 500] {
     let mut bytes = [0; 500];
     for i in 0..500 {
         bytes[i] = ((i * i / 7 + i) % 256) as u8;

@@ -1,11 +1,5 @@
 //! The block cores.
 
-use crate::digits::{
-    ABC_128, ABC_160, ABC_256, ABC_320, EMPTY_128, EMPTY_160, EMPTY_256, EMPTY_320, HELLO_320,
-    MILLION_128, MILLION_160, MILLION_256, MILLION_320, TWO_BLOCKS, TWO_BLOCKS_128, TWO_BLOCKS_160,
-    TWO_BLOCKS_256, TWO_BLOCKS_320, is_written,
-};
-use crate::random::Random;
 use ripemd_block::block_api::{
     BlockCore, BlockFunction, BufferKindUser, ByteArray, Eager, FixedOutputCore, HashMarker,
     HashMeaning, ListBlockFunction, Reset, ResumableFunction, Ripemd128Core, Ripemd128Function,
@@ -14,9 +8,15 @@ use ripemd_block::block_api::{
 };
 use ripemd_block::buffer::Buffer;
 use ripemd_block::padding::{block_count, pad_block};
+use ripemd_vectors::digits::{
+    ABC_128, ABC_160, ABC_256, ABC_320, EMPTY_128, EMPTY_160, EMPTY_256, EMPTY_320, HELLO_320,
+    MILLION_128, MILLION_160, MILLION_256, MILLION_320, TWO_BLOCKS, TWO_BLOCKS_128, TWO_BLOCKS_160,
+    TWO_BLOCKS_256, TWO_BLOCKS_320, is_written,
+};
+use ripemd_vectors::random::Random;
 
 // Whether this is the digest that a core gives with this tail after its blocks.
-pub(super) fn gives<F: ListBlockFunction>(
+pub(crate) fn gives<F: ListBlockFunction>(
     core: &mut BlockCore<F>,
     tail: &[u8],
     digits: &str,
@@ -165,7 +165,7 @@ fn copies<F: ListBlockFunction>(empty: &str, one: &str, two: &str) -> bool {
         && gives(&mut other, b"", two)
 }
 
-// The digests are those of tests/digests-128.txt and the like, from other implementations.
+// The digests are those of tests/data/digests-128.txt and the like, from other implementations.
 #[test]
 fn copies_and_resets(rt: HostRuntime) {
     let one = "406c6ec2643ccef38f964864d12c9191";
@@ -202,14 +202,14 @@ fn words_after_a_block(rt: HostRuntime) {
     assert!(rt; is_saved_after_a_block::<Ripemd320Function>(COUNTED_320));
 }
 
-pub(super) const COUNTED_128: &str = "a8ffadbf9867b0239f4bef99a685a792";
+pub(crate) const COUNTED_128: &str = "a8ffadbf9867b0239f4bef99a685a792";
 
-pub(super) const COUNTED_160: &str = "7686e0d6baeae0a2b752a5c4cbad943b74837654";
+pub(crate) const COUNTED_160: &str = "7686e0d6baeae0a2b752a5c4cbad943b74837654";
 
-pub(super) const COUNTED_256: &str =
+pub(crate) const COUNTED_256: &str =
     "115023a38024723bfb163700a7199c0ef7f87c75884ad633355769cade59c476";
 
-pub(super) const COUNTED_320: &str =
+pub(crate) const COUNTED_320: &str =
     "526e8cea28d93c813f367d370c20e2e8c6d01c2f17fbff9f9719ba67d13f170198b1aed45d882004";
 
 // A type that has all traits of cores: this compiles with `Eager` alone.

@@ -1,6 +1,6 @@
 //! Padded messages, block by block.
 
-use ripemd::padding::{block_count, pad_block, whole_blocks};
+use ripemd_block::padding::{block_count, pad_block, whole_blocks};
 
 // Whether so many of these bytes, with their padding, have so many blocks.
 fn has_blocks(len: usize, count: usize) -> bool {

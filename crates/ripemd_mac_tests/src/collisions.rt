@@ -2,8 +2,8 @@
 
 ghost use Rattle.std.specs.Prelude.{◌-◌, ◌<◌, ◌^◌, length};
 
-use super::tag_of;
-use super::toys::{Sums, SumsCore};
+use crate::tags::tag_of;
+use crate::toys::{Sums, SumsCore};
 use ripemd::digest::{BlockDigest, Digest};
 use ripemd::witness::{BlockFunction, check_collision};
 use ripemd::{Ripemd128, Ripemd160};

@@ -3,13 +3,13 @@
 
 ghost use Rattle.std.specs.Prelude.{◌<◌, ◌≤◌};
 
-use super::cores::{COUNTED_128, COUNTED_160, COUNTED_256, COUNTED_320};
-use crate::digits::is_written;
+use crate::cores::{COUNTED_128, COUNTED_160, COUNTED_256, COUNTED_320};
 use ripemd_block::block_api::{
     ByteArray, ListBlockFunction, Ripemd128Function, Ripemd160Function, Ripemd256Function,
     Ripemd320Function,
 };
 use ripemd_block::textbook;
+use ripemd_vectors::digits::is_written;
 
 // The words that the steps of a line take, round by round.
 static LEFT_NUMBERS: [[usize; 16]; 5] = [

@@ -1,10 +1,10 @@
 //! Tags of many texts under one key.
 
-use super::bytes;
-use crate::digits::is_written;
+use crate::digests::bytes;
 use ripemd::{Ripemd128, Ripemd160, Ripemd256, Ripemd320};
 use ripemd_batch::{BatchDigest, tag_each};
 use ripemd_mac::Hmac;
+use ripemd_vectors::digits::is_written;
 
 // Lengths around those where a text, or a text after a block, needs another block.
 const LENGTHS: [usize; 17] = [

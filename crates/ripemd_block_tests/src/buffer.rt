@@ -1,8 +1,8 @@
 //! The buffer, with the core of RIPEMD-160.
 
-use crate::digits::{ABC_160, MILLION_160, is_written};
 use ripemd_block::block_api::{FixedOutputCore, Ripemd160Core};
 use ripemd_block::buffer::{Buffer, Padded};
+use ripemd_vectors::digits::{ABC_160, MILLION_160, is_written};
 
 // The bytes 0, 1, 2 and so on.
 fn numbers() -> [u8; 63] {

@@ -1,5 +1,3 @@
-//! The tests of `ripemd_uses`, the callers that the pages show.
-
 use ripemd::block_api::Ripemd160Function;
 use ripemd::replay::Command;
 use ripemd::{Ripemd128, Ripemd160};

@@ -1,6 +1,6 @@
 //! Keys from passwords.
 
-use super::bytes;
+use crate::digests::bytes;
 use ripemd::{Ripemd128, Ripemd160, Ripemd256, Ripemd320};
 use ripemd_batch::{BatchDigest, pbkdf2_each};
 use ripemd_mac::{Pbkdf2Error, pbkdf2};

@@ -4,18 +4,18 @@ ghost use Rattle.std.specs.Prelude.{◌<◌};
 
 // Numbers from a linear congruence.
 #[derive(Drop)]
-pub(crate) struct Random {
+pub struct Random {
     state: u64,
 }
 
 impl Random {
     // The same numbers each time.
-    pub(crate) fn new() -> Random {
+    pub fn new() -> Random {
         Random { state: 1 }
     }
 
     // The next number, below `end`.
-    pub(crate) fn below(&mut self, end: usize) -> usize
+    pub fn below(&mut self, end: usize) -> usize
         requires { 0 < end }
         ensures { result < end }
     {
@@ -27,7 +27,7 @@ impl Random {
     }
 
     // Mostly one of the numbers from 0 that so many things have.
-    pub(crate) fn number(&mut self, count: usize) -> usize {
+    pub fn number(&mut self, count: usize) -> usize {
         let stray = self.below(100) == 0;
         if count == 0 || stray {
             count.saturating_add(self.below(3))

@@ -1,11 +1,12 @@
 //! The tags that others give.
 
-use super::{count_up, tag_by_copies, tag_by_slice, tag_of, tag_put_aside};
-use crate::digits::is_written;
+use crate::tags::{tag_by_copies, tag_by_slice, tag_of, tag_put_aside};
 use ripemd::block_api::{
     ByteArray, Ripemd128Function, Ripemd160Function, Ripemd256Function, Ripemd320Function,
 };
 use ripemd::{BlockHasher, ResumableFunction};
+use ripemd_vectors::bytes::count_up;
+use ripemd_vectors::digits::is_written;
 
 // Whether the tag of a text is this one, wherever the text is cut, and however the tag is made.
 fn has_tag<F: ResumableFunction>(key: &[u8], text: &[u8], digits: &str) -> bool {
@@ -123,7 +124,7 @@ fn have_counted_tags<F: ResumableFunction>(tags: &[(usize, &str)]) -> bool {
     true
 }
 
-// Those of tests/tags.txt, which says where they come from.
+// Those of tests/data/tags.txt, which says where they come from.
 const TAGS_128: [(usize, &str); 7] = [
     (0, "96a09bcf1aff37abb7f9cb4d2c7f31cc"),
     (1, "aa9ed8998b216f2053de205a27bd6766"),

@@ -1,10 +1,10 @@
 //! Keys from passwords.
 
-use super::count_up;
-use crate::digits::is_written;
 use ripemd::{Ripemd128, Ripemd160, Ripemd256, Ripemd320};
 use ripemd_batch::BatchDigest;
 use ripemd_mac::{Pbkdf2Error, pbkdf2};
+use ripemd_vectors::bytes::count_up;
+use ripemd_vectors::digits::is_written;
 
 // Whether the key of so many bytes is this one, also in lanes.
 fn derives<D: BatchDigest>(password: &[u8], salt: &[u8], rounds: u32, digits: &str) -> bool {
@@ -39,7 +39,7 @@ fn have_keys<D: BatchDigest>(keys: &[(usize, usize, u32, &str)]) -> bool {
     true
 }
 
-// Lines of tests/keys.txt, which says where they come from.
+// Lines of tests/data/keys.txt, which says where they come from.
 const KEYS_128: [(usize, usize, u32, &str); 5] = [
     (
         8,

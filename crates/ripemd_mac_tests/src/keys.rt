@@ -1,7 +1,8 @@
 //! Which keys count as one, and which are not hashed.
 
-use super::{count_up, tag_of};
+use crate::tags::tag_of;
 use ripemd::{Digest, Ripemd160};
+use ripemd_vectors::bytes::count_up;
 
 // Whether both keys give one tag.
 fn count_as_one(key: &[u8], other: &[u8]) -> bool {

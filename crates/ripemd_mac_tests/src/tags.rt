@@ -1,12 +1,4 @@
-//! The tests of `ripemd_mac`.
-
-mod collisions;
-mod forged;
-mod keys;
-mod passwords;
-mod published;
-mod toys;
-mod verified;
+//! Tags made in several ways, for the tests.
 
 use ripemd::block_api::ByteArray;
 use ripemd::digest::BlockDigest;
@@ -14,7 +6,7 @@ use ripemd::{BlockHasher, ResumableFunction};
 use ripemd_mac::Hmac;
 
 // The tag of a text that comes in two pieces.
-fn tag_of<D: BlockDigest>(key: &[u8], first: &[u8], second: &[u8]) -> D::Output {
+pub(crate) fn tag_of<D: BlockDigest>(key: &[u8], first: &[u8], second: &[u8]) -> D::Output {
     let mut mac = Hmac::<D>::new(key);
     mac.update(first);
     mac.update(second);
@@ -22,7 +14,7 @@ fn tag_of<D: BlockDigest>(key: &[u8], first: &[u8], second: &[u8]) -> D::Output 
 }
 
 // The same by copies after the key and after the first piece; what was copied goes another way.
-fn tag_by_copies<D: BlockDigest>(key: &[u8], first: &[u8], second: &[u8]) -> D::Output {
+pub(crate) fn tag_by_copies<D: BlockDigest>(key: &[u8], first: &[u8], second: &[u8]) -> D::Output {
     let mut keyed = Hmac::<D>::new(key);
     let mut mac = keyed.duplicate();
     keyed.update(b"another text");
@@ -34,7 +26,7 @@ fn tag_by_copies<D: BlockDigest>(key: &[u8], first: &[u8], second: &[u8]) -> D::
 }
 
 // The same, saved and loaded between the pieces.
-fn tag_put_aside<F: ResumableFunction>(
+pub(crate) fn tag_put_aside<F: ResumableFunction>(
     key: &[u8],
     first: &[u8],
     second: &[u8],
@@ -47,7 +39,7 @@ fn tag_put_aside<F: ResumableFunction>(
 }
 
 // The same, loaded from a slice.
-fn tag_by_slice<F: ResumableFunction>(
+pub(crate) fn tag_by_slice<F: ResumableFunction>(
     key: &[u8],
     first: &[u8],
     second: &[u8],
@@ -58,13 +50,4 @@ fn tag_by_slice<F: ResumableFunction>(
     let mut loaded = Hmac::<BlockHasher<F>>::load_slice(saved.as_bytes()).ok()?;
     loaded.update(second);
     Some(loaded.finalize())
-}
-
-// Writes a number and those after it, modulo 256.
-fn count_up(bytes: &mut [u8], first: u8) {
-    let mut next = first;
-    for byte in bytes.iter_mut() {
-        *byte = next;
-        next = next.wrapping_add(1);
-    }
 }

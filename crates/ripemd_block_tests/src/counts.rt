@@ -1,12 +1,12 @@
 //! Counts of blocks whose messages are longer than 2^64 bits, which no message of today reaches.
 
-use super::cores::gives;
-use crate::digits::{EMPTY_128, EMPTY_160, EMPTY_256, EMPTY_320};
+use crate::cores::gives;
 use ripemd_block::block_api::{
     BlockCore, ByteArray, FixedOutputCore, ResumableFunction, Ripemd128Function, Ripemd160Function,
     Ripemd256Function, Ripemd320Function, SerializableState, UpdateCore,
 };
 use ripemd_block::buffer::Buffer;
+use ripemd_vectors::digits::{EMPTY_128, EMPTY_160, EMPTY_256, EMPTY_320};
 
 // So many blocks have 2^64 bits.
 const WRAPPING: u64 = 1 << 55;

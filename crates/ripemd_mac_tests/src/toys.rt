@@ -4,13 +4,13 @@ ghost use Rattle.std.specs.Prelude.{◌+◌, ◌%◌, [], ◌∷◌, slice_index
 ghost use Rattle.std.specs.List.{fold};
 ghost use Rattle.ripemd.specs.States.{HashState, IsHashState};
 
-use crate::witness::toys::sum_from;
 use ripemd::digest::{BlockDigest, BlockFunction, Digest, HashMeaning, OutputSizeUser};
 use ripemd::{BlockHasher, ListBlockFunction};
+use ripemd_vectors::bytes::sum_from;
 use std::marker::Model;
 
 /// The block function: a step adds all bytes of the block to the one byte, and the last to the other.
-pub(super) enum SumsCore {}
+pub(crate) enum SumsCore {}
 
 impl BlockFunction for SumsCore {
     type State = [u8; 2];
@@ -65,7 +65,7 @@ impl ListBlockFunction for SumsCore {
 
 /// The hasher. It implements `Digest` and `BlockDigest` itself, as any other crate can.
 #[derive(Drop)]
-pub(super) struct Sums {
+pub(crate) struct Sums {
     hasher: BlockHasher<SumsCore>,
 }
 
