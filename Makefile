@@ -5,6 +5,7 @@
 #                      the built program, libraries and packages
 #   make mutants       every mutant, which the prover has to refuse, and each allocation failing in turn
 #   make gate          both
+#   make fuzz          arbitrary calls of the functions for C and for Python, each for SECONDS (600)
 #   make bench         the program's speed on 256 MiB in memory, beside the library's and that of other
 #                      programs, as a table; then, with a C compiler, the speed of the functions that C
 #                      calls beside those of other libraries; that of lists of messages, at once
@@ -32,6 +33,7 @@
 PREFIX = /usr/local
 LIBDIR = lib
 CPU =
+SECONDS = 600
 
 PROGRAM = crates/ripemd_sum/out/ripemd_sum
 SPEED = crates/ripemd_bench/out/speed
@@ -50,7 +52,7 @@ FUNCTIONS = $(shell sed -n 's/^function \([^ ]*\) .*/\1/p' tests/data/interface.
 SITE = $(shell python3 -c 'import sys; sys.version_info < (3, 11) or \
   print("lib/python%d.%d/site-packages" % sys.version_info[:2])' 2>/dev/null)
 
-.PHONY: all library wheel dist toolchain prefix check mutants gate bench install install-program install-library \
+.PHONY: all library wheel dist toolchain prefix check mutants gate fuzz bench install install-program install-library \
   install-python uninstall clean
 
 # `rt run` proves, builds and then runs the program, here on no input. The libraries are proved first,
@@ -68,11 +70,12 @@ check: toolchain
 
 mutants: toolchain
 	@build/tell rt ci
-	@for python in python3 /usr/bin/python3; do \
-	  ! $$python -c 'import pytest' 2>/dev/null || exec $$python -m pytest -q -m mutants; \
-	done; echo 'make: no allocation was made to fail, since there is no pytest (Debian: python3-pytest)'
+	@tests/pytest 'mutants: that each allocation may fail' -m mutants
 
 gate: check mutants
+
+fuzz: library
+	@FUZZ_SECONDS=$(SECONDS) tests/pytest 'fuzz: anything' -rP tests/test_fuzz.py
 
 bench: all
 	@echo "Measured on $$(date -u +%F), $$(uname -sr), as built for $(or $(CPU),x86-64-v2)"

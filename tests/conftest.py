@@ -13,7 +13,10 @@ ROOT = pathlib.Path(__file__).resolve().parent.parent
 DATA = ROOT / "tests/data"
 BUILT = ROOT / "crates/ripemd_c/out"
 PROGRAM = ROOT / "crates/ripemd_sum/out/ripemd_sum"
+SECRETS = ROOT / "tests/secrets"
 
+# The status of a program of which memcheck reports something.
+NOTICED = 3
 # The digest of "abc" by RIPEMD-160.
 ABC = "8eb208f7e05d987a9b044a8e98c6b087f15a0bfc"
 
@@ -95,6 +98,29 @@ def library(once):
 
     once("library", build)
     return BUILT
+
+
+def memcheck(*command, **options):
+    """Runs a command under valgrind's memcheck, which ends with the status NOTICED if it has something to report."""
+    need("valgrind", "valgrind")
+    if run("valgrind", "-q", "true", status=None).returncode:
+        pytest.skip("there is no valgrind that runs (Debian's libc6-dbg)")
+    return run("valgrind", "-q", f"--error-exitcode={NOTICED}", *command, **options)
+
+
+@pytest.fixture(scope="session")
+def marks(once):
+    """The folder of marks.o and marks.so, by which a program tells memcheck what is secret."""
+    need("cc", "gcc")
+    if run("cc", "-E", "-", input="#include <valgrind/memcheck.h>\n", status=None).returncode:
+        pytest.skip("there is no valgrind/memcheck.h (Debian's valgrind)")
+
+    def build(folder):
+        folder.mkdir()
+        run("cc", "-O2", "-fPIC", "-Wall", "-Wextra", "-Werror", "-c", "-o", folder / "marks.o", SECRETS / "marks.c")
+        run("cc", "-shared", "-o", folder / "marks.so", folder / "marks.o")
+
+    return once("marks", build)
 
 
 @pytest.fixture(scope="session")

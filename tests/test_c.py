@@ -3,7 +3,7 @@ warnings of wrong calls, the programs of docs/C.md, and tests/calls.c, also wher
 import re
 
 import pytest
-from conftest import DATA, ROOT, lines, need, programs, run
+from conftest import DATA, ROOT, lines, memcheck, need, programs, run
 
 CRATE = ROOT / "crates/ripemd_c"
 CALLS = ROOT / "tests/calls.c"
@@ -56,6 +56,8 @@ def test_listed_functions():
 def test_listed_sizes_and_values():
     types = re.findall(r"^.*} (nattizhu_\w+);$", HEADER, re.MULTILINE)
     assert types and [name for name, _ in listed("size")] == sorted(types)
+    constants = re.findall(r"^(?:#define| ) (NATTIZHU_\w+) +=? ?(?:\d|NATTIZHU)", HEADER, re.MULTILINE)
+    assert constants and [name for name, _ in listed("value")] == sorted(constants)
     equal = [(f"sizeof({name})", size) for name, size in listed("size")] + listed("value")
     asserted = "".join(f'_Static_assert({name} == {number}, "{name}");\n' for name, number in equal)
     compile_by("cc", "c11", *INPUT, input='#include "nattizhu.h"\n' + asserted)
@@ -185,9 +187,9 @@ def test_page(build, tmp_path, text, printed):
     assert "".join(run(program, *words, input=piece).stdout for piece, *words in runs) == printed
 
 
-def assert_tried(least, *command):
+def assert_tried(least, *command, by=run):
     """Runs tests/calls.c as it was compiled: all cases have to go as expected, and they have to be so many."""
-    printed = run(*command).stdout
+    printed = by(*command).stdout
     good, tried = map(int, re.search(r"^calls: (\d+) of (\d+) cases as expected$", printed, re.MULTILINE).groups())
     assert good == tried >= least, f"tests/calls.c has to try at least {least} cases, and tried {tried}"
 
@@ -207,9 +209,6 @@ def test_calls_with_sanitizers(library, tmp_path, compiler, package):
 
 
 def test_calls_under_valgrind(library, tmp_path):
-    need("valgrind", "valgrind")
-    if run("valgrind", "-q", "true", status=None).returncode:
-        pytest.skip("there is no valgrind that runs (Debian's libc6-dbg)")
     program = tmp_path / "program"
     compile_by("cc", "c99", *CHECKED, CALLS, "-x", "none", library / "libnattizhu.a", "-o", program)
-    assert_tried(207000, "valgrind", "-q", "--error-exitcode=1", program, DATA, 160)
+    assert_tried(207000, program, DATA, 160, by=memcheck)

@@ -4,7 +4,7 @@ import pathlib
 import shutil
 
 import pytest
-from conftest import DATA, ROOT, fences, need, programs, run
+from conftest import DATA, NOTICED, ROOT, SECRETS, fences, memcheck, need, programs, run
 
 REGISTRY = pathlib.Path("/usr/share/cargo/registry")
 PACKAGES = {"clippy": "rust-clippy", "fmt": "rustfmt"}
@@ -112,6 +112,19 @@ def test_named_folder_without_the_library(cargo, crate, tmp_path):
 
 def test_named_folder_with_the_library(cargo, library, tmp_path):
     cargo(copy_crate(tmp_path), "build", "--no-default-features", env={"NATTIZHU_LIB_DIR": str(library)})
+
+
+def test_secrets_do_not_steer_the_crate(cargo, library, marks, tmp_path):
+    """No jump and no address depends on a secret, by memcheck; the control is noticed."""
+    crate = copy_crate(tmp_path)
+    (crate / "examples").mkdir()
+    shutil.copy(SECRETS / "secrets.rs", crate / "examples")
+    settings = {"NATTIZHU_LIB_DIR": str(library), "RUSTFLAGS": f"-C link-arg={marks}/marks.o",
+                "CARGO_TARGET_DIR": str(tmp_path)}
+    cargo(crate, "build", "--release", "--example", "secrets", env=settings)
+    program = tmp_path / "release/examples/secrets"
+    memcheck(program)
+    memcheck(program, "jump", status=NOTICED)
 
 
 @pytest.mark.parametrize("name", [name for name in PRINTED if name != PIECES])

@@ -1,0 +1,71 @@
+//! Calls of the crate for Rust on secrets, to be run under memcheck.
+//!   secrets [jump]        with `jump`, one depends on a digest
+
+use nattizhu::{
+    digest_each, digest_list, hmac_each, hmac_list, pbkdf2, pbkdf2_list, Digest, Hmac, Mac, Ripemd,
+    Ripemd128, Ripemd160, Ripemd256, Ripemd320, SerializableState,
+};
+
+// In marks.c.
+extern "C" {
+    fn mark_secret(bytes: *const u8, length: usize);
+    fn count_known(bytes: *const u8, length: usize) -> usize;
+}
+
+/// So many secret bytes.
+fn secret(length: usize) -> Vec<u8> {
+    let bytes = vec![1; length];
+    unsafe { mark_secret(bytes.as_ptr(), length) };
+    bytes
+}
+
+fn must_be_secret(output: impl AsRef<[u8]>) {
+    let output = output.as_ref();
+    assert_eq!(unsafe { count_known(output.as_ptr(), output.len()) }, 0);
+}
+
+fn try_all<D: Ripemd + Digest + Clone + SerializableState>()
+where
+    D::SerializedState: AsRef<[u8]>,
+{
+    for length in [1, 55, 64, 65, 200] {
+        let (key, text, records) = (secret(length), secret(130), secret(9 * length));
+        let mut hasher = D::new();
+        Digest::update(&mut hasher, &key);
+        Digest::update(&mut hasher, &text);
+        must_be_secret(
+            D::deserialize(hasher.serialize().as_ref())
+                .unwrap()
+                .finalize(),
+        );
+        must_be_secret(hasher.finalize());
+        must_be_secret(D::digest(&text));
+        let mac = <Hmac<D>>::new(&key).chain_update(&text);
+        must_be_secret(mac.clone().finalize().into_bytes());
+
+        let mut outputs = vec![Default::default(); 9];
+        digest_each::<D>(&records, length, &mut outputs).unwrap();
+        outputs.iter().for_each(must_be_secret);
+        hmac_each::<D>(&key, &records, length, &mut outputs).unwrap();
+        outputs.iter().for_each(must_be_secret);
+        let list = [&key[..], &text, &records];
+        digest_list::<D>(&list, &mut outputs[..3]).unwrap();
+        hmac_list::<D>(&key, &list, &mut outputs[3..6]).unwrap();
+        outputs[..6].iter().for_each(must_be_secret);
+        let mut keys = [0; 150];
+        pbkdf2::<D>(&key, &text, 2, &mut keys).unwrap();
+        must_be_secret(keys);
+        pbkdf2_list::<D>(&list, &list, 2, 50, &mut keys).unwrap();
+        must_be_secret(keys);
+    }
+}
+
+fn main() {
+    try_all::<Ripemd128>();
+    try_all::<Ripemd160>();
+    try_all::<Ripemd256>();
+    try_all::<Ripemd320>();
+    if std::env::args().nth(1).as_deref() == Some("jump") {
+        assert_ne!(Ripemd160::digest(secret(3))[..], [0; 20]);
+    }
+}

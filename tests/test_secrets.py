@@ -1,0 +1,100 @@
+"""Shows that secrets do not steer the machine: no jump and no address depends on the bytes of messages, keys, passwords,
+salts or tags. Memcheck holds these to be undefined, and reports what depends on them. And what is executed has to be
+the same for different secrets of one length, as qemu-user tells it. For each way there is a control, which a secret
+steers: it has to be noticed."""
+import hashlib
+import subprocess
+import sys
+
+import pytest
+from conftest import ENVIRONMENT, NOTICED, ROOT, SECRETS, memcheck, need, run, site
+
+CRATE = ROOT / "crates/ripemd_c"
+LEVELS = ["x86-64-v2", "x86-64-v3"]
+SEEDS = range(1, 6)
+CONTROLS = {"jump": "Conditional jump or move depends on uninitialised value",
+            "address": "Use of uninitialised value of size 8"}
+
+every_level = pytest.mark.parametrize("level", LEVELS)
+
+
+@pytest.fixture(name="compiled", scope="module")
+def fixture_compiled(library, marks, once):
+    """The programs of secrets.c with the library for each level, for memcheck and, linked statically, for qemu-user,
+    where a program is then always in the same place."""
+
+    def build(folder):
+        for kind, flags in (("memcheck", []), ("qemu", ["-static"])):
+            (folder / kind).mkdir(parents=True)
+            for level in LEVELS:
+                run("cc", "-O2", "-Wall", "-Wextra", "-Werror", *flags, "-I", CRATE, SECRETS / "secrets.c",
+                    CRATE / "nattizhu.c", library / level / "libripemd_c.a", "-o", folder / kind / level)
+
+    return once("secrets", build)
+
+
+@every_level
+def test_calls_from_c(compiled, level):
+    memcheck(compiled / "memcheck" / level, 1)
+
+
+@every_level
+@pytest.mark.parametrize("control", CONTROLS)
+def test_control(compiled, level, control):
+    said = memcheck(compiled / "memcheck" / level, 1, control, status=NOTICED).stderr
+    assert CONTROLS[control] in said and said.count("uninitialised") == 1
+
+
+def executed(*command, **options):
+    """How many blocks of instructions a program executes, and a digest of where they are, in order."""
+    need("qemu-x86_64", "qemu-user")
+    # With addresses that are not random.
+    command = ["setarch", "-R", "qemu-x86_64", "-cpu", "max", "-d", "exec,nochain", *map(str, command)]
+    with subprocess.Popen(command, env=ENVIRONMENT, stdout=subprocess.DEVNULL, stderr=subprocess.PIPE,
+                          **options) as running:
+        count, places = 0, hashlib.sha256()
+        for line in running.stderr:
+            if line.startswith(b"Trace "):
+                count += 1
+                places.update(line.split(b"/", 2)[1])
+    assert running.returncode == 0 and count > 10000
+    return count, places.digest()
+
+
+@every_level
+def test_what_calls_from_c_execute(compiled, level):
+    assert len({executed(compiled / "qemu" / level, seed) for seed in SEEDS}) == 1
+
+
+@every_level
+def test_control_of_what_is_executed(compiled, level):
+    assert len({executed(compiled / "qemu" / level, seed, "jump") for seed in SEEDS}) == 2
+
+
+@pytest.mark.parametrize("length", [1, 55, 64, 200, 5000])
+def test_what_the_program_executes(program, tmp_path, length):
+    """For texts of one length, under one key."""
+    seen = set()
+    for seed in SEEDS:
+        (tmp_path / "text").write_bytes(hashlib.shake_128(bytes([seed])).digest(length))
+        with (tmp_path / "text").open("rb") as text:
+            seen.add(executed(program, 160, "hmac", "0b" * 20, stdin=text))
+    assert len(seen) == 1
+
+
+@pytest.fixture(name="python", scope="module")
+def fixture_python(prefix, marks):
+    """Runs secrets.py under memcheck, by an interpreter of which memcheck itself reports nothing."""
+    settings = {"PYTHONPATH": str(site(prefix)), "PYTHONMALLOC": "malloc"}
+    if memcheck(sys.executable, "-c", "import ctypes", env=settings, status=None).returncode:
+        pytest.skip(f"memcheck has something to report of {sys.executable} itself")
+    return lambda *words, **options: memcheck(sys.executable, SECRETS / "secrets.py", marks / "marks.so", *words,
+                                              env=settings, **options)
+
+
+def test_calls_from_python(python):
+    python()
+
+
+def test_control_from_python(python):
+    assert CONTROLS["jump"] in python("jump", status=NOTICED).stderr
