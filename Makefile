@@ -75,7 +75,7 @@ mutants: toolchain
 gate: check mutants
 
 fuzz: library
-	@FUZZ_SECONDS=$(SECONDS) tests/pytest 'fuzz: anything' -rP tests/test_fuzz.py
+	@FUZZ_SECONDS=$(SECONDS) tests/pytest 'fuzz: it' -rP tests/test_fuzz.py
 
 bench: all
 	@echo "Measured on $$(date -u +%F), $$(uname -sr), as built for $(or $(CPU),x86-64-v2)"

@@ -1,5 +1,6 @@
 """Arbitrary calls: of the functions for C by libFuzzer, under the sanitizers, and of the package for Python. For `make
 fuzz`, FUZZ_SECONDS says how long; what libFuzzer then finds of use is kept in tests/data/fuzz.txt."""
+import itertools
 import os
 import sys
 import time
@@ -42,9 +43,10 @@ def test_functions_for_c(fuzzer, tmp_path):
 
 def test_package_for_python(prefix):
     end = time.monotonic() + SECONDS
-    for seed in range(1, 10**9):
+    first = int(time.time()) if SECONDS else 1
+    for seed in itertools.count(first):
         run(sys.executable, "-X", "dev", ROOT / "tests/fuzz.py", seed, 100000,
             env={"PYTHONPATH": site(prefix), "PYTHONMALLOC": "debug"})
         if time.monotonic() >= end:
-            print(f"fuzz.py: {seed * 100000} calls")
+            print(f"fuzz.py: {(seed - first + 1) * 100000} calls")
             break

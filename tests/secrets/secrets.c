@@ -11,7 +11,8 @@
 
 #include "nattizhu.h"
 
-enum { MAX = NATTIZHU_MAX_SIZE, COUNT = 9, KEY = 50 };
+// A list has a few messages, or more than are hashed in a group.
+enum { MAX = NATTIZHU_MAX_SIZE, FEW = 9, MOST = 130, KEY = 50 };
 
 static const nattizhu_variant ALL[] = {NATTIZHU_RIPEMD128, NATTIZHU_RIPEMD160, NATTIZHU_RIPEMD256,
                                        NATTIZHU_RIPEMD320};
@@ -40,7 +41,7 @@ static uint8_t *secret(size_t length) {
 
 // An output that is as secret as what it was made of: of no byte is all known.
 static void is_secret(const uint8_t *bytes, size_t length) {
-  uint8_t unknown[COUNT * KEY];
+  static uint8_t unknown[MOST * KEY];
   must(length <= sizeof unknown, "an output that is too long");
   if (VALGRIND_GET_VBITS(bytes, unknown, length) == 1)
     for (size_t i = 0; i < length; i++)
@@ -91,28 +92,29 @@ static void try_texts(nattizhu_variant v, const uint8_t *key, size_t key_length,
   }
 }
 
-// Records of one length, and messages of many: all in one buffer.
-static void try_many(nattizhu_variant v, const uint8_t *key, size_t key_length, size_t length) {
-  const size_t size = nattizhu_digest_size(v), all = COUNT * size;
-  uint8_t *bytes = secret(COUNT * length), outputs[COUNT * MAX], keys[COUNT * KEY];
-  nattizhu_message list[COUNT];
-  for (size_t i = 0; i < COUNT; i++) {
+// So many records of one length, and messages of many: all in one buffer.
+static void try_many(nattizhu_variant v, const uint8_t *key, size_t key_length, size_t length,
+                     size_t count) {
+  const size_t size = nattizhu_digest_size(v), all = count * size;
+  uint8_t *bytes = secret(count * length), outputs[MOST * MAX], keys[MOST * KEY];
+  nattizhu_message list[MOST];
+  for (size_t i = 0; i < count; i++) {
     list[i].bytes = bytes;
-    list[i].length = i * 3 < length ? length - i * 3 : i;
+    list[i].length = 1 + i * 3 % length;
   }
-  must(nattizhu_each(v, bytes, COUNT * length, length, outputs, all), "each");
+  must(nattizhu_each(v, bytes, count * length, length, outputs, all), "each");
   is_secret(outputs, all);
-  must(nattizhu_hmac_each(v, key, key_length, bytes, COUNT * length, length, outputs, all),
+  must(nattizhu_hmac_each(v, key, key_length, bytes, count * length, length, outputs, all),
        "hmac_each");
   is_secret(outputs, all);
-  must(nattizhu_list(v, list, COUNT, outputs, all), "list");
-  is_secret(outputs, (COUNT - 1) * size); // the last message may have no bytes
-  must(nattizhu_hmac_list(v, key, key_length, list, COUNT, outputs, all), "hmac_list");
+  must(nattizhu_list(v, list, count, outputs, all), "list");
+  is_secret(outputs, all);
+  must(nattizhu_hmac_list(v, key, key_length, list, count, outputs, all), "hmac_list");
   is_secret(outputs, all);
   must(nattizhu_pbkdf2(v, key, key_length, bytes, length, 2, keys, KEY), "pbkdf2");
   is_secret(keys, KEY);
-  must(nattizhu_pbkdf2_list(v, list, COUNT, list, COUNT, 2, KEY, keys, sizeof keys), "pbkdf2_list");
-  is_secret(keys, sizeof keys);
+  must(nattizhu_pbkdf2_list(v, list, count, list, count, 2, KEY, keys, count * KEY), "pbkdf2_list");
+  is_secret(keys, count * KEY);
   free(bytes);
 }
 
@@ -142,7 +144,9 @@ int main(int argc, char **argv) {
         try_texts(ALL[i], key, LENGTHS[k], message, LENGTHS[m]);
         free(message);
       }
-      try_many(ALL[i], key, LENGTHS[k], LENGTHS[k]);
+      try_many(ALL[i], key, LENGTHS[k], LENGTHS[k], FEW);
+      if (k == 0)
+        try_many(ALL[i], key, LENGTHS[k], 70, MOST);
       free(key);
     }
   if (argc > 2)
