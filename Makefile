@@ -6,11 +6,9 @@
 #   make mutants       every mutant, which the prover has to refuse, and each allocation failing in turn
 #   make gate          both
 #   make fuzz          arbitrary calls of the functions for C and for Python, each for SECONDS (600)
-#   make bench         the program's speed on 256 MiB in memory, beside the library's and that of other
-#                      programs, as a table; then, with a C compiler, the speed of the functions that C
-#                      calls beside those of other libraries; that of lists of messages, at once
-#                      and one by one; and the time of a block, of updates by short pieces, and of
-#                      verifying right and wrong tags. It leaves a picture, crates/ripemd_bench/out/speed.svg
+#   make bench         prints the tables of docs/PERFORMANCE.md, as measured here: the functions for C, calls
+#                      from Python and from Rust and the program, beside other libraries and programs, where
+#                      they are there, and with them a C compiler; and the libraries in Rattle
 #   make library       builds the library for C, proved, with a C compiler: libnattizhu.a and the shared
 #                      object libnattizhu.so, in crates/ripemd_c/out, for the toolchain's default
 #                      processors and for x86-64-v3
@@ -36,7 +34,6 @@ CPU =
 SECONDS = 600
 
 PROGRAM = crates/ripemd_sum/out/ripemd_sum
-SPEED = crates/ripemd_bench/out/speed
 
 BUILT = crates/ripemd_c/out
 HWCAPS = glibc-hwcaps/x86-64-v3
@@ -77,16 +74,8 @@ gate: check mutants
 fuzz: library
 	@FUZZ_SECONDS=$(SECONDS) tests/pytest 'fuzz: it' -rP tests/test_fuzz.py
 
-bench: all
-	@echo "Measured on $$(date -u +%F), $$(uname -sr), as built for $(or $(CPU),x86-64-v2)"
-	@awk '/^(model name|flags)/ && !seen[$$1]++' /proc/cpuinfo && echo
-	@cd crates/ripemd_bench && rt run $(if $(CPU),--cpu $(CPU)) </dev/null >/dev/null
-	@bench/bench.py program
-	@! command -v cc >/dev/null || { bench/bench.py library | tee $(SPEED).txt && bench/picture $(SPEED).txt >$(SPEED).svg; }
-	@echo && crates/ripemd_bench/out/ripemd_bench lists
-	@echo && crates/ripemd_bench/out/ripemd_bench blocks
-	@echo && crates/ripemd_bench/out/ripemd_bench pieces
-	@echo && crates/ripemd_bench/out/ripemd_bench tags
+bench: toolchain
+	@bench/bench.py
 
 library: toolchain
 	@echo 'make: proving and building the library' >&2

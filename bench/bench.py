@@ -1,13 +1,15 @@
 #!/usr/bin/env python3
-"""Prints the tables of docs/PERFORMANCE.md, as measured on this machine, but for those of ripemd_bench.
+"""Prints the tables of docs/PERFORMANCE.md, as measured on this machine, for the default processors and, where
+this one has AVX2, for x86-64-v3. What the machine lacks is left out: other programs and libraries, a C compiler,
+pip, cargo.
 
-    bench/bench.py program       the program on 256 MiB in memory beside the library in one process and
-                                 other programs: the least processor time of RUNS runs each (5), in turn
-    bench/bench.py library       the functions of nattizhu.h beside those of other libraries, calls from
-                                 Python and from Rust; what is missing is left out
+    bench/bench.py
 """
+import datetime
 import os
 import pathlib
+import platform
+import re
 import shutil
 import subprocess
 import sys
@@ -15,15 +17,42 @@ import tempfile
 
 ROOT = pathlib.Path(__file__).resolve().parent.parent
 MIB = 256
+RUNS = 7
+DEFAULT = "x86-64-v2"
 
-# What hashes its standard input: for each variant, or by RIPEMD-160 alone.
-PROGRAMS = [
-    ("the library", [ROOT / "crates/ripemd_bench/out/ripemd_bench", "{variant}"]),
-    ("ripemd_sum", [ROOT / "crates/ripemd_sum/out/ripemd_sum", "{variant}"]),
-    ("openssl", ["openssl", "dgst", "-rmd160"]),
-    ("rhash", ["rhash", "--ripemd160", "-"]),
-    ("gpg", ["gpg", "--print-md", "RIPEMD160"]),
-]
+# What hashes its standard input: ours as built for a level, for each variant, and others by RIPEMD-160 alone.
+OURS = {"the library": "ripemd_bench", "ripemd_sum": "ripemd_sum"}
+OTHERS = [["openssl", "dgst", "-rmd160"], ["rhash", "--ripemd160", "-"], ["gpg", "--print-md", "RIPEMD160"]]
+
+
+def table(*rows):
+    """Prints a table: its head, and the rows below."""
+    head, *rows = [f"| {' | '.join(cells)} |".replace("|  |", "| |") for cells in rows]
+    print("\n".join([head, "|---" * (head.count("|") - 1) + "|", *rows]), flush=True)
+
+
+def title(words):
+    print(f"\n{words}:\n", flush=True)
+
+
+def machine():
+    """Prints what is measured when, and on which processor."""
+    print(f"Measured on {datetime.date.today()}, {platform.system()} {platform.release()}")
+    text = pathlib.Path("/proc/cpuinfo").read_text("utf-8")
+    print(*(re.search(rf"^{what}\s*: .*$", text, re.MULTILINE)[0] for what in ("model name", "flags")), sep="\n")
+
+
+def build(levels, folder):
+    """The program and ripemd_bench as built for each level, the default last, so that it stays where it is
+    built; by name and level."""
+    programs = {}
+    for level in levels:
+        for name in OURS.values():
+            crate = ROOT / "crates" / name
+            subprocess.run([ROOT / "build/tell", "rt", "run", "--cpu", level], cwd=crate, stdin=subprocess.DEVNULL,
+                           stdout=subprocess.DEVNULL, check=True)
+            programs[name, level] = shutil.copy(crate / "out" / name, folder / f"{name}-{level}")
+    return programs
 
 
 def processor_time(command, message):
@@ -37,48 +66,73 @@ def processor_time(command, message):
     return used.ru_utime + used.ru_stime
 
 
-def program():
-    rows = [(variant, name, [str(word).format(variant=variant) for word in words])
-            for variant in ("128", "160", "256", "320") for name, words in PROGRAMS
-            if shutil.which(words[0]) and (variant == "160" or "{variant}" in words)]
+def by_program(levels, programs):
+    """The program beside the library in one process and other programs: the least of runs in turn."""
+    rows = []
+    for variant in ("128", "160", "256", "320"):
+        rows += [(variant, f"{what}, built for {level}", [programs[name, level], variant])
+                 for level in reversed(levels) for what, name in OURS.items()]
+        rows += [(variant, words[0], words) for words in OTHERS if variant == "160" and shutil.which(words[0])]
     with tempfile.NamedTemporaryFile(dir="/dev/shm") as message:
         for _ in range(MIB):
             message.write(b"a" * 2**20)
         message.flush()
-        runs = [[processor_time(words, message) for _, _, words in rows] for _ in range(int(os.environ.get("RUNS", 5)))]
+        runs = [[processor_time(words, message) for _, _, words in rows] for _ in range(RUNS)]
     least = [min(times) for times in zip(*runs)]
-    library = {variant: time for (variant, name, _), time in zip(rows, least) if name == "the library"}
-    print("| variant | what | processor time | MB/s | time, of the library's |\n|---|---|---|---|---|")
-    for (variant, name, _), time in zip(rows, least):
-        print(f"| {variant} | {name} | {time:.2f} s | {MIB * 2**20 / time / 1e6:.0f} | {time / library[variant]:.2f} |")
+    first = {variant: time for (variant, _, _), time in reversed(list(zip(rows, least)))}
+    title(f"{MIB} MiB in memory")
+    table(["variant", "what", "processor time", "MB/s", "time, of the first row's"],
+          *([variant, what, f"{time:.2f} s", f"{MIB * 2**20 / time / 1e6:.0f}", f"{time / first[variant]:.2f}"]
+            for (variant, what, _), time in zip(rows, least)))
 
 
-def library():
-    with tempfile.TemporaryDirectory() as name:
-        folder = pathlib.Path(name)
-        for command in ([ROOT / "build/library"], [ROOT / "build/shared", folder]):
-            subprocess.run(command, stdout=sys.stderr, check=True)
-        by_c(folder)
-        by_python(folder)
-        by_rust(folder)
+def rows_of(program, what):
+    """The rows of the tables that ripemd_bench prints, their heads among them."""
+    said = subprocess.run([program, what], capture_output=True, text=True, check=True).stdout
+    return [[cell.strip() for cell in line.split("|")[1:-1]] for line in said.splitlines() if line.startswith("| ")]
 
 
-def by_c(folder):
-    levels = {"x86-64-v2": folder / "libnattizhu.so.0"}
-    if "x86-64-v3 (supported" in subprocess.run(["/lib64/ld-linux-x86-64.so.2", "--help"], capture_output=True, text=True,
-                                                check=True).stdout:
-        levels = {"x86-64-v3": folder / "glibc-hwcaps/x86-64-v3/libnattizhu.so.0", **levels}
-    else:
-        print("This processor has no AVX2: the figures are for x86-64-v2 alone.")
+def by_rattle(levels, programs):
+    """The libraries in Rattle."""
+    said = {(what, level): rows_of(programs["ripemd_bench", level], what)
+            for what in ("blocks", "lists", "pieces", "tags") for level in levels}
+
+    title("One block, ns")
+    columns = {level: list(zip(*said["blocks", level])) for level in levels}
+    table(columns[DEFAULT][0], *([f"{name}, built for {level}", *times] for level in levels
+                                 for name, *times in columns[level][1:]))
+
+    title("Lists at once, of the time one by one")
+    parts = {}
+    for level in levels:
+        for name, *figures in said["lists", level]:
+            parts.setdefault(name, []).append(f"{min(figures)} to {max(figures)}")
+    heads = ["digests", "tags"]
+    table(["messages", *(f"{head}, {level}" for level in levels for head in heads)],
+          *([name, *cells] for name, cells in parts.items() if name not in heads))
+
+    title("Updates of `Ripemd160`, ns")
+    columns = {level: list(zip(*said["pieces", level])) for level in levels}
+    table(columns[DEFAULT][0], *([f"ours, built for {level}", *columns[level][1][1:]] for level in levels))
+
+    title("`Hmac::verify`, RIPEMD-160, ns")
+    table(["tag", "accepted", *(f"built for {level}" for level in levels)],
+          *([*row[:2], *(said["tags", level][i][2] for level in levels)]
+            for i, row in enumerate(said["tags", DEFAULT]) if i))
+
+
+def by_c(levels, folder):
+    """The functions of nattizhu.h beside those of other libraries."""
+    libraries = {DEFAULT: folder / "libnattizhu.so.0", "x86-64-v3": folder / "glibc-hwcaps/x86-64-v3/libnattizhu.so.0"}
     subprocess.run(["cc", "-O2", "-Wall", "-o", folder / "linked", ROOT / "bench/linked.c", "-ldl"], check=True)
-    subprocess.run([folder / "linked", *(f"{level}={path}" for level, path in levels.items())], check=True)
+    subprocess.run([folder / "linked", *(f"{level}={libraries[level]}" for level in levels)], check=True)
 
 
 def by_python(folder):
     if subprocess.run([ROOT / "build/wheel", folder / "wheel", folder], stdout=subprocess.DEVNULL, check=False).returncode:
         return
     subprocess.run([sys.executable, "-m", "zipfile", "-e", *(folder / "wheel").glob("*.whl"), folder / "site"], check=True)
-    print(flush=True)
+    title("From Python, RIPEMD-160")
     subprocess.run([sys.executable, ROOT / "bench/from_python.py"], check=True,
                    env={**os.environ, "PYTHONPATH": str(folder / "site"), "PYTHONDONTWRITEBYTECODE": "1"})
 
@@ -91,11 +145,30 @@ def by_rust(folder):
     shutil.copytree(ROOT / "bench/rust", folder / "bench/rust")
     shutil.copytree(ROOT / "rust", folder / "rust", ignore=shutil.ignore_patterns("target", "Cargo.lock"))
     for features, what in ([], "with the feature std"), (["--no-default-features"], "without it"):
-        print(f"\nFrom Rust, RIPEMD-160, {what}:\n", flush=True)
+        title(f"From Rust, RIPEMD-160, {what}")
         subprocess.run(["cargo", "run", "--release", "--quiet", "--offline", *features, "--config",
                         'source.crates-io.replace-with="debian"', "--config", f'source.debian.directory="{registry}"'],
                        cwd=folder / "bench/rust", env={**os.environ, "NATTIZHU_LIB_DIR": str(folder)}, check=True)
 
 
+def main():
+    loader = subprocess.run(["/lib64/ld-linux-x86-64.so.2", "--help"], capture_output=True, text=True, check=True).stdout
+    levels = ["x86-64-v3", DEFAULT] if "x86-64-v3 (supported" in loader else [DEFAULT]
+    with tempfile.TemporaryDirectory() as name:
+        folder = pathlib.Path(name)
+        programs = build(levels, folder)
+        if shutil.which("cc"):
+            for command in ([ROOT / "build/library"], [ROOT / "build/shared", folder]):
+                subprocess.run(command, stdout=sys.stderr, check=True)
+        machine()
+        if shutil.which("cc"):
+            by_c(levels, folder)
+        by_rattle(levels, programs)
+        if shutil.which("cc"):
+            by_python(folder)
+            by_rust(folder)
+        by_program(levels, programs)
+
+
 if __name__ == "__main__":
-    {"program": program, "library": library}[sys.argv[1]]()
+    main()

@@ -46,7 +46,6 @@ def four_threads(make):
 
 ours = nattizhu.ripemd160()
 theirs = hashlib.new("ripemd160") if THERE else None
-print("\nFrom Python, RIPEMD-160:\n")
 print("| | nattizhu | hashlib, hmac | how many times as fast |")
 print("|---|---|---|---|")
 row("digest of 32 bytes", "ns", lambda: nattizhu.ripemd160(SHORT).digest(),

@@ -46,7 +46,12 @@ enum { TASKS_COUNT = sizeof TASKS / sizeof TASKS[0] };
 
 // Pieces of a message, each taken in by one call; then the call that begins a message, and that with
 // the one that ends it.
-static const size_t PIECES[] = {1, 8, 16, 32, 64, 4096, MIB};
+static const struct {
+  const char *name;
+  size_t size;
+} PIECES[] = {{"1 byte", 1},          {"8 bytes", 8},   {"16 bytes", 16},
+              {"32 bytes", 32},       {"64 bytes", 64}, {"4,096 bytes", 4096},
+              {"1 MiB", MIB}};
 enum {
   PIECES_COUNT = sizeof PIECES / sizeof PIECES[0],
   INIT = PIECES_COUNT,
@@ -494,7 +499,7 @@ static void repeat(struct library *by, int cell, int times) {
     }
   else if (c < PIECES_COUNT)
     for (int i = 0; i < times; i++)
-      by->update(by->state, bytes, PIECES[c]);
+      by->update(by->state, bytes, PIECES[c].size);
   else if (c < CALLS_COUNT)
     for (int i = 0; i < times; i++) {
       by->init(160, by->state);
@@ -515,7 +520,7 @@ static int batch_of(int cell) {
   int c = cell - PIECE_CELLS;
   const struct task *task = &TASKS[c < 0 ? cell / VARIANTS : 0];
   size_t blocks = c < 0                ? task->count * (task->size / 64 + 1)
-                  : c < PIECES_COUNT ? PIECES[c] / 64 + 1
+                  : c < PIECES_COUNT ? PIECES[c].size / 64 + 1
                                        : 4;
   return 4096 / blocks + 1;
 }
@@ -638,7 +643,7 @@ static void print_pieces(int rounds) {
       printf("---|");
   for (int c = 0; c < CALLS_COUNT; c++) {
     if (c < PIECES_COUNT)
-      printf("\n| update, %zu byte%s |", PIECES[c], PIECES[c] == 1 ? "" : "s");
+      printf("\n| update, %s |", PIECES[c].name);
     else
       printf("\n| init%s |", c == INIT_AND_FINAL ? " and final" : "");
     for (int l = 0; l < count; l++) {

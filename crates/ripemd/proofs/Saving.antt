@@ -7,12 +7,12 @@ use Rattle.std.proofs.lemmas.List.{append_assoc, drop-replicate, length-replicat
 use Rattle.std.proofs.lemmas.List.{length-take-le, take-append-drop}
 use Rattle.std.proofs.Math.Seq.{take-append_seam, drop-append_seam}
 use Rattle.ripemd_block.specs.States.{HashState, IsTail, IsHashState, IsWithoutTail, with_tail}
-use Rattle.ripemd_block.specs.States.{output_and_count, core_and_tail}
+use Rattle.ripemd_block.specs.States.{output_and_count, tail_bytes, core_and_tail}
 use Rattle.ripemd_block.specs.OverLists.{IsInjectiveOutput}
 use Rattle.ripemd_block.specs.States.{fed}
 use Rattle.ripemd_block.specs.Laws.Pieces.{fed_short}
 use Rattle.ripemd.specs.Saved.{IsAppended, IsTailAppended}
-use Rattle.ripemd_block.specs.Laws.Saving.{tail_bytes, length-output_and_count, core_and_tail-split}
+use Rattle.ripemd_block.specs.Laws.Saving.{length-output_and_count, core_and_tail-split}
 
 -- bytes that are a length, as many bytes, and zero bytes, are those of the saved tail
 pub tail_loaded : (saved tail rest : List ℕ) → length saved ≡ 64 → get_or saved 0 0 < 64

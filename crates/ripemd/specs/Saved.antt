@@ -1,8 +1,7 @@
 -- States that are saved as bytes (this repository's own).
 use Rattle.std.specs.Prelude.{◌≡◌, ℕ, ◌+◌, ◌≤◌, List, ◌++◌, length}
 use Rattle.ripemd_block.specs.Standard.Words.{block_size}
-use Rattle.ripemd_block.specs.States.{IsTail}
-use Rattle.ripemd_block.specs.Laws.Saving.{tail_bytes}
+use Rattle.ripemd_block.specs.States.{IsTail, tail_bytes}
 
 -- a state that can occur, and the bytes that it is saved as
 pub record IsSaved {S : Type 0} (is_valid : S → Type 0) (state_bytes : S → List ℕ) (state : S) (bytes : List ℕ) : Type 0 where

@@ -1,11 +1,10 @@
 //! Hashers saved as bytes, and loaded again.
 
-ghost use Rattle.std.specs.Prelude.{◌≡◌, ◌≢◌, ℕ, ◌-◌, ◌<◌, ◌≤◌, ◌↔◌, List, ◌∷◌, ◌++◌, length, drop, replicate, IfSome, IfNone, IsTrue, IsFalse};
+ghost use Rattle.std.specs.Prelude.{◌≡◌, ◌≢◌, ℕ, ◌<◌, ◌≤◌, ◌↔◌, List, ◌++◌, length, drop, replicate, IfSome, IfNone, IsTrue, IsFalse};
 ghost use Rattle.std.specs.List.{All};
 ghost use Rattle.std.specs.Int.{to_le_bytes, w64};
 ghost use Rattle.ripemd_block.specs.Standard.Words.{block_size};
-ghost use Rattle.ripemd_block.specs.States.{HashState, IsHashState, IsTail, core_and_tail, fed};
-ghost use Rattle.ripemd_block.specs.Laws.Saving.{tail_bytes};
+ghost use Rattle.ripemd_block.specs.States.{HashState, IsHashState, IsTail, core_and_tail, fed, tail_bytes};
 ghost use Rattle.ripemd.specs.Saved.{EndsBlock, IsAppended, IsTailAppended};
 
 use crate::hashers::BlockHasher;
@@ -55,7 +54,7 @@ impl<F: ResumableFunction> SerializableState for BlockHasher<F> {
 // The length of a tail, its bytes, and zero bytes to the end of the array.
 fn save_tail(tail: &[u8]) -> [u8; 64]
     requires { length tail.now < block_size }
-    ensures { result ≡ length tail.now ∷ tail.now ++ replicate (63 - length tail.now) 0 }
+    ensures { result ≡ tail_bytes tail.now }
 {
     let mut saved = [0; 64];
     let (len, rest) = saved.split_at_mut(1);
@@ -67,11 +66,9 @@ fn save_tail(tail: &[u8]) -> [u8; 64]
 // The tail that was saved as these bytes; `None` if there is none.
 fn load_tail(saved: &[u8]) -> Option<Buffer>
     requires { length saved.now ≡ block_size }
-    ensures some { IfSome result
-        (λ tail. length tail ∷ tail ++ replicate (63 - length tail) 0 ≡ saved.now) }
+    ensures some { IfSome result (λ tail. tail_bytes tail ≡ saved.now) }
     ensures valid { IfSome result IsTail }
-    ensures none { IfNone result ((tail : List ℕ) → IsTail tail
-        → length tail ∷ tail ++ replicate (63 - length tail) 0 ≢ saved.now) }
+    ensures none { IfNone result ((tail : List ℕ) → IsTail tail → tail_bytes tail ≢ saved.now) }
 {
     let len = saved[0] as usize;
     if len >= 64 {

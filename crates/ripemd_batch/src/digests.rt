@@ -109,7 +109,8 @@ pub fn digest_each<D: BatchDigest>(messages: &[&[u8]], digests: &mut [D::Output]
 }
 
 // Writes the digests of messages, walked through from a state to which so many bytes before them
-// led. Not inlined, so that the steps stand once in a program.
+// led. Not inlined, so that the steps stand once in a program; without the loop over groups in it, the
+// compiler does not inline the rounds.
 #[inline(never)]
 pub(crate) fn digest_from<D: BatchDigest>(
     first: StateOf<D>,

@@ -56,7 +56,7 @@ fn print_row<F: ListBlockFunction>(rt: &HostRuntime, name: &str) -> io::Result<(
 
 // Prints, as a table, what a block takes by each block function.
 pub(super) fn print_times(rt: &HostRuntime) -> io::Result<()> {
-    println!(rt; "| | step, ns | walk_on, ns |")?;
+    println!(rt; "| | `step` | `walk_on` |")?;
     println!(rt; "|---|---|---|")?;
     print_row::<Ripemd128Function>(rt, "128")?;
     print_row::<Ripemd160Function>(rt, "160")?;

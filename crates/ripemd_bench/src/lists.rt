@@ -17,6 +17,9 @@ pub(super) enum What {
 
 static KEY: [u8; 20] = [0x0b; 20];
 
+// The most messages of a list.
+pub(super) const MOST: usize = 32;
+
 // Lists of messages: so many of so many bytes, and then so many of so many.
 static LISTS: [[usize; 4]; 11] = [
     [1, 0, 0, 0],
@@ -33,11 +36,11 @@ static LISTS: [[usize; 4]; 11] = [
 ];
 
 // The messages of a list, all of them parts of the same bytes, and how many they are.
-fn messages_of<'a>(list: &[usize; 4], bytes: &'a [u8; 64_000]) -> ([&'a [u8]; 32], usize) {
-    let mut messages: [&[u8]; 32] = [&[]; 32];
+fn messages_of<'a>(list: &[usize; 4], bytes: &'a [u8; 64_000]) -> ([&'a [u8]; MOST], usize) {
+    let mut messages: [&[u8]; MOST] = [&[]; MOST];
     let [first, first_size, second, second_size] = *list;
     let mut count = 0;
-    for i in 0..32 {
+    for i in 0..MOST {
         let size = if i < first { first_size } else { second_size };
         if i < first.saturating_add(second) && size <= bytes.len() {
             messages[i] = &bytes[..size];
@@ -154,7 +157,7 @@ fn print_row(
     bytes: &[u8; 64_000],
 ) -> io::Result<()> {
     let (messages, count) = messages_of(list, bytes);
-    if count > 32 {
+    if count > MOST {
         return Ok(());
     }
     print!(rt; "| {} of {} bytes", list[0], list[1])?;
@@ -168,8 +171,8 @@ fn print_row(
 pub(super) fn print_table(rt: &HostRuntime, what: What) -> io::Result<()> {
     let bytes = [b'a'; 64_000];
     let head = match what {
-        What::Digests => "messages",
-        What::Tags => "texts, tags",
+        What::Digests => "digests",
+        What::Tags => "tags",
     };
     println!(rt; "| {head} | 128 | 160 | 256 | 320 |")?;
     println!(rt; "|---|---|---|---|---|")?;
@@ -177,37 +180,6 @@ pub(super) fn print_table(rt: &HostRuntime, what: What) -> io::Result<()> {
         print_row(rt, what, list, &bytes)?;
     }
     Ok(())
-}
-
-// How many texts are timed under one key.
-pub(super) const TEXTS: usize = 8_192;
-
-// The least time for the tag of each of many texts of 32 bytes, in nanoseconds.
-pub(super) fn time_of_tag<D: BatchDigest>(
-    rt: &HostRuntime,
-    places: &mut [D::Output],
-) -> io::Result<u64> {
-    let bytes = [b'a'; 32];
-    let texts: [&[u8]; TEXTS] = [&bytes; TEXTS];
-    let mut least = u64::MAX;
-    for _ in 0..200 {
-        least = least.min(time_of::<D>(rt, What::Tags, true, 1, &texts, places)?);
-    }
-    Ok(least / TEXTS as u64)
-}
-
-// Prints these times, as a table with one row.
-pub(super) fn print_times(rt: &HostRuntime) -> io::Result<()> {
-    println!(rt;
-        "| 8,192 texts of 32 bytes, ours at once, ns for each tag | 128 | 160 | 256 | 320 |"
-    )?;
-    println!(rt; "|---|---|---|---|---|")?;
-    print!(rt; "| ours")?;
-    for variant in VARIANTS {
-        let time = of_variant(rt, variant, &Task::TimeTags)?;
-        print!(rt; " | {time}")?;
-    }
-    println!(rt; " |")
 }
 
 // Whether a list has the same digests or tags both ways, by all four hash functions.
@@ -227,7 +199,7 @@ pub(super) fn print_agreement(rt: &HostRuntime) -> io::Result<()> {
     let mut agreeing: usize = 0;
     for list in &LISTS {
         let (messages, count) = messages_of(list, &bytes);
-        if count <= 32 {
+        if count <= MOST {
             let messages = &messages[..count];
             if all_agree(rt, What::Digests, messages)? && all_agree(rt, What::Tags, messages)? {
                 agreeing = agreeing.saturating_add(1);

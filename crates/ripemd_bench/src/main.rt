@@ -41,8 +41,6 @@ fn perform(rt: &HostRuntime) -> io::Result<ExitCode> {
             lists::print_table(rt, What::Digests)?;
             println!(rt; "")?;
             lists::print_table(rt, What::Tags)?;
-            println!(rt; "")?;
-            lists::print_times(rt)?;
         }
         "blocks" => blocks::print_times(rt)?,
         "pieces" => drop(of_variant(rt, Variant::R160, &Task::Update)?),

@@ -19,7 +19,7 @@ fn time_of<D: BatchDigest>(rt: &HostRuntime, hasher: &mut D, piece: &[u8]) -> io
 // Prints, as a table, the least time of an update, of slices in turn, for pieces of some sizes.
 pub(super) fn print_updates<D: BatchDigest>(rt: &HostRuntime) -> io::Result<()> {
     let bytes = [b'a'; 64];
-    println!(rt; "| bytes of a piece | update, ns |")?;
+    println!(rt; "| bytes | ns |")?;
     println!(rt; "|---|---|")?;
     for size in [1, 8, 16, 32, 64] {
         let mut hasher = D::new();

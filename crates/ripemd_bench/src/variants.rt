@@ -1,7 +1,7 @@
 //! What is measured of each variant. Each hasher is named at one place alone, since a call at a hasher
 //! takes the prover long.
 
-use crate::lists::{TEXTS, What, agrees, hundredths, time_of_tag};
+use crate::lists::{MOST, What, agrees, hundredths};
 use crate::pieces::print_updates;
 use crate::tags::print_verification;
 use ripemd::{Ripemd128, Ripemd160, Ripemd256, Ripemd320};
@@ -40,8 +40,6 @@ pub(super) enum Task<'a> {
         what: What,
         messages: &'a [&'a [u8]],
     },
-    // The time for each tag of many texts, in nanoseconds.
-    TimeTags,
     // Prints the time of updates by short pieces; 0.
     Update,
     // Prints the time of verifying right and wrong tags; 0.
@@ -74,7 +72,6 @@ fn work<D: BatchDigest>(
         Task::Hash { mebibytes } => hash_much::<D>(rt, *mebibytes)?,
         Task::Update => print_updates::<D>(rt)?,
         Task::Verify => print_verification::<D>(rt)?,
-        Task::TimeTags => return time_of_tag::<D>(rt, places),
         Task::Agree { what, messages }
             if messages.len() <= places.len() && messages.len() <= other.len() => {
             let count = messages.len();
@@ -92,9 +89,9 @@ fn work<D: BatchDigest>(
 // Does a task by the hash function of a variant.
 pub(super) fn of_variant(rt: &HostRuntime, variant: Variant, task: &Task) -> io::Result<u64> {
     match variant {
-        Variant::R128 => work::<Ripemd128>(rt, task, &mut [[0; 16]; TEXTS], &mut [[0; 16]; TEXTS]),
-        Variant::R160 => work::<Ripemd160>(rt, task, &mut [[0; 20]; TEXTS], &mut [[0; 20]; TEXTS]),
-        Variant::R256 => work::<Ripemd256>(rt, task, &mut [[0; 32]; TEXTS], &mut [[0; 32]; TEXTS]),
-        Variant::R320 => work::<Ripemd320>(rt, task, &mut [[0; 40]; TEXTS], &mut [[0; 40]; TEXTS]),
+        Variant::R128 => work::<Ripemd128>(rt, task, &mut [[0; 16]; MOST], &mut [[0; 16]; MOST]),
+        Variant::R160 => work::<Ripemd160>(rt, task, &mut [[0; 20]; MOST], &mut [[0; 20]; MOST]),
+        Variant::R256 => work::<Ripemd256>(rt, task, &mut [[0; 32]; MOST], &mut [[0; 32]; MOST]),
+        Variant::R320 => work::<Ripemd320>(rt, task, &mut [[0; 40]; MOST], &mut [[0; 40]; MOST]),
     }
 }

@@ -84,11 +84,13 @@ IsCoreState v = IsWithoutTail (AreWords (length v.start))
 unfoldable pub output_and_count : (List ℕ → List ℕ) → HashState → List ℕ
 output_and_count output h = output h.words ++ eight_bytes h.count
 
--- the saved bytes of a hasher: those of its core, the length of its tail as one byte, the tail, and
--- zero bytes until 63 bytes stand after the length
+-- the saved bytes of a tail: its length as one byte, the tail, and zero bytes until 63 bytes stand after the length
+abbrev pub tail_bytes : List ℕ → List ℕ
+tail_bytes tail = length tail ∷ tail ++ replicate (63 - length tail) 0
+
+-- the saved bytes of a hasher: those of its core, and those of its tail
 unfoldable pub core_and_tail : (List ℕ → List ℕ) → HashState → List ℕ
-core_and_tail output h =
-    output_and_count output h ++ length h.tail ∷ h.tail ++ replicate (63 - length h.tail) 0
+core_and_tail output h = output_and_count output h ++ tail_bytes h.tail
 
 -- those of the four variants, whose output is the bytes of the words
 abbrev pub core_bytes : HashState → List ℕ

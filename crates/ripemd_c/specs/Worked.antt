@@ -6,7 +6,7 @@ use Rattle.ripemd.specs.Published.{hexadecimal}
 use Rattle.ripemd_mac.specs.Worked.{saved_inner, saved_outer}
 use Rattle.ripemd_c.specs.Variants.{Refuses, WritesDigest, WritesTag, VerifiesTag}
 use Rattle.ripemd_c.specs.Records.{WritesDigests, WritesTags, WritesEachDigest, WritesEachTag}
-use Rattle.ripemd_c.specs.Keys.{DerivesKey, DerivesKeys}
+use Rattle.ripemd_c.specs.Keys.{FillsKey, FillsKeys, DerivesKey, DerivesKeys}
 use Rattle.ripemd_c.specs.SavedStates.{InitsState, UpdatesState, FinalizesState}
 use Rattle.ripemd_c.specs.SavedStates.{InitsHmac, UpdatesHmac, FinalizesHmac, VerifiesHmac}
 
@@ -91,13 +91,18 @@ Key = DerivesKey 160 (codes "password") (codes "salt")
 abbrev pub Keys : (rounds size : ℕ) → (old new : List ℕ) → Bool → Type 0
 Keys = DerivesKeys 160 (codes "password" ∷ codes "secret" ∷ []) (codes "salt" ∷ codes "pepper" ∷ [])
 
+-- by a hash function that always gives the byte 5, each byte of a key by two rounds is a block, 5 xor 5
+abbrev pub five : List ℕ → List ℕ
+five _ = 5 ∷ []
+
 pub record WorkedKeys : Type 0 where
+  pub no_rounds : RefusesRoom (Key 0) 20
+  pub no_rounds_of_none : RefusesRoom (DerivesKeys 160 [] [] 0 20) 0
   pub one_round : Gives (Key 1) 20 (codes "b725258b125e0bacb0e2307e34feb16a4d0d6aed")
   pub two_rounds : Gives (Key 2) 25 (codes "768dcc27b7bfdef794a1ff9d935090fcf598555e66913180b9")
   pub longest : (old new : List ℕ) (done : Bool) → length old ≡ 20 * (2 ^ 32 - 1) → Key 1 old new done → IsTrue done
   pub too_long : (old new : List ℕ) (done : Bool) → length old ≡ 20 * (2 ^ 32 - 1) + 1 → Key 1 old new done → Refuses old new done
   pub no_bytes : Gives (Key 1) 0 []
-  pub no_rounds : RefusesRoom (Key 0) 20
   pub list : Gives (Keys 2 25) 50
       (codes "768dcc27b7bfdef794a1ff9d935090fcf598555e66913180b9d92ac58575f940a39c429575de3180045194d5488ed8de5ccd")
   pub no_passwords : Gives (DerivesKeys 160 [] [] 1 20) 0 []
@@ -105,7 +110,8 @@ pub record WorkedKeys : Type 0 where
   pub too_long_of_none : RefusesRoom (DerivesKeys 160 [] [] 1 (20 * (2 ^ 32 - 1) + 1)) 0
   pub other_room : RefusesRoom (Keys 2 25) 49
   pub one_salt : RefusesRoom (DerivesKeys 160 (codes "password" ∷ codes "secret" ∷ []) (codes "salt" ∷ []) 2 25) 50
-  pub no_rounds_of_none : RefusesRoom (DerivesKeys 160 [] [] 0 20) 0
+  pub blocks : Gives (FillsKey five 1 [] [] 2) 3 (codes "000000")
+  pub blocks_of_list : Gives (FillsKeys five 1 ([] ∷ []) ([] ∷ []) 2 3) 3 (codes "000000")
 
 -- ---- states
 
@@ -127,9 +133,12 @@ saved_bytes =
 abbrev pub forged : List ℕ
 forged = replicate 92 0xff
 
--- that state gives the digest of its message, and bytes of no state and of one of the other kind are refused
+-- that state gives the digest of its message, and after "c" the one that OpenSSL gives; bytes of no state and of one of
+-- the other kind are refused
 pub record WorkedStates : Type 0 where
   pub finalized : Gives (FinalizesState (kept saved_bytes)) 20 (codes "d747cddb32a3bc8e8029dd1cacdcca01392299d6")
+  pub updated : (next : List ℕ) (fed : Bool) → UpdatesState (kept saved_bytes) (codes "c") next fed
+      → IsTrue fed × Gives (FinalizesState next) 20 (codes "62cb6e1e229809278596f9d17bd382cc9a0ff0a0")
   pub short : RefusesRoom (FinalizesState (kept saved_bytes)) 19
   pub not_finalized : RefusesRoom (FinalizesState (kept forged)) 20
   pub other_kind : RefusesRoom (FinalizesState (148 ∷ saved_bytes ++ replicate 20 0)) 20
@@ -140,6 +149,7 @@ pub record WorkedStates : Type 0 where
 -- the same of the HMAC state of "Hi There" under that key, with OpenSSL's words, and of an outer state that is none
 pub record WorkedHmacStates : Type 0 where
   pub finalized : Gives (FinalizesHmac (kept_hmac saved_inner saved_outer)) 20 (hexadecimal tag)
+  pub short : RefusesRoom (FinalizesHmac (kept_hmac saved_inner saved_outer)) 19
   pub not_finalized : RefusesRoom (FinalizesHmac (kept_hmac saved_inner forged)) 20
   pub other_kind : (answer : Bool) → VerifiesHmac (20 ∷ (saved_inner ++ saved_outer) ++ replicate 40 0) tag answer → IsFalse answer
   pub verified : (answer : Bool) → VerifiesHmac (kept_hmac saved_inner saved_outer) tag answer → IsTrue answer

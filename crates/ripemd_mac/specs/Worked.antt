@@ -10,7 +10,7 @@ use Rattle.ripemd.specs.Worked.{block_of}
 use Rattle.ripemd.specs.declared.witness.Collision.{Collision}
 use Rattle.ripemd_mac.specs.declared.reduction.MacCollision.{MacCollision}
 use Rattle.ripemd_mac.specs.declared.reduction.MacCollision.TheVariants.{Inner, Outer}
-use Rattle.ripemd_mac.specs.Keyed.{hmac, inner_message, outer_message}
+use Rattle.ripemd_mac.specs.Keyed.{hmac, inner_message, outer_message, fed_text, tag_of, keyed_state}
 use Rattle.ripemd_mac.specs.MacCollisions.{InnerAgree, IsMacCollision}
 use Rattle.ripemd_mac.specs.Saved.{IsSavedFor}
 use Rattle.ripemd_mac.specs.Pbkdf2.{F, pbkdf2}
@@ -53,10 +53,13 @@ abbrev pub SavedForHiThere : List ℕ → Type 0
 SavedForHiThere =
     IsSavedFor ripemd160.start (compress ripemd160) word_bytes (AreWords 5) (replicate 20 0x0b) (codes "Hi There")
 
--- these are, and exchanged they are not
+-- these are, and exchanged they are not; and the tag of RFC 2286 that the state gives
 pub record WorkedSaved : Type 0 where
   pub saved : SavedForHiThere (saved_inner ++ saved_outer)
   pub exchanged : ¬ SavedForHiThere (saved_outer ++ saved_inner)
+  pub tag : hexadecimal (tag_of (compress ripemd160) word_bytes
+      (fed_text (compress ripemd160) (keyed_state ripemd160.start (compress ripemd160) word_bytes (replicate 20 0x0b)) (codes "Hi There")))
+      ≡ codes "24cb4bd67d20fc1a5d2ed7732dcc39377f0a5668"
 
 -- ---- collisions
 
@@ -79,9 +82,11 @@ second_blocks state a b = record {
   right = record { place = 1; state = state; block = slice_index_or (blocks (padded_message b)) 1 [] };
 }
 
--- of the texts with the bytes 1 and 3, whose inner hashes agree, and 0 and 2, whose inner hashes do not
+-- of the texts with the bytes 1 and 3, whose inner hashes agree, and 0 and 2, whose inner hashes do not; and two
+-- whose inner hashes agree at another state
 pub record WorkedMacCollisions : Type 0 where
   pub agree : InnerAgree small_hash [] (block_of 1) (block_of 3)
+  pub agree_again : InnerAgree small_hash [] (block_of 0) (block_of 4)
   pub differ : ¬ InnerAgree small_hash [] (block_of 0) (block_of 2)
   pub inner : Meets 1 3
       (Inner (second_blocks 2 (inner_message small_hash [] (block_of 1)) (inner_message small_hash [] (block_of 3))))
@@ -101,6 +106,8 @@ pub record WorkedKeys : Type 0 where
   pub two : derived (codes "password") (codes "salt") 2 45 ≡ codes "768dcc27b7bfdef794a1ff9d935090fcf598555e66913180b9ce363c615e9ed953b95fd07169be535e38afbea2"
   pub no_salt : derived (codes "password") [] 3 20 ≡ codes "22f218113a0d856b0ec1a8a5308b1f94e00e4386"
   pub long_password : derived (replicate 65 0x61) (codes "salt") 1 25 ≡ codes "85890e1e1d2403309e94d5d319895e7fd1b8565eb520b0e34a"
+  -- by a function that always gives the byte 5, each byte of the key is a block, 5 xor 5
+  pub blocks : pbkdf2 (λ P m. 5 ∷ []) 1 [] [] 2 3 ≡ 0 ∷ 0 ∷ 0 ∷ []
   -- the block whose number has four different bytes, 01 02 03 04
   pub large_number : hexadecimal (F (hmac (ripemd ripemd160)) (codes "password") (codes "salt") 1 0x01020304)
       ≡ codes "845033f482fa5170b087e883a8a05e8d85ce77c8"

@@ -10,17 +10,13 @@ use Rattle.std.proofs.lemmas.Nat.{le_bytes_8, from_le_bytes-to_le_bytes_8}
 use Rattle.ripemd_block.specs.Standard.Words.{word_bytes, eight_bytes}
 use Rattle.ripemd_block.specs.Standard.Compression.{Parameters}
 use Rattle.ripemd_block.specs.States.{HashState, AreWords, IsTail, IsHashState, IsState, IsWithoutTail, IsCoreState}
-use Rattle.ripemd_block.specs.States.{output_and_count, core_and_tail, core_bytes, hasher_bytes}
+use Rattle.ripemd_block.specs.States.{output_and_count, tail_bytes, core_and_tail, core_bytes, hasher_bytes}
 use Rattle.ripemd_block.specs.OverLists.{IsInjectiveOutput}
 use Rattle.ripemd_block.specs.Laws.WordBytes.{words_of, words_read, words_in_range, bytes_of_words, word_bytes_injective}
 
 -- n words are told by their bytes
 pub word_bytes_output : (n : ℕ) → IsInjectiveOutput (AreWords n) word_bytes (4 * n)
 word_bytes_output n = record { size = bytes_of_words n; injective = word_bytes_injective n }
-
--- the saved bytes of a tail: its length, its bytes, and zero bytes
-abbrev pub tail_bytes : List ℕ → List ℕ
-tail_bytes tail = length tail ∷ tail ++ replicate (63 - length tail) 0
 
 -- tails that are saved as the same bytes are the same
 tail_bytes_injective : (s t : List ℕ) → tail_bytes s ≡ tail_bytes t → s ≡ t
@@ -34,8 +30,7 @@ tail_bytes_injective s t same =
 pub core_and_tail-split : (output : List ℕ → List ℕ) (h : HashState)
     → core_and_tail output h ≡ output_and_count output h ++ tail_bytes h.tail
 unfolding core_and_tail
-core_and_tail-split output h =
-    append_assoc (output_and_count output h) (length h.tail ∷ h.tail) (replicate (63 - length h.tail) 0)
+core_and_tail-split output h = refl
 
 -- states of the same words, count and tail are the same
 same_meaning : (g h : HashState) → g.words ≡ h.words → g.count ≡ h.count → g.tail ≡ h.tail → g ≡ h

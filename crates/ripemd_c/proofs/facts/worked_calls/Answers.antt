@@ -70,17 +70,19 @@ returns-clause-lists c = record {
 pub returns-clause-keys : goal.returns-clause-keys
 unfolding registers_after lines_after compress with_padding blocks hash key_block inner_message outer_message hmac U F pbkdf2 pbkdf2_each
 returns-clause-keys c = record {
+  no_rounds = λ new done does. refused done (λ fits. absurd (fits.0 refl)) does;
+  no_rounds_of_none = λ new done does. refused done (λ fits. absurd (fits.0.0 refl)) does;
   one_round = λ new done does. written (search rules, omega arith) refl does;
   two_rounds = λ new done does. written (search rules, omega arith) refl does;
   longest = λ old new done size does. does.fits.1 (search rules, omega (arith, size));
   too_long = λ old new done size does. refused done (λ fits. absurd (omega (arith, size, fits.1))) does;
   no_bytes = λ new done does. written (search rules, omega arith) refl does;
-  no_rounds = λ new done does. refused done (λ fits. absurd (fits.0 refl)) does;
   list = λ new done does. written ((search rules, omega arith), refl, refl) refl does;
   no_passwords = λ new done does. written ((search rules, omega arith), refl, refl) refl does;
   longest_of_none = λ new done does. written ((search rules, omega arith), refl, refl) refl does;
   too_long_of_none = λ new done does. refused done (λ fits. absurd (omega (arith, fits.0.1))) does;
   other_room = λ new done does. refused done (λ fits. absurd (omega (arith, fits.2))) does;
   one_salt = λ new done does. refused done (λ fits. absurd (omega (arith, fits.1))) does;
-  no_rounds_of_none = λ new done does. refused done (λ fits. absurd (fits.0.0 refl)) does;
+  blocks = λ new done does. written (search rules, omega arith) refl does;
+  blocks_of_list = λ new done does. written ((search rules, omega arith), refl, refl) refl does;
 }

@@ -3,8 +3,8 @@ use Rattle.std.proofs.Math.Seq.{drop-append_seam}
 use Rattle.ripemd.specs.Standard.Words.{word_bytes}
 use Rattle.ripemd.specs.Standard.Compression.{ripemd160, registers_after, lines_after, compress}
 use Rattle.ripemd.specs.Standard.Hashing.{with_padding, blocks, partial_block, hash}
-use Rattle.ripemd.specs.States.{HashState, IsState, fed, output_and_count, core_and_tail}
-use Rattle.ripemd_block.specs.Laws.Saving.{word_bytes_output, length-output_and_count, length-core_and_tail, core_and_tail-split, tail_bytes}
+use Rattle.ripemd.specs.States.{HashState, IsState, new_state, fed, output_and_count, tail_bytes, core_and_tail}
+use Rattle.ripemd_block.specs.Laws.Saving.{word_bytes_output, length-output_and_count, length-core_and_tail, core_and_tail-split}
 use Rattle.ripemd_mac.specs.Keyed.{KeyedState, key_block, inner_message, outer_message, hmac, keyed_state, fed_text}
 use Rattle.ripemd_mac.specs.Worked.{saved_inner, saved_outer}
 use Rattle.ripemd_c.specs.SavedStates.{IsSavedState, IsSavedHmac}
@@ -55,6 +55,12 @@ unfolding registers_after lines_after compress with_padding blocks partial_block
 returns-clause-states c = record {
   finalized = λ new done does. written refl refl (does.message tt (replicate 64 0x61 ++ 0x62 ∷ [])
       (record { valid = is_state; saved = refl }));
+  updated = λ next fed does.
+      let after_message = does.saved.message (new_state ripemd160) (replicate 64 0x61 ++ 0x62 ∷ [])
+      (record { valid = is_state; saved = refl }) in (
+        (does.saved.state after (record { valid = is_state; saved = refl })).0,
+        λ new done gives. written refl refl ((rw does.mark at gives).message tt (replicate 64 0x61 ++ 0x62 ∷ 0x63 ∷ []) after_message.1),
+      );
   short = λ new done does. refused done (λ fits. absurd (omega (arith, fits))) (does.state after (record { valid = is_state; saved = refl }));
   not_finalized = λ new done does. does.refused not_state;
   other_kind = λ new done does. does;
@@ -72,6 +78,7 @@ returns-clause-hmac_states c =
     saved_for.stands.is (record { valid = saved_for.valid; saved = saved_for.saved }) in
     record {
       finalized = λ new done does. written refl refl (does.message key (codes "Hi There") text);
+      short = λ new done does. refused done (λ fits. absurd (omega (arith, fits))) (does.message key (codes "Hi There") text);
       not_finalized = λ new done does. does.refused no_outer;
       other_kind = λ answer does. does;
       verified = λ answer does. (does.message key (codes "Hi There") text).1 refl;

@@ -7,4 +7,4 @@ use Rattle.ripemd_mac.proofs.facts.keys.Goals as goal
 
 pub returns : goal.returns
 unfolding registers_after lines_after compress with_padding blocks hash key_block inner_message outer_message hmac U F pbkdf2
-returns c = record { one = refl; two = refl; no_salt = refl; long_password = refl; large_number = refl }
+returns c = record { one = refl; two = refl; no_salt = refl; long_password = refl; blocks = refl; large_number = refl }

@@ -21,6 +21,7 @@ pub returns : goal.returns
 unfolding with_padding blocks hash key_block inner_message outer_message
 returns c = record {
   agree = refl;
+  agree_again = refl;
   differ = λ same. omega (arith, ap (λ (bytes : List ℕ). slice_index bytes 0) same);
   inner = (
     refl,

@@ -2,7 +2,7 @@ use Rattle.std.proofs.Common.{◌≡◌, ℕ, List, [], ◌∷◌, codes, get_or
 use Rattle.ripemd.specs.Standard.Words.{word_bytes}
 use Rattle.ripemd.specs.Standard.Compression.{ripemd160, registers_after, lines_after, compress}
 use Rattle.ripemd.specs.Standard.Hashing.{with_padding, blocks, partial_block}
-use Rattle.ripemd.specs.States.{HashState, IsState, fed, output_and_count, core_and_tail}
+use Rattle.ripemd.specs.States.{HashState, IsState, fed, finish, output_and_count, core_and_tail}
 use Rattle.ripemd_mac.specs.Keyed.{key_block, keyed_state}
 use Rattle.ripemd_mac.specs.Saved.{hmac_bytes}
 use Rattle.ripemd_mac.proofs.facts.saved_tag.Goals as goal
@@ -37,7 +37,7 @@ is_outer_state = record {
 }
 
 pub returns : goal.returns
-unfolding registers_after lines_after compress with_padding blocks partial_block fed output_and_count core_and_tail key_block keyed_state
+unfolding registers_after lines_after compress with_padding blocks partial_block fed finish output_and_count core_and_tail key_block keyed_state
 returns c = record {
   saved = record {
     state = record { inner = inner; outer = outer };
@@ -49,4 +49,5 @@ returns c = record {
       let bytes = ap (hmac_bytes word_bytes) (sym other.stands.is) ∙ other.saved in
       let first : 0xb3 ≡ 0x7c = ap (λ (bs : List ℕ). get_or bs 0 0) bytes in
       omega (arith, first);
+  tag = refl;
 }
