@@ -38,5 +38,12 @@ def test_version(file):
     assert re.search(VERSIONS[file], (ROOT / file).read_text("utf-8"), re.MULTILINE)[1] == version()
 
 
+def test_figures_are_those_that_were_measured():
+    measured = "\n".join(file.read_text("utf-8") for file in (ROOT / "docs/measured").iterdir()).split("\n")
+    rows = re.findall(r"^\| .*", (ROOT / "docs/PERFORMANCE.md").read_text("utf-8"), re.MULTILINE)
+    assert rows
+    assert [row for row in rows if row not in measured] == []
+
+
 def test_picture_is_that_of_the_tables():
     assert run("bench/picture", "docs/PERFORMANCE.md").stdout == (ROOT / "docs/speed.svg").read_text("utf-8")

@@ -1,9 +1,9 @@
 /* The functions of nattizhu.h for Python, in CPython's stable ABI.
  *
- * No Python code runs while the state of a hasher or an HMAC is read or written: not a signal handler,
- * which the interpreter runs between its own steps, and not a finalizer, since nothing of Python is
- * allocated then. A call on more than ENOUGH bytes leaves the interpreter's lock to other threads, and
- * holds the lock of its state. Who waits for that lock leaves the interpreter's, too. */
+ * An update by more than ENOUGH bytes releases the GIL, and holds the lock of its object instead. Each other
+ * call holds the GIL while it reads or writes a state. It allocates nothing of Python's there, so no Python
+ * code runs in between: neither a signal handler nor a finalizer. A thread that waits for an object's lock
+ * has released the GIL. */
 #define PY_SSIZE_T_CLEAN
 /* The first version whose stable ABI has buffers. */
 #define Py_LIMITED_API 0x030b0000
@@ -14,7 +14,7 @@
 
 #include "nattizhu.h"
 
-/* More bytes than this are hashed without the interpreter's lock, as hashlib does. */
+/* More bytes than this are hashed without the GIL, as hashlib does. */
 enum { ENOUGH = 2047 };
 
 /* Messages of a list that are handed on at once. */
@@ -169,7 +169,7 @@ static bool hold(PyObject *object, Py_buffer *held, const char *what) {
 typedef struct {
   PyObject_HEAD
   const Variant *variant;
-  PyThread_type_lock lock; /* null until a call leaves the interpreter's lock */
+  PyThread_type_lock lock; /* null until a call releases the GIL */
   Py_ssize_t keyed;        /* 1 if it is an HMAC, and else 0 */
   union {
     nattizhu_state hash;
@@ -896,9 +896,17 @@ static int module_clear(PyObject *module) {
 
 static void module_free(void *module) { module_clear(module); }
 
-/* The second says that interpreters with locks of their own may each have the module. The ABI has it from
- * 3.12 on, and so the headers of 3.11 do not name it. */
-static PyModuleDef_Slot module_slots[] = {{Py_mod_exec, module_exec}, {3, (void *)2}, {0, NULL}};
+/* What the ABI has from 3.12 on: each interpreter with a GIL of its own may have the module. */
+#ifndef Py_mod_multiple_interpreters
+#define Py_mod_multiple_interpreters 3
+#define Py_MOD_PER_INTERPRETER_GIL_SUPPORTED ((void *)2)
+#endif
+
+static PyModuleDef_Slot module_slots[] = {
+    {Py_mod_exec, module_exec},
+    {Py_mod_multiple_interpreters, Py_MOD_PER_INTERPRETER_GIL_SUPPORTED},
+    {0, NULL},
+};
 static struct PyModuleDef definition = {
     PyModuleDef_HEAD_INIT, "_nattizhu", NULL, sizeof(Module), functions, module_slots,
     module_traverse, module_clear, module_free};

@@ -19,6 +19,6 @@ pub use crate::hashers::{
 };
 pub use crate::mac::Hmac;
 pub use crate::many::{digest_each, digest_list, hmac_each, hmac_list};
-pub use crate::pbkdf2::{pbkdf2, pbkdf2_list, Pbkdf2Error};
+pub use crate::pbkdf2::{pbkdf2_hmac, pbkdf2_hmac_list, Pbkdf2Error};
 pub use crate::state::{DeserializeStateError, SerializableState};
 pub use digest::{self, Digest, InvalidLength, Mac, MacError};

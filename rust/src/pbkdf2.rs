@@ -4,13 +4,13 @@ use crate::many::{group, GROUP};
 use crate::{sys, Ripemd};
 use core::fmt;
 
-/// Why [`pbkdf2`] or [`pbkdf2_list`] derives no key.
+/// Why [`pbkdf2_hmac`] or [`pbkdf2_hmac_list`] derives no key.
 ///
 /// ```
-/// use nattizhu::{pbkdf2, Pbkdf2Error, Ripemd160};
+/// use nattizhu::{pbkdf2_hmac, Pbkdf2Error, Ripemd160};
 ///
 /// let mut key = [0; 16];
-/// assert_eq!(pbkdf2::<Ripemd160>(b"password", b"salt", 0, &mut key), Err(Pbkdf2Error::NoRounds));
+/// assert_eq!(pbkdf2_hmac::<Ripemd160>(b"password", b"salt", 0, &mut key), Err(Pbkdf2Error::NoRounds));
 /// ```
 #[derive(Clone, Copy, Debug, PartialEq, Eq)]
 #[non_exhaustive]
@@ -54,14 +54,14 @@ fn allowed(answer: bool, rounds: u32) -> Result<(), Pbkdf2Error> {
 /// than that. Nothing is written then.
 ///
 /// ```
-/// use nattizhu::{pbkdf2, Pbkdf2Error, Ripemd160};
+/// use nattizhu::{pbkdf2_hmac, Pbkdf2Error, Ripemd160};
 ///
 /// let mut key = [0; 16];
-/// pbkdf2::<Ripemd160>(b"password", &[0x12, 0x34, 0x56, 0x78], 5, &mut key)?;
+/// pbkdf2_hmac::<Ripemd160>(b"password", &[0x12, 0x34, 0x56, 0x78], 5, &mut key)?;
 /// assert_eq!(u128::from_be_bytes(key), 0x7a3d7c03e7266bf83d78fb29d2641f56);
 /// # Ok::<(), Pbkdf2Error>(())
 /// ```
-pub fn pbkdf2<D: Ripemd>(
+pub fn pbkdf2_hmac<D: Ripemd>(
     password: &[u8],
     salt: &[u8],
     rounds: u32,
@@ -71,25 +71,25 @@ pub fn pbkdf2<D: Ripemd>(
     allowed(answer, rounds)
 }
 
-/// Derives a key of `size` bytes from each password and the salt at its place, as [`pbkdf2`] does, eight
+/// Derives a key of `size` bytes from each password and the salt at its place, as [`pbkdf2_hmac`] does, eight
 /// at once, and writes the keys one after another to `keys`.
 ///
 /// # Errors
 ///
-/// As [`pbkdf2`], for an empty list too, and else [`Pbkdf2Error::InvalidLength`] if there are not as many
+/// As [`pbkdf2_hmac`], for an empty list too, and else [`Pbkdf2Error::InvalidLength`] if there are not as many
 /// salts as passwords, or `keys` has not `size` bytes for each. Nothing is written then.
 ///
 /// ```
-/// use nattizhu::{pbkdf2, pbkdf2_list, Pbkdf2Error, Ripemd160};
+/// use nattizhu::{pbkdf2_hmac, pbkdf2_hmac_list, Pbkdf2Error, Ripemd160};
 ///
 /// let mut keys = [0; 64];
-/// pbkdf2_list::<Ripemd160>(&[b"password", b"word"], &[b"salt", b""], 1000, 32, &mut keys)?;
+/// pbkdf2_hmac_list::<Ripemd160>(&[b"password", b"word"], &[b"salt", b""], 1000, 32, &mut keys)?;
 /// let mut key = [0; 32];
-/// pbkdf2::<Ripemd160>(b"word", b"", 1000, &mut key)?;
+/// pbkdf2_hmac::<Ripemd160>(b"word", b"", 1000, &mut key)?;
 /// assert_eq!(keys[32..], key);
 /// # Ok::<(), Pbkdf2Error>(())
 /// ```
-pub fn pbkdf2_list<D: Ripemd>(
+pub fn pbkdf2_hmac_list<D: Ripemd>(
     passwords: &[&[u8]],
     salts: &[&[u8]],
     rounds: u32,

@@ -12,7 +12,7 @@ fn one_key<D: Ripemd>(bits: usize) {
         let (password, salt) = (ramp(1, numbers[0]), ramp(0, numbers[1]));
         let rounds = numbers[2] as u32;
         let mut found = vec![0; key.len()];
-        pbkdf2::<D>(&password, &salt, rounds, &mut found).unwrap();
+        pbkdf2_hmac::<D>(&password, &salt, rounds, &mut found).unwrap();
         assert_eq!(found, key);
         found.fill(0);
         ::pbkdf2::pbkdf2::<hmac::SimpleHmac<D>>(&password, &salt, rounds, &mut found);
@@ -55,7 +55,7 @@ fn list_of_keys<D: Ripemd>(bits: usize) {
             let passwords: Vec<&[u8]> = passwords.iter().map(|bytes| &bytes[..]).collect();
             let salts: Vec<&[u8]> = salts.iter().map(|bytes| &bytes[..]).collect();
             let mut keys = vec![0; count * size];
-            pbkdf2_list::<D>(&passwords, &salts, rounds as u32, size, &mut keys).unwrap();
+            pbkdf2_hmac_list::<D>(&passwords, &salts, rounds as u32, size, &mut keys).unwrap();
             for ((_, key), found) in lines.iter().zip(keys.chunks(size)) {
                 assert_eq!(found, &key[..size]);
             }
@@ -68,15 +68,15 @@ fn refused<D: Ripemd>(bits: usize) {
     use Pbkdf2Error::*;
     let mut key = [7; 48];
     assert_eq!(
-        pbkdf2::<D>(b"password", b"salt", 0, &mut key),
+        pbkdf2_hmac::<D>(b"password", b"salt", 0, &mut key),
         Err(NoRounds)
     );
-    assert_eq!(pbkdf2::<D>(b"", b"", 0, &mut []), Err(NoRounds));
-    assert_eq!(pbkdf2::<D>(b"", b"", 1, &mut []), Ok(()));
+    assert_eq!(pbkdf2_hmac::<D>(b"", b"", 0, &mut []), Err(NoRounds));
+    assert_eq!(pbkdf2_hmac::<D>(b"", b"", 1, &mut []), Ok(()));
 
     let two: [&[u8]; 2] = [b"a", b""];
     let mut list = |passwords: &[&[u8]], salts: &[&[u8]], rounds, size| {
-        pbkdf2_list::<D>(passwords, salts, rounds, size, &mut key)
+        pbkdf2_hmac_list::<D>(passwords, salts, rounds, size, &mut key)
     };
     assert_eq!(list(&two, &two, 0, 24), Err(NoRounds));
     assert_eq!(list(&two, &two[..1], 1, 24), Err(InvalidLength));
@@ -92,7 +92,10 @@ fn refused<D: Ripemd>(bits: usize) {
     assert_eq!(list(&[], &[], 0, longest + 1), Err(NoRounds));
     assert_eq!(key, [7; 48]);
 
-    assert_eq!(pbkdf2_list::<D>(&[], &[], 1, longest, &mut []), Ok(()));
-    assert_eq!(pbkdf2_list::<D>(&[], &[], 0, 1, &mut []), Err(NoRounds));
-    assert_eq!(pbkdf2_list::<D>(&two, &two, 1, 0, &mut []), Ok(()));
+    assert_eq!(pbkdf2_hmac_list::<D>(&[], &[], 1, longest, &mut []), Ok(()));
+    assert_eq!(
+        pbkdf2_hmac_list::<D>(&[], &[], 0, 1, &mut []),
+        Err(NoRounds)
+    );
+    assert_eq!(pbkdf2_hmac_list::<D>(&two, &two, 1, 0, &mut []), Ok(()));
 }

@@ -2,8 +2,8 @@
 //!   secrets [jump]        with `jump`, one depends on a digest
 
 use nattizhu::{
-    digest_each, digest_list, hmac_each, hmac_list, pbkdf2, pbkdf2_list, Digest, Hmac, Mac, Ripemd,
-    Ripemd128, Ripemd160, Ripemd256, Ripemd320, SerializableState,
+    digest_each, digest_list, hmac_each, hmac_list, pbkdf2_hmac, pbkdf2_hmac_list, Digest, Hmac,
+    Mac, Ripemd, Ripemd128, Ripemd160, Ripemd256, Ripemd320, SerializableState,
 };
 
 // In marks.c.
@@ -53,9 +53,9 @@ where
         hmac_list::<D>(&key, &list, &mut outputs[3..6]).unwrap();
         outputs[..6].iter().for_each(must_be_secret);
         let mut keys = [0; 150];
-        pbkdf2::<D>(&key, &text, 2, &mut keys).unwrap();
+        pbkdf2_hmac::<D>(&key, &text, 2, &mut keys).unwrap();
         must_be_secret(keys);
-        pbkdf2_list::<D>(&list, &list, 2, 50, &mut keys).unwrap();
+        pbkdf2_hmac_list::<D>(&list, &list, 2, 50, &mut keys).unwrap();
         must_be_secret(keys);
     }
 }

@@ -7,7 +7,7 @@ use Rattle.std.specs.Fn.{iterate}
 use Rattle.std.proofs.lemmas.List.Sums.{fold-append}
 use Rattle.std.proofs.lemmas.List.FromFn.{map-range_with_len_more}
 use Rattle.ripemd_block.specs.Laws.Blocks.{blocks_of_one}
-use Rattle.ripemd_batch.specs.Keys.{combined_tags}
+use Rattle.ripemd_batch.specs.Pbkdf2.{combined_tags}
 use Rattle.ripemd_batch.specs.Lanes.{padded_after, hash_after}
 
 -- the hash after a block of a message that its padding makes one block

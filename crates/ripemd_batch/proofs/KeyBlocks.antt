@@ -1,36 +1,23 @@
 -- The blocks of a key, from the states after the two masked keys.
-use Rattle.std.proofs.Common.{◌≡◌, ℕ, ◌+◌, ◌-◌, ◌*◌, ◌/◌, ◌%◌, ◌^◌, ◌<◌, ◌≤◌, ◌⊎◌, inl, inr, arith}
+use Rattle.std.proofs.Common.{◌≡◌, ℕ, ◌+◌, ◌-◌, ◌*◌, ◌/◌, ◌%◌, ◌<◌, ◌≤◌, arith}
 use Rattle.std.proofs.Common.{List, [], ◌∷◌, ◌++◌, length, refl, ap, sym, subst, ◌∙◌}
-use Rattle.std.specs.Int.{div_ceil}
-use Rattle.std.proofs.lemmas.Bool.{cases_lt}
-use Rattle.std.proofs.Math.Nat.{div-add-mod, div-eq_of_lt, div-le_of_le-mul, lt_of_mul-lt-mul_left, mod-eq_of_lt, mul-add-div, mul-add-mod_self_left, mul-le-mul_left, mul-le-mul_right}
+use Rattle.std.proofs.Math.Nat.{div-eq_of_lt, mod-eq_of_lt, mul-add-div, mul-add-mod_self_left, mul-le-mul_left}
 use Rattle.std.specs.List.{flat_map}
 use Rattle.std.proofs.Math.Path.{fun_ext}
 use Rattle.std.proofs.lemmas.List.{append_assoc}
 use Rattle.ripemd_block.specs.Standard.Hashing.{hash}
-use Rattle.ripemd_mac.specs.Keyed.{key_block, masked, hmac}
+use Rattle.ripemd_mac.specs.Hmac.{key_block, masked, hmac}
 use Rattle.ripemd_mac.specs.Pbkdf2.{INT, U, F}
-use Rattle.ripemd_batch.specs.Keys.{HasBlocks, InGroup, IsFilled, block_at, combined_tags, tag_after}
+use Rattle.ripemd_batch.specs.Pbkdf2.{HasBlocks, InGroup, IsFilled, KeyList, block_at, combined_tags, tag_after, total}
 use Rattle.ripemd_batch.specs.Lanes.{hash_after, list_at}
 use Rattle.ripemd_batch.proofs.Tagging.{tag_after as tag_is}
 use Rattle.ripemd_batch.proofs.Walking.{hash_after_block}
 
--- a key that is allowed has fewer than 2 ^ 32 blocks
-pub count_fits : (n h : ℕ) → n ≤ (2 ^ 32 - 1) * h → div_ceil n h < 2 ^ 32
-count_fits n h fits = go (cases_lt 0 (n % h))
-  where
-    go : (0 < n % h) ⊎ (n % h ≤ 0) → div_ceil n h < 2 ^ 32
-    go (inl more) =
-        let less : n / h < 4294967295 = lt_of_mul-lt-mul_left h (omega (arith, div-add-mod n h, more, fits)) in
-        omega (arith, less)
-    go (inr none) =
-        let most : n / h ≤ 4294967295 = div-le_of_le-mul h (omega (arith, fits)) in
-        omega (arith, most, none)
-
 -- block b of key i
-pub block_in_key : (PRF : List ℕ → List ℕ → List ℕ) (passwords salts : List (List ℕ)) (c count i b : ℕ) → b < count
-    → block_at PRF passwords salts c count (count * i + b) ≡ F PRF (list_at passwords i) (list_at salts i) c (b + 1)
-block_in_key PRF passwords salts c count i b inside =
+pub block_in_key : (PRF : List ℕ → List ℕ → List ℕ) (keys : KeyList) (i b : ℕ) → b < keys.count
+    → block_at PRF keys (keys.count * i + b) ≡ F PRF (list_at keys.passwords i) (list_at keys.salts i) keys.rounds (b + 1)
+block_in_key PRF keys i b inside =
+    let count : ℕ = keys.count in
     let some : 0 < count = omega (arith, inside) in
     let key : (count * i + b) / count ≡ i = mul-add-div some i b ∙ ap (λ x. i + x) (div-eq_of_lt inside) ∙ omega arith in
     let place : (count * i + b) % count ≡ b = mul-add-mod_self_left count i b ∙ mod-eq_of_lt inside in
@@ -42,28 +29,17 @@ inside_all count n i b key block =
     let all : count * (i + 1) ≤ count * n = mul-le-mul_left count (omega (arith, key)) in
     omega (arith, all, block)
 
--- how many blocks a key has: of whole ones alone, and where a part of one is behind them
-pub only_whole : (n h : ℕ) → n ≤ h * (n / h) → div_ceil n h ≡ n / h
-only_whole n h whole =
-    let none : n % h ≡ 0 = omega (arith, div-add-mod n h, whole) in
-    omega (arith, none)
-
-pub one_more : (n h : ℕ) → h * (n / h) < n → div_ceil n h ≡ n / h + 1
-one_more n h more =
-    let some : 0 < n % h = omega (arith, div-add-mod n h, more) in
-    omega (arith, some)
-
 -- the block in its group, and the group that the next block belongs to
-pub in_group : (size : ℕ) (f : ℕ → List ℕ) (k total : ℕ) (group : List (List ℕ))
-    → HasBlocks size f (k - k % 8) total group → k < total → IsFilled size (list_at group (k % 8)) (f k)
-in_group size f k total group has inside =
+pub in_group : (size : ℕ) (PRF : List ℕ → List ℕ → List ℕ) (keys : KeyList) (k : ℕ) (group : List (List ℕ))
+    → HasBlocks size PRF keys (k - k % 8) group → k < total keys → IsFilled size (list_at group (k % 8)) (block_at PRF keys k)
+in_group size PRF keys k group has inside =
     let place : k - k % 8 + k % 8 ≡ k = omega arith in
-    subst (λ (n : ℕ). IsFilled size (list_at group (k % 8)) (f n)) place
+    subst (λ (n : ℕ). IsFilled size (list_at group (k % 8)) (block_at PRF keys n)) place
     (has (k % 8) (omega arith) (omega (arith, place, inside)))
 
-pub next_group : (size : ℕ) (f : ℕ → List ℕ) (k n total : ℕ) (group : List (List ℕ))
-    → HasBlocks size f (k - k % 8) total group → n ≡ k + 1 → InGroup size f n total group
-next_group size f k n total group has next more j h within =
+pub next_group : (size : ℕ) (PRF : List ℕ → List ℕ → List ℕ) (keys : KeyList) (k n : ℕ) (group : List (List ℕ))
+    → HasBlocks size PRF keys (k - k % 8) group → n ≡ k + 1 → InGroup size PRF keys n group
+next_group size PRF keys k n group has next more j h within =
     let same : n - n % 8 ≡ k - k % 8 = omega (arith, next, more) in
     rw same (has j h (omega (arith, same, within)))
 
@@ -72,12 +48,6 @@ pub no_keys : (keys : List ℕ) (f : ℕ → List ℕ) (xs : List ℕ) → lengt
 no_keys [] f [] none empty = refl
 no_keys [] f (x ∷ xs) none empty = rw (empty x) (no_keys [] f xs none empty)
 no_keys (k ∷ keys) f xs none empty = absurd (omega (arith, none))
-
--- there are no more blocks than bytes
-pub all_fit : (n h count : ℕ) → 0 < h → div_ceil n h * count ≤ n * count
-all_fit n h count some =
-    let most : div_ceil n h ≤ n = omega (arith, div-add-mod n h, mul-le-mul_right (n / h) some) in
-    mul-le-mul_right count most
 
 module _ (start : List ℕ) (step : List ℕ → List ℕ → List ℕ) (output : List ℕ → List ℕ) (password inner outer : List ℕ)
     (inner_size : length inner ≡ 64) (outer_size : length outer ≡ 64)

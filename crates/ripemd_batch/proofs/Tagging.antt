@@ -1,7 +1,7 @@
 -- The tag of a text, from the states after the two masked keys.
 use Rattle.std.proofs.Common.{◌≡◌, ℕ, List, ◌++◌, length, refl}
 use Rattle.ripemd_block.specs.Standard.Hashing.{hash}
-use Rattle.ripemd_mac.specs.Keyed.{key_block, masked, inner_message, outer_message, hmac}
+use Rattle.ripemd_mac.specs.Hmac.{key_block, masked, inner_message, outer_message, hmac}
 use Rattle.ripemd_batch.specs.Lanes.{hash_after}
 use Rattle.ripemd_batch.proofs.Walking.{hash_after_block}
 

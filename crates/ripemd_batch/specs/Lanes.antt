@@ -7,8 +7,8 @@ use Rattle.ripemd_block.specs.Standard.Words.{message_word}
 use Rattle.ripemd_block.specs.Standard.Hashing.{with_padding, blocks, walk}
 use Rattle.ripemd_block.specs.Standard.Schedule.{Line, left_line, right_line}
 use Rattle.ripemd_block.specs.Standard.Compression.{Lines}
-use Rattle.ripemd_batch.specs.declared.steps.Side.{Side}
-use Rattle.ripemd_batch.specs.declared.steps.Side.TheVariants.{Left, Right}
+use Rattle.ripemd_batch.specs.declared.lines.Side.{Side}
+use Rattle.ripemd_batch.specs.declared.lines.Side.TheVariants.{Left, Right}
 
 -- ---- the lanes of vectors
 
@@ -31,12 +31,9 @@ abbrev pub line_of : ℕ → Side → Line
 line_of rounds Left = left_line
 line_of rounds Right = right_line rounds
 
--- both lines of message j, of four registers and of five
-abbrev pub lines_of_four_registers : ℕ → List (List ℕ) → List (List ℕ) → Lines
-lines_of_four_registers j left right = record { left = lane_of 4 j left; right = lane_of 4 j right }
-
-abbrev pub lines_of_five_registers : ℕ → List (List ℕ) → List (List ℕ) → Lines
-lines_of_five_registers j left right = record { left = lane_of 5 j left; right = lane_of 5 j right }
+-- both lines of message j, of n registers
+abbrev pub lines_of : ℕ → ℕ → List (List ℕ) → List (List ℕ) → Lines
+lines_of n j left right = record { left = lane_of n j left; right = lane_of n j right }
 
 -- ---- lists of messages
 

@@ -6,11 +6,11 @@ ghost use Rattle.ripemd_block.specs.Standard.Compression.{joint_state, compress,
 ghost use Rattle.ripemd_batch.specs.Lanes.{HasWords, lane_of};
 
 use crate::eight::Eight;
-use crate::four_registers::{Lines, round};
+use crate::lines::{Lines, round};
 
 // The states that take the registers of both lines in.
 #[inline(always)]
-fn joint_state(state: [Eight; 4], lines: Lines) -> [Eight; 4]
+fn joint_state(state: [Eight; 4], lines: Lines<[Eight; 4]>) -> [Eight; 4]
     ensures { (j : ℕ) → j < 8 → lane_of 4 j result
         ≡ joint_state (lane_of 4 j state) (lane_of 4 j lines.left)
         (lane_of 4 j lines.right) }
@@ -35,9 +35,9 @@ pub(crate) fn compress(state: [Eight; 4], words: &[Eight; 16]) -> [Eight; 4]
         left: state,
         right: state,
     };
-    let lines = round::<0>(words, lines);
-    let lines = round::<1>(words, lines);
-    let lines = round::<2>(words, lines);
-    let lines = round::<3>(words, lines);
+    let lines = round::<[Eight; 4], 0>(words, lines);
+    let lines = round::<[Eight; 4], 1>(words, lines);
+    let lines = round::<[Eight; 4], 2>(words, lines);
+    let lines = round::<[Eight; 4], 3>(words, lines);
     joint_state(state, lines)
 }

@@ -6,11 +6,11 @@ ghost use Rattle.ripemd_block.specs.Standard.Compression.{joint_state, compress,
 ghost use Rattle.ripemd_batch.specs.Lanes.{HasWords, lane_of};
 
 use crate::eight::Eight;
-use crate::five_registers::{Lines, round};
+use crate::lines::{Lines, round};
 
 // The states that take the registers of both lines in.
 #[inline(always)]
-fn joint_state(state: [Eight; 5], lines: Lines) -> [Eight; 5]
+fn joint_state(state: [Eight; 5], lines: Lines<[Eight; 5]>) -> [Eight; 5]
     ensures { (j : ℕ) → j < 8 → lane_of 5 j result
         ≡ joint_state (lane_of 5 j state) (lane_of 5 j lines.left)
         (lane_of 5 j lines.right) }
@@ -36,10 +36,10 @@ pub(crate) fn compress(state: [Eight; 5], words: &[Eight; 16]) -> [Eight; 5]
         left: state,
         right: state,
     };
-    let lines = round::<0>(words, lines);
-    let lines = round::<1>(words, lines);
-    let lines = round::<2>(words, lines);
-    let lines = round::<3>(words, lines);
-    let lines = round::<4>(words, lines);
+    let lines = round::<[Eight; 5], 0>(words, lines);
+    let lines = round::<[Eight; 5], 1>(words, lines);
+    let lines = round::<[Eight; 5], 2>(words, lines);
+    let lines = round::<[Eight; 5], 3>(words, lines);
+    let lines = round::<[Eight; 5], 4>(words, lines);
     joint_state(state, lines)
 }

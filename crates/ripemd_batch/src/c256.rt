@@ -4,15 +4,15 @@
 ghost use Rattle.std.specs.Prelude.{◌≡◌, ◌<◌, ℕ, List};
 ghost use Rattle.ripemd_block.specs.Standard.Compression.{lines_from, double_state};
 ghost use Rattle.ripemd_block.specs.Standard.Compression.{compress, ripemd256};
-ghost use Rattle.ripemd_batch.specs.Lanes.{HasWords, lane_of, lines_of_four_registers};
+ghost use Rattle.ripemd_batch.specs.Lanes.{HasWords, lane_of, lines_of};
 
 use crate::eight::Eight;
-use crate::four_registers::{Lines, exchange, round};
+use crate::lines::{Lines, exchange, round};
 
 // Where the lines start.
 #[inline(always)]
-fn lines_from(state: [Eight; 8]) -> Lines
-    ensures { (j : ℕ) → j < 8 → lines_of_four_registers j result.left result.right
+fn lines_from(state: [Eight; 8]) -> Lines<[Eight; 4]>
+    ensures { (j : ℕ) → j < 8 → lines_of 4 j result.left result.right
         ≡ lines_from ripemd256 (lane_of 8 j state) }
 {
     Lines {
@@ -23,7 +23,7 @@ fn lines_from(state: [Eight; 8]) -> Lines
 
 // The states that take the registers of both lines in.
 #[inline(always)]
-fn double_state(state: [Eight; 8], lines: Lines) -> [Eight; 8]
+fn double_state(state: [Eight; 8], lines: Lines<[Eight; 4]>) -> [Eight; 8]
     ensures { (j : ℕ) → j < 8 → lane_of 8 j result
         ≡ double_state (lane_of 8 j state) (lane_of 4 j lines.left)
         (lane_of 4 j lines.right) }
@@ -42,17 +42,17 @@ fn double_state(state: [Eight; 8], lines: Lines) -> [Eight; 8]
     ]
 }
 
-/// The states after one more block of each message, of which these are the message words. The registers that are exchanged are A, B, C
-/// and D in turn.
+/// The states after one more block of each message, of which these are the message words. The registers
+/// that are exchanged are A, B, C and D in turn.
 pub(crate) fn compress(state: [Eight; 8], words: &[Eight; 16]) -> [Eight; 8]
     ensures { (j : ℕ) → j < 8 → (block : List ℕ) → HasWords words.now j block
         → lane_of 8 j result
         ≡ compress ripemd256 (lane_of 8 j state) block }
 {
     let lines = lines_from(state);
-    let lines = exchange(0, round::<0>(words, lines));
-    let lines = exchange(1, round::<1>(words, lines));
-    let lines = exchange(2, round::<2>(words, lines));
-    let lines = exchange(3, round::<3>(words, lines));
+    let lines = exchange(0, round::<[Eight; 4], 0>(words, lines));
+    let lines = exchange(1, round::<[Eight; 4], 1>(words, lines));
+    let lines = exchange(2, round::<[Eight; 4], 2>(words, lines));
+    let lines = exchange(3, round::<[Eight; 4], 3>(words, lines));
     double_state(state, lines)
 }

@@ -4,15 +4,15 @@
 ghost use Rattle.std.specs.Prelude.{◌≡◌, ◌<◌, ℕ, List};
 ghost use Rattle.ripemd_block.specs.Standard.Compression.{lines_from, double_state};
 ghost use Rattle.ripemd_block.specs.Standard.Compression.{compress, ripemd320};
-ghost use Rattle.ripemd_batch.specs.Lanes.{HasWords, lane_of, lines_of_five_registers};
+ghost use Rattle.ripemd_batch.specs.Lanes.{HasWords, lane_of, lines_of};
 
 use crate::eight::Eight;
-use crate::five_registers::{Lines, exchange, round};
+use crate::lines::{Lines, exchange, round};
 
 // Where the lines start.
 #[inline(always)]
-fn lines_from(state: [Eight; 10]) -> Lines
-    ensures { (j : ℕ) → j < 8 → lines_of_five_registers j result.left result.right
+fn lines_from(state: [Eight; 10]) -> Lines<[Eight; 5]>
+    ensures { (j : ℕ) → j < 8 → lines_of 5 j result.left result.right
         ≡ lines_from ripemd320 (lane_of 10 j state) }
 {
     Lines {
@@ -23,7 +23,7 @@ fn lines_from(state: [Eight; 10]) -> Lines
 
 // The states that take the registers of both lines in.
 #[inline(always)]
-fn double_state(state: [Eight; 10], lines: Lines) -> [Eight; 10]
+fn double_state(state: [Eight; 10], lines: Lines<[Eight; 5]>) -> [Eight; 10]
     ensures { (j : ℕ) → j < 8 → lane_of 10 j result
         ≡ double_state (lane_of 10 j state) (lane_of 5 j lines.left)
         (lane_of 5 j lines.right) }
@@ -44,18 +44,18 @@ fn double_state(state: [Eight; 10], lines: Lines) -> [Eight; 10]
     ]
 }
 
-/// The states after one more block of each message, of which these are the message words. The registers that are exchanged are B, D, A,
-/// C and E in turn.
+/// The states after one more block of each message, of which these are the message words. The registers
+/// that are exchanged are B, D, A, C and E in turn.
 pub(crate) fn compress(state: [Eight; 10], words: &[Eight; 16]) -> [Eight; 10]
     ensures { (j : ℕ) → j < 8 → (block : List ℕ) → HasWords words.now j block
         → lane_of 10 j result
         ≡ compress ripemd320 (lane_of 10 j state) block }
 {
     let lines = lines_from(state);
-    let lines = exchange(1, round::<0>(words, lines));
-    let lines = exchange(3, round::<1>(words, lines));
-    let lines = exchange(0, round::<2>(words, lines));
-    let lines = exchange(2, round::<3>(words, lines));
-    let lines = exchange(4, round::<4>(words, lines));
+    let lines = exchange(1, round::<[Eight; 5], 0>(words, lines));
+    let lines = exchange(3, round::<[Eight; 5], 1>(words, lines));
+    let lines = exchange(0, round::<[Eight; 5], 2>(words, lines));
+    let lines = exchange(2, round::<[Eight; 5], 3>(words, lines));
+    let lines = exchange(4, round::<[Eight; 5], 4>(words, lines));
     double_state(state, lines)
 }

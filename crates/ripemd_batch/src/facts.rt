@@ -4,7 +4,7 @@
 ghost use Rattle.std.specs.Prelude.{◌≡◌, ℕ, List, [], ◌∷◌, ◌++◌};
 ghost use Rattle.std.specs.Borrow.{Bor};
 ghost use Rattle.ripemd_mac.specs.Pbkdf2.{pbkdf2};
-ghost use Rattle.ripemd_batch.specs.Keys.{pbkdf2_each};
+ghost use Rattle.ripemd_batch.specs.Pbkdf2.{pbkdf2_each};
 ghost use Rattle.ripemd_batch.specs.Lanes.{targets};
 
 /// Two messages are those that the two references point at, in order.

@@ -1,17 +1,45 @@
-//! What is made of each message of a list: its digest, or its tag under a key.
+//! Digests of many messages, and tags of many texts under one key.
 
-ghost use Rattle.std.specs.Prelude.{◌≡◌, ◌≤◌, length, map};
+ghost use Rattle.std.specs.Prelude.{◌≡◌, ◌≤◌, ℕ, ◌<◌, [], length, map, take, slice_index_or};
 ghost use Rattle.ripemd_block.specs.Standard.Hashing.{hash};
-ghost use Rattle.ripemd_mac.specs.Keyed.{hmac};
+ghost use Rattle.ripemd_mac.specs.Hmac.{hmac};
 ghost use Rattle.ripemd_batch.specs.Lanes.{hash_after, made_by, targets};
 
-use crate::digests::{
+use crate::groups::{
     BatchDigest, FunctionOf, StateOf, digest_from, digest_one, group_end, message_at,
 };
-use crate::tags::{digest_blocks, digests_in};
-use ripemd_block::block_api::{BlockFunction, walk};
-use ripemd_mac::keyed::masked_keys;
+use ripemd_block::block_api::{BlockFunction, ByteArray, walk};
+use ripemd_mac::hmac::{filled, masked_keys};
 use std::marker::Model;
+
+/// Writes the digest of each message to the place in `digests` that the message has in `messages`.
+/// There must be as many places as messages. Nothing is allocated.
+///
+/// The messages go in groups of eight as they come. The time of a group that is hashed at once
+/// depends on its longest message alone. A group that would leave most lanes without work is hashed
+/// one message after another. So it is fastest if neighbours have like lengths.
+pub fn digest_each<D: BatchDigest>(messages: &[&[u8]], digests: &mut [D::Output])
+    requires { length digests.old ≡ length messages.now }
+    ensures { map D.bytes_of digests.new
+        ≡ map (hash D.start D.step D.output) (targets messages.now) }
+{
+    ListHasher::<D>::new().hash_each(messages, digests);
+}
+
+/// Writes the tag of each text under the key (RFC 2104) to the place in `tags` that the text has in
+/// `texts`: the tag that `Hmac` gives. The key has any length, and there must be as many places as
+/// texts. Nothing is allocated.
+///
+/// The key is hashed once for all texts. These go in groups of eight as they come, as messages do in
+/// [`digest_each`], and so it is fastest if neighbours have like
+/// lengths.
+pub fn tag_each<D: BatchDigest>(key: &[u8], texts: &[&[u8]], tags: &mut [D::Output])
+    requires { length tags.old ≡ length texts.now }
+    ensures { map D.bytes_of tags.new
+        ≡ map (hmac (hash D.start D.step D.output) key.now) (targets texts.now) }
+{
+    ListHasher::<D>::keyed(key).hash_each(texts, tags);
+}
 
 /// Makes the digest of each message of a list, or its tag under a key (RFC 2104), for any number of
 /// lists. Contracts see the states from which it hashes, by what these make of a message.
@@ -155,4 +183,51 @@ pub(crate) fn state_after<D: BatchDigest>(block: [u8; 64]) -> StateOf<D>
     ensures valid { D.States.Function.is_state result }
 {
     walk::<FunctionOf<D>>(FunctionOf::<D>::start(), &[block])
+}
+
+// A block for each of at most eight digests, which begins with the digest.
+fn digest_blocks<D: BatchDigest>(digests: &[D::Output]) -> [[u8; 64]; 8]
+    ensures { (j : ℕ) → j < 8 → j < length digests.now → take D.Output.LEN (slice_index_or result j [])
+        ≡ slice_index_or (map D.bytes_of digests.now) j [] }
+{
+    [
+        digest_block::<D>(digests, 0),
+        digest_block::<D>(digests, 1),
+        digest_block::<D>(digests, 2),
+        digest_block::<D>(digests, 3),
+        digest_block::<D>(digests, 4),
+        digest_block::<D>(digests, 5),
+        digest_block::<D>(digests, 6),
+        digest_block::<D>(digests, 7),
+    ]
+}
+
+// A block that begins with digest `j`; zeros alone behind the last.
+#[inline(always)]
+fn digest_block<D: BatchDigest>(digests: &[D::Output], j: usize) -> [u8; 64]
+    ensures { j < length digests.now → take D.Output.LEN result
+        ≡ slice_index_or (map D.bytes_of digests.now) j [] }
+{
+    if j < digests.len() {
+        filled(digests[j].as_bytes())
+    } else {
+        [0; 64]
+    }
+}
+
+// The digests with which eight blocks begin.
+fn digests_in<'a, D: BatchDigest>(blocks: &'a [[u8; 64]; 8]) -> [&'a [u8]; 8]
+    ensures { targets result ≡ map (take D.Output.LEN) blocks.now }
+{
+    let size = <D::Output as ByteArray>::LEN;
+    [
+        &blocks[0][..size],
+        &blocks[1][..size],
+        &blocks[2][..size],
+        &blocks[3][..size],
+        &blocks[4][..size],
+        &blocks[5][..size],
+        &blocks[6][..size],
+        &blocks[7][..size],
+    ]
 }

@@ -2,8 +2,8 @@
 
 use crate::digests::bytes;
 use ripemd::{Ripemd128, Ripemd160, Ripemd256, Ripemd320};
-use ripemd_batch::{BatchDigest, pbkdf2_each};
-use ripemd_mac::{Pbkdf2Error, pbkdf2};
+use ripemd_batch::{BatchDigest, pbkdf2_hmac_each};
+use ripemd_mac::{Pbkdf2Error, pbkdf2_hmac};
 
 // Whether the keys of so many bytes are those of one after another.
 fn agrees<D: BatchDigest>(passwords: &[&[u8]], salts: &[&[u8]], size: usize) -> bool {
@@ -16,12 +16,12 @@ fn agrees<D: BatchDigest>(passwords: &[&[u8]], salts: &[&[u8]], size: usize) -> 
     if salts.len() != passwords.len() || size.checked_mul(passwords.len()) != Some(keys.len()) {
         return false;
     }
-    if pbkdf2_each::<D>(passwords, salts, 3, size, keys).is_err() {
+    if pbkdf2_hmac_each::<D>(passwords, salts, 3, size, keys).is_err() {
         return false;
     }
     for i in 0..passwords.len() {
         let at = size.saturating_mul(i);
-        if pbkdf2::<D>(passwords[i], salts[i], 3, key).is_err()
+        if pbkdf2_hmac::<D>(passwords[i], salts[i], 3, key).is_err()
             || keys.get(at..at.saturating_add(size)) != Some(&*key)
         {
             return false;
@@ -62,7 +62,7 @@ fn each_of_a_list(rt: HostRuntime) {
 #[test]
 fn no_rounds(rt: HostRuntime) {
     let mut keys = [7; 40];
-    let derived = pbkdf2_each::<Ripemd160>(&[b"a", b"b"], &[b"c", b"d"], 0, 20, &mut keys);
+    let derived = pbkdf2_hmac_each::<Ripemd160>(&[b"a", b"b"], &[b"c", b"d"], 0, 20, &mut keys);
     assert!(rt; derived == Err(Pbkdf2Error::NoRounds));
     assert!(rt; keys == [7; 40]);
 }

@@ -2,7 +2,7 @@
 
 use ripemd::{Ripemd128, Ripemd160, Ripemd256, Ripemd320};
 use ripemd_batch::BatchDigest;
-use ripemd_mac::{Pbkdf2Error, pbkdf2};
+use ripemd_mac::{Pbkdf2Error, pbkdf2_hmac};
 use ripemd_vectors::bytes::count_up;
 use ripemd_vectors::digits::is_written;
 
@@ -12,10 +12,10 @@ fn derives<D: BatchDigest>(password: &[u8], salt: &[u8], rounds: u32, digits: &s
     let Some(key) = room.get_mut(..digits.len() / 2) else {
         return false;
     };
-    pbkdf2::<D>(password, salt, rounds, key).is_ok()
+    pbkdf2_hmac::<D>(password, salt, rounds, key).is_ok()
         && is_written(key, digits)
-        && ripemd_batch::pbkdf2::<D>(salt, password, 1, key).is_ok()
-        && ripemd_batch::pbkdf2::<D>(password, salt, rounds, key).is_ok()
+        && ripemd_batch::pbkdf2_hmac::<D>(salt, password, 1, key).is_ok()
+        && ripemd_batch::pbkdf2_hmac::<D>(password, salt, rounds, key).is_ok()
         && is_written(key, digits)
 }
 
@@ -164,7 +164,7 @@ fn keys_of_others(rt: HostRuntime) {
 #[test]
 fn no_rounds(rt: HostRuntime) {
     let mut key = [7; 20];
-    let derived = pbkdf2::<Ripemd160>(b"password", b"salt", 0, &mut key);
+    let derived = pbkdf2_hmac::<Ripemd160>(b"password", b"salt", 0, &mut key);
     assert!(rt; derived == Err(Pbkdf2Error::NoRounds));
     assert!(rt; key == [7; 20]);
 }
@@ -172,6 +172,6 @@ fn no_rounds(rt: HostRuntime) {
 // A key of no bytes is derived, but not by no rounds.
 #[test]
 fn no_key(rt: HostRuntime) {
-    assert!(rt; pbkdf2::<Ripemd160>(b"password", b"salt", 1, &mut []).is_ok());
-    assert!(rt; pbkdf2::<Ripemd160>(b"password", b"salt", 0, &mut []).is_err());
+    assert!(rt; pbkdf2_hmac::<Ripemd160>(b"password", b"salt", 1, &mut []).is_ok());
+    assert!(rt; pbkdf2_hmac::<Ripemd160>(b"password", b"salt", 0, &mut []).is_err());
 }

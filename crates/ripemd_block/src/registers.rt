@@ -8,9 +8,7 @@ mod c128;
 mod c160;
 mod c256;
 mod c320;
-mod five;
-mod four;
-mod steps;
+mod lines;
 
 use crate::traits::BlockFunction;
 use crate::variants::{Ripemd128Function, Ripemd160Function, Ripemd256Function, Ripemd320Function};
@@ -39,35 +37,27 @@ pub(crate) fn walk_on<F: InRegisters>(first: &mut F::State, blocks: &[[u8; 64]])
 impl InRegisters for Ripemd128Function {
     #[inline(always)]
     fn compress(state: [u32; 4], block: &[u8; 64]) -> [u32; 4] {
-        let mut words = state;
-        c128::compress(&mut words, block);
-        words
+        c128::compress(state, block)
     }
 }
 
 impl InRegisters for Ripemd160Function {
     #[inline(always)]
     fn compress(state: [u32; 5], block: &[u8; 64]) -> [u32; 5] {
-        let mut words = state;
-        c160::compress(&mut words, block);
-        words
+        c160::compress(state, block)
     }
 }
 
 impl InRegisters for Ripemd256Function {
     #[inline(always)]
     fn compress(state: [u32; 8], block: &[u8; 64]) -> [u32; 8] {
-        let mut words = state;
-        c256::compress(&mut words, block);
-        words
+        c256::compress(state, block)
     }
 }
 
 impl InRegisters for Ripemd320Function {
     #[inline(always)]
     fn compress(state: [u32; 10], block: &[u8; 64]) -> [u32; 10] {
-        let mut words = state;
-        c320::compress(&mut words, block);
-        words
+        c320::compress(state, block)
     }
 }

@@ -1,5 +1,5 @@
 -- Keys derived from passwords.
-pub mod Keys
+pub mod Pbkdf2
 -- Records that lie one after another, and what calls over records and lists write.
 pub mod Records
 -- The saved bytes of hash states and of HMAC states.

@@ -3,7 +3,7 @@ use Rattle.std.specs.Prelude.{◌≡◌, ℕ, ◌+◌, ◌*◌, ◌/◌, Bool, L
 use Rattle.std.specs.List.{flat_map, range_with_len}
 use Rattle.ripemd.specs.Standard.Compression.{Parameters}
 use Rattle.ripemd.specs.Standard.Hashing.{ripemd}
-use Rattle.ripemd_mac.specs.Keyed.{hmac}
+use Rattle.ripemd_mac.specs.Hmac.{hmac}
 use Rattle.ripemd_c.specs.Variants.{ByVariant, Writes, digest_size}
 
 -- record i: the bytes from i * size on, as many as the size

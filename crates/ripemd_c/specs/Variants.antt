@@ -2,7 +2,7 @@
 use Rattle.std.specs.Prelude.{◌≡◌, ◌↔◌, ℕ, ◌*◌, ◌==◌, if◌then◌else◌, Option, Some, None, List, length, Bool, IsTrue, IsFalse}
 use Rattle.ripemd.specs.Standard.Compression.{Parameters, ripemd128, ripemd160, ripemd256, ripemd320}
 use Rattle.ripemd.specs.Standard.Hashing.{ripemd}
-use Rattle.ripemd_mac.specs.Keyed.{hmac}
+use Rattle.ripemd_mac.specs.Hmac.{hmac}
 
 -- the variant whose digests have so many bits, if there is one
 abbrev pub variant_of : ℕ → Option Parameters

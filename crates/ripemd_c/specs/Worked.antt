@@ -6,7 +6,7 @@ use Rattle.ripemd.specs.Published.{hexadecimal}
 use Rattle.ripemd_mac.specs.Worked.{saved_inner, saved_outer}
 use Rattle.ripemd_c.specs.Variants.{Refuses, WritesDigest, WritesTag, VerifiesTag}
 use Rattle.ripemd_c.specs.Records.{WritesDigests, WritesTags, WritesEachDigest, WritesEachTag}
-use Rattle.ripemd_c.specs.Keys.{FillsKey, FillsKeys, DerivesKey, DerivesKeys}
+use Rattle.ripemd_c.specs.Pbkdf2.{FillsKey, FillsKeys, DerivesKey, DerivesKeys}
 use Rattle.ripemd_c.specs.SavedStates.{InitsState, UpdatesState, FinalizesState}
 use Rattle.ripemd_c.specs.SavedStates.{InitsHmac, UpdatesHmac, FinalizesHmac, VerifiesHmac}
 

@@ -5,7 +5,7 @@ ghost use Rattle.std.specs.Prelude.{◌≡◌, ◌↔◌, ◌+◌, ◌*◌, ◌^
 ghost use Rattle.std.specs.List.{flat_map};
 ghost use Rattle.std.specs.Mem.{type_size};
 ghost use Rattle.ripemd.specs.Standard.Hashing.{hash};
-ghost use Rattle.ripemd_mac.specs.Keyed.{hmac};
+ghost use Rattle.ripemd_mac.specs.Hmac.{hmac};
 ghost use Rattle.ripemd_batch.specs.Lanes.{made_by, targets};
 ghost use Rattle.ripemd_c.specs.Records.{FillsEach, FillsList, record_at, records};
 ghost use Rattle.ripemd_c.specs.Records.{WritesDigests, WritesEachDigest, WritesEachTag, WritesTags};
@@ -13,7 +13,7 @@ ghost use Rattle.ripemd_c.specs.Records.{WritesDigests, WritesEachDigest, Writes
 use ripemd::block_api::ByteArray;
 use ripemd::digest::OutputSizeUser;
 use ripemd::{Digest, Ripemd128, Ripemd160, Ripemd256, Ripemd320};
-use ripemd_batch::passwords::digest_size;
+use ripemd_batch::pbkdf2::digest_size;
 use ripemd_batch::{BatchDigest, ListHasher};
 
 // How many messages a group has at most: so many outputs lie in an array before they are written.

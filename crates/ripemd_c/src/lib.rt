@@ -36,10 +36,10 @@ macro_rules! by_variant {
 
 pub mod each;
 pub mod facts;
-pub mod keys;
+pub mod hmac;
+pub mod pbkdf2;
 mod states;
 pub mod streams;
-pub mod tags;
 
 use ripemd::{Digest, Ripemd128, Ripemd160, Ripemd256, Ripemd320};
 

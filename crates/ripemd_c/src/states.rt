@@ -4,7 +4,7 @@
 ghost use Rattle.std.specs.Prelude.{◌≡◌, ◌↔◌, ℕ, ◌+◌, ◌-◌, ◌<◌, ◌≤◌, List, [], length, replicate, drop, slice_index, IsTrue, IsFalse};
 ghost use Rattle.ripemd.specs.Saved.{IsSaved};
 ghost use Rattle.ripemd.specs.States.{initial_state};
-ghost use Rattle.ripemd_mac.specs.Keyed.{keyed_state};
+ghost use Rattle.ripemd_mac.specs.Hmac.{keyed_state};
 ghost use Rattle.ripemd_c.specs.SavedStates.{Updates, WithOutput, saved_in};
 ghost use Rattle.ripemd_c.specs.Variants.{Refuses, Writes};
 
@@ -13,7 +13,7 @@ use ripemd::block_api::ByteArray;
 use ripemd::incremental::{Incremental, Resumable};
 use ripemd::{BlockHasher, Digest, ResumableFunction};
 use ripemd_mac::Hmac;
-use ripemd_mac::keyed::all_equal;
+use ripemd_mac::hmac::all_equal;
 
 /// A state that C keeps.
 pub(crate) trait Kept: Resumable {

@@ -1,5 +1,5 @@
 -- The blocks of a derived key, one U after another, and how they lie in the key.
-use Rattle.std.proofs.Common.{◌≡◌, ℕ, zero, suc, ◌+◌, ◌-◌, ◌*◌, ◌/◌, ◌%◌, ◌<◌, ◌≤◌, min, arith, refl, ap, sym, ◌∙◌, length-append}
+use Rattle.std.proofs.Common.{◌≡◌, ℕ, zero, suc, ◌+◌, ◌-◌, ◌*◌, ◌/◌, ◌%◌, ◌<◌, ◌≤◌, ◌⊎◌, inl, inr, min, arith, refl, ap, sym, ◌∙◌, length-append}
 use Rattle.std.proofs.Common.{List, [], ◌∷◌, ◌++◌, length, map, replicate, take, drop}
 use Rattle.std.specs.Int.Bits.{bit_xor}
 use Rattle.std.specs.Simd.Lanes.{zip2}
@@ -9,12 +9,12 @@ use Rattle.std.specs.Int.{div_ceil}
 use lib.LanesLaws.{length-zip2}
 use Rattle.std.proofs.lemmas.List.Sums.{fold-append}
 use Rattle.std.proofs.lemmas.List.FromFn.{map-range_with_len_more}
+use Rattle.std.proofs.lemmas.Bool.{cases_lt}
 use Rattle.std.proofs.lemmas.Grind.{flat_map-append}
 use Rattle.std.proofs.lemmas.List.{append-nil, take-append-le, length-take-le, take_all, length-drop}
 use Rattle.std.proofs.Math.Seq.{take-append_seam, take-append-add}
-use Rattle.std.proofs.Math.ListN.{drop_of_length-le}
 use Rattle.std.proofs.Math.Nat.{div-add-mod, mod-lt, mul-le-mul_left}
-use Rattle.ripemd_mac.specs.Keyed.{filled}
+use Rattle.ripemd_mac.specs.Hmac.{filled}
 use Rattle.ripemd_mac.specs.Pbkdf2.{INT, U, F}
 
 iterate_next : {A : Type 0} (h : A → A) (n : ℕ) (x : A) → iterate h (suc n) x ≡ h (iterate h n x)
@@ -79,22 +79,12 @@ front_put xs part rest at n inside size =
     rw count (take-append-add (take at xs) (part ++ rest) (length part)
     ∙ ap (λ x. take at xs ++ x) (take-append_seam part rest))
 
--- a whole block lies inside
-pub block_inside : (h n i : ℕ) → i < n / h → h * i + h ≤ n
-block_inside h n i less =
-    let split = div-add-mod n h in
-    let step : h * (i + 1) ≤ h * (n / h) = mul-le-mul_left h (omega (arith, less)) in
-    omega (arith, split, step)
-
 -- the sizes of a part, and of the list with the part written over
 pub part_size : (xs : List ℕ) (at n : ℕ) → at + n ≤ length xs → length (take (at + n - at) (drop at xs)) ≡ n
 part_size xs at n inside =
     let count : at + n - at ≡ n = omega arith in
     let rest : length (drop at xs) ≡ length xs - at = length-drop at xs in
     rw count (length-take-le n (drop at xs) (omega (arith, rest, inside)))
-
-pub rest_size : (xs : List ℕ) (at : ℕ) → length (take (length xs - at) (drop at xs)) ≡ length xs - at
-rest_size xs at = length-take-le (length xs - at) (drop at xs) (omega (arith, length-drop at xs))
 
 pub put_size : (xs part : List ℕ) (at k : ℕ) → length part ≡ k → at + k ≤ length xs
     → length (take at xs ++ (part ++ drop k (drop at xs))) ≡ length xs
@@ -109,51 +99,89 @@ put_size xs part at k many inside =
       length-drop at xs,
     )
 
--- what is written of a block that is filled with zeros: its front, and all of it where that is as long
-pub front_is : (n : ℕ) (result part block : List ℕ) → part ≡ take n result → result ≡ filled block → n ≤ length block
-    → part ≡ take n block
-front_is n result part block written same most =
-    written ∙ ap (take n) same ∙ take-append-le n block (replicate (64 - length block) 0) most
+-- one more block in the key, of which there are as many as the key takes: the last one may be cut
+pub record Written (f : ℕ → List ℕ) (h n b : ℕ) (key : List ℕ) : Type 0 where
+  pub len : length key ≡ n
+  pub many : length (flat_map f (range_with_len 1 b)) ≡ h * b
+  pub so_far : take (h * b) key ≡ take n (flat_map f (range_with_len 1 b))
 
-pub whole_is : (n : ℕ) (result part block : List ℕ) → part ≡ take n result → result ≡ filled block → length block ≡ n
-    → part ≡ block
-whole_is n result part block written same size =
-    front_is n result part block written same (omega (arith, size)) ∙ take_all n block (omega (arith, size))
+none_left : (xs : List ℕ) → length xs ≡ 0 → xs ≡ []
+none_left [] size = refl
+none_left (x ∷ xs) size = absurd (omega (arith, size))
 
--- the rest behind whole blocks is shorter than one
-pub rest_fits : (h n : ℕ) → 0 < h → n - h * (n / h) ≤ h
-rest_fits h n some = omega (arith, div-add-mod n h, mod-lt n some)
+pub one_more : (f : ℕ → List ℕ) (h n b end : ℕ) (key part rest block : List ℕ) → Written f h n b key → h * b < n
+    → end ≡ min n (h * b + h) → length part ≡ end - h * b → length rest ≡ n - end
+    → part ≡ take (length part) block → block ≡ filled (f (b + 1)) → length (f (b + 1)) ≡ h
+    → Written f h n (b + 1) (take (h * b) key ++ (part ++ rest))
+one_more f h n b end key part rest block before inside is_end size behind written filled_block whole =
+    let front : List ℕ = take (h * b) key in
+    let next : List ℕ = f (b + 1) in
+    let all : List ℕ = flat_map f (range_with_len 1 b) in
+    let place : length front ≡ h * b = length-take-le (h * b) key (omega (arith, before.len, inside)) in
+    let is_front : front ≡ all = before.so_far ∙ take_all n all (omega (arith, before.many, inside)) in
+    let cut : part ≡ take (end - h * b) next =
+    written ∙ ap (λ k. take k block) size ∙ ap (take (end - h * b)) filled_block
+    ∙ take-append-le (end - h * b) next (replicate (64 - length next) 0) (omega (arith, is_end, whole)) in
+    let more : h * (b + 1) ≡ h * b + h = omega arith in
+    let blocks : n ≡ length all + (n - h * b) = omega (arith, before.many, inside) in
+    let wanted : take n (flat_map f (range_with_len 1 (b + 1))) ≡ all ++ take (n - h * b) next =
+    ap (take n) (next_block f b) ∙ ap (λ k. take k (all ++ next)) blocks ∙ take-append-add all next (n - h * b) in
+    record {
+      len = omega (arith, length-append front (part ++ rest), length-append part rest, place, size, behind, is_end, inside);
+      many = ap length (next_block f b) ∙ omega (arith, length-append all next, before.many, whole);
+      so_far = rw more (so_far is_front cut (cases_lt n (h * b + h)) ∙ sym wanted);
+    }
+  where
+    so_far : take (h * b) key ≡ flat_map f (range_with_len 1 b) → part ≡ take (end - h * b) (f (b + 1))
+        → (n < h * b + h) ⊎ (h * b + h ≤ n)
+        → take (h * b + h) (take (h * b) key ++ (part ++ rest)) ≡ flat_map f (range_with_len 1 b) ++ take (n - h * b) (f (b + 1))
+    so_far is_front cut (inl last) =
+        let same : end ≡ n = omega (arith, is_end, last) in
+        let nothing : rest ≡ [] = none_left rest (omega (arith, behind, same)) in
+        let place : length (take (h * b) key) ≡ h * b = length-take-le (h * b) key (omega (arith, before.len, inside)) in
+        rw (nothing, append-nil part)
+        (take_all (h * b + h) (take (h * b) key ++ part) (omega (arith, length-append (take (h * b) key) part, place, size, same, last))
+        ∙ ap (λ x. x ++ part) is_front ∙ ap (λ x. flat_map f (range_with_len 1 b) ++ x) (cut ∙ ap (λ e. take (e - h * b) (f (b + 1))) same))
+    so_far is_front cut (inr full) =
+        let same : end ≡ h * b + h = omega (arith, is_end, full) in
+        front_put key part rest (h * b) (h * b + h) (omega (arith, before.len, inside)) (omega (arith, size, same))
+        ∙ ap (λ x. x ++ part) is_front
+        ∙ ap (λ x. flat_map f (range_with_len 1 b) ++ x) (cut ∙ take_all (end - h * b) (f (b + 1)) (omega (arith, whole, same))
+        ∙ sym (take_all (n - h * b) (f (b + 1)) (omega (arith, whole, full))))
 
--- the key is the front of the blocks: where there are only whole ones, and where a part of one is behind them
-pub whole_key : (f : ℕ → List ℕ) (h n : ℕ) (key : List ℕ) → length key ≡ n
-    → take (h * (n / h)) key ≡ flat_map f (range_with_len 1 (n / h)) → n ≤ h * (n / h)
+-- a block begins in the key, and all of them reach its end
+pub block_begins : (n h i : ℕ) → 0 < h → i < div_ceil n h → h * i < n
+block_begins n h i some less = go (cases_lt 0 (n % h))
+  where
+    go : (0 < n % h) ⊎ (n % h ≤ 0) → h * i < n
+    go (inl more) =
+        let most : h * i ≤ h * (n / h) = mul-le-mul_left h (omega (arith, less)) in
+        omega (arith, div-add-mod n h, more, most)
+    go (inr none) =
+        let most : h * (i + 1) ≤ h * (n / h) = mul-le-mul_left h (omega (arith, less, none)) in
+        omega (arith, div-add-mod n h, some, most)
+
+blocks_end : (n h : ℕ) → 0 < h → n ≤ h * div_ceil n h
+blocks_end n h some = go (cases_lt 0 (n % h))
+  where
+    go : (0 < n % h) ⊎ (n % h ≤ 0) → n ≤ h * div_ceil n h
+    go (inl more) =
+        let count : div_ceil n h ≡ n / h + 1 = omega (arith, more) in
+        rw count (omega (arith, div-add-mod n h, mod-lt n some))
+    go (inr none) =
+        let count : div_ceil n h ≡ n / h = omega (arith, none) in
+        rw count (omega (arith, div-add-mod n h, none))
+
+-- the key when no blocks and when all of them are written
+pub none_written : (f : ℕ → List ℕ) (h n : ℕ) (key : List ℕ) → length key ≡ n → Written f h n 0 key
+none_written f h n key len =
+    let none : h * 0 ≡ 0 = omega arith in
+    record { len = len; many = omega arith; so_far = rw none (sym (take_all {A = ℕ} n [] (omega arith))) }
+
+pub all_written : (f : ℕ → List ℕ) (h n : ℕ) (key : List ℕ) → 0 < h → Written f h n (div_ceil n h) key
     → key ≡ take n (flat_map f (range_with_len 1 (div_ceil n h)))
-whole_key f h n key size blocks whole =
-    let none : n % h ≡ 0 = omega (arith, div-add-mod n h, whole) in
-    let count : n / h + min 1 (n % h) ≡ n / h = omega (arith, none) in
-    let all : flat_map f (range_with_len 1 (n / h)) ≡ key = sym blocks ∙ take_all (h * (n / h)) key (omega (arith, size, whole)) in
-    rw (count, all) (sym (take_all n key (omega (arith, size))))
-
-pub part_key : (f : ℕ → List ℕ) (h n : ℕ) (before part key : List ℕ) → length before ≡ n
-    → take (h * (n / h)) before ≡ flat_map f (range_with_len 1 (n / h))
-    → key ≡ take (h * (n / h)) before ++ (part ++ drop (length before - h * (n / h)) (drop (h * (n / h)) before))
-    → length part ≡ n - h * (n / h) → part ≡ take (n - h * (n / h)) (f (n / h + 1)) → h * (n / h) < n
-    → key ≡ take n (flat_map f (range_with_len 1 (div_ceil n h)))
-part_key f h n before part key same blocks both many front more =
-    let at : ℕ = h * (n / h) in
-    let some : 0 < n % h = omega (arith, div-add-mod n h, more) in
-    let count : n / h + min 1 (n % h) ≡ n / h + 1 = omega (arith, some) in
-    let size : length (take at before) ≡ at = length-take-le at before (omega (arith, same, more)) in
-    let none : drop (length before - at) (drop at before) ≡ [] =
-    drop_of_length-le (drop at before) (omega (arith, length-drop at before)) in
-    let all : n ≡ length (take at before) + (n - at) = omega (arith, size, more) in
-    let blocks_of_all : flat_map f (range_with_len 1 (n / h + 1)) ≡ take at before ++ f (n / h + 1) =
-    next_block f (n / h) ∙ ap (λ x. x ++ f (n / h + 1)) (sym blocks) in
-    both ∙ ap (λ x. take at before ++ (part ++ x)) none ∙ ap (λ x. take at before ++ x) (append-nil part ∙ front)
-    ∙ sym (take-append-add (take at before) (f (n / h + 1)) (n - at))
-    ∙ ap (λ k. take k (take at before ++ f (n / h + 1))) (sym all)
-    ∙ ap (take n) (sym blocks_of_all)
-    ∙ ap (λ k. take n (flat_map f (range_with_len 1 k))) (sym count)
+all_written f h n key some done =
+    sym (take_all (h * div_ceil n h) key (omega (arith, done.len, blocks_end n h some))) ∙ done.so_far
 
 -- a key of no bytes is the front of any
 pub no_key : (key bytes : List ℕ) → length key ≡ 0 → key ≡ take (length key) bytes

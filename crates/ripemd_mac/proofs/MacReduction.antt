@@ -8,7 +8,7 @@ use Rattle.ripemd.specs.Collisions.{IsCollision, IsOnlyCollision}
 use Rattle.ripemd.specs.declared.witness.Collision.{Collision}
 use Rattle.ripemd_mac.specs.declared.reduction.MacCollision.{MacCollision}
 use Rattle.ripemd_mac.specs.declared.reduction.MacCollision.TheVariants.{Inner, Outer}
-use Rattle.ripemd_mac.specs.Keyed.{key_block, masked, inner_message, outer_message, hmac}
+use Rattle.ripemd_mac.specs.Hmac.{key_block, masked, inner_message, outer_message, hmac}
 use Rattle.ripemd_mac.specs.MacCollisions.{InnerAgree, IsMacCollision}
 
 -- a collision of two messages is one of the same messages

@@ -7,8 +7,8 @@ use Rattle.ripemd.specs.States.{HashState, initial_state, fed, finish, core_and_
 use Rattle.ripemd.specs.OverLists.{IsInjectiveOutput}
 use Rattle.ripemd.specs.Laws as laws
 use Rattle.ripemd.specs.Saving.{length-core_and_tail, core_and_tail_injective}
-use Rattle.ripemd_mac.specs.Keyed.{key_block, masked, inner_message, outer_message, hmac}
-use Rattle.ripemd_mac.specs.Keyed.{KeyedState, fed_text, tag_of, keyed_state, StandsFor}
+use Rattle.ripemd_mac.specs.Hmac.{key_block, masked, inner_message, outer_message, hmac}
+use Rattle.ripemd_mac.specs.Hmac.{KeyedState, fed_text, tag_of, keyed_state, StandsFor}
 use Rattle.ripemd_mac.specs.Saved.{IsKeyedState, hmac_bytes}
 
 -- HMAC states of the same two hash states are the same

@@ -1,5 +1,5 @@
 -- What the tag of a text under a key is.
-pub mod Keyed
+pub mod Hmac
 -- What an HMAC state is saved as.
 pub mod Saved
 -- What the key derived from a password and a salt is.

@@ -3,7 +3,7 @@ use Rattle.std.specs.Prelude.{◌≡◌, ℕ, List}
 use Rattle.ripemd.specs.Collisions.{IsCollision}
 use Rattle.ripemd_mac.specs.declared.reduction.MacCollision.{MacCollision}
 use Rattle.ripemd_mac.specs.declared.reduction.MacCollision.TheVariants.{Inner, Outer}
-use Rattle.ripemd_mac.specs.Keyed.{inner_message, outer_message}
+use Rattle.ripemd_mac.specs.Hmac.{inner_message, outer_message}
 
 -- the inner hashes of two texts under a key agree
 abbrev pub InnerAgree : (List ℕ → List ℕ) → List ℕ → List ℕ → List ℕ → Type 0

@@ -1,7 +1,7 @@
 -- The bytes that an HMAC state is saved as (this repository's own).
 use Rattle.std.specs.Prelude.{◌≡◌, ℕ, List, ◌++◌}
 use Rattle.ripemd.specs.States.{IsHashState, core_and_tail}
-use Rattle.ripemd_mac.specs.Keyed.{KeyedState, StandsFor}
+use Rattle.ripemd_mac.specs.Hmac.{KeyedState, StandsFor}
 
 -- an HMAC state whose two hash states are valid
 pub record IsKeyedState (are_words : List ℕ → Type 0) (state : KeyedState) : Type 0 where

@@ -10,7 +10,7 @@ use Rattle.ripemd.specs.Worked.{block_of}
 use Rattle.ripemd.specs.declared.witness.Collision.{Collision}
 use Rattle.ripemd_mac.specs.declared.reduction.MacCollision.{MacCollision}
 use Rattle.ripemd_mac.specs.declared.reduction.MacCollision.TheVariants.{Inner, Outer}
-use Rattle.ripemd_mac.specs.Keyed.{hmac, inner_message, outer_message, fed_text, tag_of, keyed_state}
+use Rattle.ripemd_mac.specs.Hmac.{hmac, inner_message, outer_message, fed_text, tag_of, keyed_state}
 use Rattle.ripemd_mac.specs.MacCollisions.{InnerAgree, IsMacCollision}
 use Rattle.ripemd_mac.specs.Saved.{IsSavedFor}
 use Rattle.ripemd_mac.specs.Pbkdf2.{F, pbkdf2}

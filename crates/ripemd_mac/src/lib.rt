@@ -3,10 +3,10 @@
 #![tactic(auto)]
 
 pub mod facts;
-pub mod keyed;
-pub mod passwords;
+pub mod hmac;
+pub mod pbkdf2;
 pub mod reduction;
 
-pub use keyed::{Hmac, MaskedKeys, masked_keys};
-pub use passwords::{Pbkdf2Error, pbkdf2};
+pub use hmac::{Hmac, MaskedKeys, masked_keys};
+pub use pbkdf2::{Pbkdf2Error, pbkdf2_hmac};
 pub use reduction::{MacCollision, mac_collision};

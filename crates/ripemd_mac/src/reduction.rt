@@ -6,10 +6,10 @@ ghost use Rattle.ripemd.specs.Standard.Hashing.{hash};
 ghost use Rattle.ripemd.specs.Collisions.{IsCollision, IsOnlyCollision};
 ghost use Rattle.ripemd.specs.declared.witness.Collision.{Collision};
 ghost use Rattle.ripemd_mac.specs.declared.reduction.MacCollision.{MacCollision};
-ghost use Rattle.ripemd_mac.specs.Keyed.{hmac};
+ghost use Rattle.ripemd_mac.specs.Hmac.{hmac};
 ghost use Rattle.ripemd_mac.specs.MacCollisions.{InnerAgree, IsMacCollision};
 
-use crate::keyed::masked_keys;
+use crate::hmac::masked_keys;
 use ripemd::digest::BlockDigest;
 use ripemd::witness::{BlockFunction, Collision, collision_witness};
 use std::alloc::{AllocError, Global};

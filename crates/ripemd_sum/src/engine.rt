@@ -1,13 +1,13 @@
 //! The run of the program, over any reader and any writer.
 
 ghost use Rattle.std.specs.Prelude.{◌≡◌, ◌+◌, ◌*◌, ◌≤◌, ◌++◌, ℕ, List, false, length, codes};
-ghost use Rattle.std.specs.Prelude.{IfOk, OnOk, IfErr};
+ghost use Rattle.std.specs.Prelude.{IfOk, IfErr};
 ghost use Rattle.hex.specs.Hex.{encode_lower};
 ghost use Rattle.ripemd.specs.Standard.Hashing.{hash};
-ghost use Rattle.ripemd_mac.specs.Keyed.{hmac};
-ghost use Rattle.ripemd_sum.specs.Track.{has_failed, taken_of};
-ghost use Rattle.ripemd_sum.specs.Runs.{digest_line, tag_line, GivesAll, Gets};
-ghost use Rattle.ripemd_sum.specs.Faults.{ExplainsReading, ExplainsRun};
+ghost use Rattle.ripemd_mac.specs.Hmac.{hmac};
+ghost use Rattle.ripemd_sum.specs.Track.{Ready, has_failed, taken_of};
+ghost use Rattle.ripemd_sum.specs.Runs.{digest_line, tag_line, GivesAll};
+ghost use Rattle.ripemd_sum.specs.Faults.{ExplainsReading, IsRun};
 
 use crate::any_hasher::AnyHasher;
 use crate::fault::{ReadFault, RunFault};
@@ -47,14 +47,9 @@ pub fn run<R: Read, W: Write>(
     writer: &mut Tracked<W>,
     limit: u64,
 ) -> Result<(), RunFault>
-    requires reader_works { has_failed reader.old ≡ false }
-    requires reader_fresh { taken_of reader.old ≡ 0 }
-    requires writer_works { has_failed writer.old ≡ false }
-    ensures ok { OnOk result ((message : List ℕ)
-        × GivesAll R.remaining reader.old reader.new limit message
-        × Gets W.contents writer.old writer.new (digest_line variant message)) }
-    ensures fault { IfErr result
-        (ExplainsRun R.remaining reader.old reader.new writer.old writer.new limit) }
+    requires { Ready reader.old writer.old }
+    ensures { IsRun R.remaining W.contents reader.old reader.new writer.old writer.new limit
+        (digest_line variant) result }
 {
     match variant {
         Variant::R128 => run_digest::<Ripemd128Function, R, W>(reader, writer, limit),
@@ -76,14 +71,9 @@ pub fn run_mac<R: Read, W: Write>(
     writer: &mut Tracked<W>,
     limit: u64,
 ) -> Result<(), RunFault>
-    requires reader_works { has_failed reader.old ≡ false }
-    requires reader_fresh { taken_of reader.old ≡ 0 }
-    requires writer_works { has_failed writer.old ≡ false }
-    ensures ok { OnOk result ((message : List ℕ)
-        × GivesAll R.remaining reader.old reader.new limit message
-        × Gets W.contents writer.old writer.new (tag_line variant key.now message)) }
-    ensures fault { IfErr result
-        (ExplainsRun R.remaining reader.old reader.new writer.old writer.new limit) }
+    requires { Ready reader.old writer.old }
+    ensures { IsRun R.remaining W.contents reader.old reader.new writer.old writer.new limit
+        (tag_line variant key.now) result }
 {
     match variant {
         Variant::R128 => run_tag::<Ripemd128Function, R, W>(key, reader, writer, limit),
@@ -100,15 +90,10 @@ fn run_digest<F: ListBlockFunction, R: Read, W: Write>(
     limit: u64,
 ) -> Result<(), RunFault>
     requires fits { 2 * F.Digest.LEN + 1 ≤ 81 }
-    requires reader_works { has_failed reader.old ≡ false }
-    requires reader_fresh { taken_of reader.old ≡ 0 }
-    requires writer_works { has_failed writer.old ≡ false }
-    ensures ok { OnOk result ((message : List ℕ)
-        × GivesAll R.remaining reader.old reader.new limit message
-        × Gets W.contents writer.old writer.new
-        (encode_lower (hash (F.list F.start_of) F.step F.output message) ++ codes "\n")) }
-    ensures fault { IfErr result
-        (ExplainsRun R.remaining reader.old reader.new writer.old writer.new limit) }
+    requires ready { Ready reader.old writer.old }
+    ensures { IsRun R.remaining W.contents reader.old reader.new writer.old writer.new limit
+        (λ message. encode_lower (hash (F.list F.start_of) F.step F.output message) ++ codes "\n")
+        result }
 {
     run_state::<BlockHasher<F>, R, W>(BlockHasher::new(), reader, writer, limit)
 }
@@ -121,16 +106,10 @@ fn run_tag<F: ListBlockFunction, R: Read, W: Write>(
     limit: u64,
 ) -> Result<(), RunFault>
     requires fits { 2 * F.Digest.LEN + 1 ≤ 81 }
-    requires reader_works { has_failed reader.old ≡ false }
-    requires reader_fresh { taken_of reader.old ≡ 0 }
-    requires writer_works { has_failed writer.old ≡ false }
-    ensures ok { OnOk result ((message : List ℕ)
-        × GivesAll R.remaining reader.old reader.new limit message
-        × Gets W.contents writer.old writer.new
-        (encode_lower (hmac (hash (F.list F.start_of) F.step F.output) key.now message)
-        ++ codes "\n")) }
-    ensures fault { IfErr result
-        (ExplainsRun R.remaining reader.old reader.new writer.old writer.new limit) }
+    requires ready { Ready reader.old writer.old }
+    ensures { IsRun R.remaining W.contents reader.old reader.new writer.old writer.new limit
+        (λ message. encode_lower (hmac (hash (F.list F.start_of) F.step F.output) key.now message)
+        ++ codes "\n") result }
 {
     run_state::<Hmac<BlockHasher<F>>, R, W>(Hmac::new(key), reader, writer, limit)
 }
@@ -143,15 +122,10 @@ fn run_state<S: Incremental, R: Read, W: Write>(
     limit: u64,
 ) -> Result<(), RunFault>
     requires fits { 2 * S.Hash.OUTPUT_SIZE + 1 ≤ 81 }
-    requires reader_works { has_failed reader.old ≡ false }
-    requires reader_fresh { taken_of reader.old ≡ 0 }
-    requires writer_works { has_failed writer.old ≡ false }
-    ensures ok { OnOk result ((message : List ℕ)
-        × GivesAll R.remaining reader.old reader.new limit message
-        × ((o : S.Origin) → state ≡ S.new_state o → Gets W.contents writer.old writer.new
-        (encode_lower (S.whole o message) ++ codes "\n"))) }
-    ensures fault { IfErr result
-        (ExplainsRun R.remaining reader.old reader.new writer.old writer.new limit) }
+    requires ready { Ready reader.old writer.old }
+    ensures { (o : S.Origin) → state ≡ S.new_state o
+        → IsRun R.remaining W.contents reader.old reader.new writer.old writer.new limit
+        (λ message. encode_lower (S.whole o message) ++ codes "\n") result }
 {
     let output = read_to_end::<S, R>(state, reader, limit)?;
     let bytes = S::Hash::output_bytes(&output);
@@ -194,9 +168,9 @@ fn read_to_end<S: Incremental, R: Read>(
 ) -> Result<<S::Hash as OutputSizeUser>::Output, ReadFault>
     requires works { has_failed reader.old ≡ false }
     requires fresh { taken_of reader.old ≡ 0 }
-    ensures ok { IfOk result (λ output. (message : List ℕ)
+    ensures ok { (o : S.Origin) → state ≡ S.new_state o → IfOk result (λ output. (message : List ℕ)
         × GivesAll R.remaining reader.old reader.new limit message
-        × ((o : S.Origin) → state ≡ S.new_state o → S.Hash.bytes_of output ≡ S.whole o message)) }
+        × (S.Hash.bytes_of output ≡ S.whole o message)) }
     ensures fault { IfErr result (ExplainsReading R.remaining reader.old reader.new limit) }
 {
     let mut state = state;

@@ -13,7 +13,7 @@ mod tracked;
 mod variant;
 
 ghost use Rattle.std.specs.Prelude.{◌≡◌, ◌↔◌, ℕ, List, IsNone, IfNone, IfSome, false, map, string_bytes};
-ghost use Rattle.ripemd_sum.specs.Track.{has_failed, taken_of};
+ghost use Rattle.ripemd_sum.specs.Track.{Ready};
 ghost use Rattle.ripemd_sum.specs.Arguments.{Chooses, ChoosesMac, HasKey, AsksNothing};
 ghost use Rattle.ripemd_sum.specs.Runs.{digest_line, tag_line, most_bytes, most_bytes_under_a_key};
 ghost use Rattle.ripemd_sum.specs.Faults.{IsRun};
@@ -57,9 +57,7 @@ fn perform<R: Read, W: Write>(
     reader: &mut Tracked<R>,
     writer: &mut Tracked<W>,
 ) -> Option<Result<(), RunFault>>
-    requires reader_works { has_failed reader.old ≡ false }
-    requires reader_fresh { taken_of reader.old ≡ 0 }
-    requires writer_works { has_failed writer.old ≡ false }
+    requires { Ready reader.old writer.old }
     ensures digest { (v : Variant) → Chooses (map string_bytes arguments.now) v
         → IfSome result (IsRun R.remaining W.contents reader.old reader.new writer.old writer.new
         most_bytes (digest_line v)) }

@@ -27,7 +27,7 @@ pub fn have_digests(records: &[&[u8]], wanted: &[[u8; 20]], found: &mut [[u8; 20
     *found == *wanted
 }
 
-ghost use Rattle.ripemd_mac.specs.Keyed.{hmac};
+ghost use Rattle.ripemd_mac.specs.Hmac.{hmac};
 
 use ripemd_batch::tag_each;
 
@@ -41,9 +41,9 @@ pub fn tags_of(key: &[u8], records: &[&[u8]], tags: &mut [[u8; 20]])
 }
 
 ghost use Rattle.std.specs.Prelude.{◌*◌, IfOk};
-ghost use Rattle.ripemd_batch.specs.Keys.{pbkdf2_each};
+ghost use Rattle.ripemd_batch.specs.Pbkdf2.{pbkdf2_each};
 
-use ripemd_batch::pbkdf2_each;
+use ripemd_batch::pbkdf2_hmac_each;
 use ripemd_mac::Pbkdf2Error;
 
 /// Writes a key of 32 bytes from each password and the salt in its place, one after another.
@@ -62,5 +62,5 @@ pub fn keys_of(
     ensures ok { IfOk result (λ _. keys.new ≡ pbkdf2_each (hmac (ripemd ripemd160)) 20
         (targets passwords.now) (targets salts.now) rounds 32) }
 {
-    pbkdf2_each::<Ripemd160>(passwords, salts, rounds, 32, keys)
+    pbkdf2_hmac_each::<Ripemd160>(passwords, salts, rounds, 32, keys)
 }

@@ -3,7 +3,7 @@
 ghost use Rattle.std.specs.Prelude.{◌≡◌, ◌↔◌, ◌++◌, IsTrue};
 ghost use Rattle.ripemd.specs.Standard.Compression.{ripemd160};
 ghost use Rattle.ripemd.specs.Standard.Hashing.{ripemd};
-ghost use Rattle.ripemd_mac.specs.Keyed.{hmac};
+ghost use Rattle.ripemd_mac.specs.Hmac.{hmac};
 
 use ripemd::Ripemd160;
 use ripemd_mac::Hmac;
@@ -41,7 +41,7 @@ pub fn has_tag_by<D: BlockDigest>(key: &[u8], text: &[u8], tag: &[u8]) -> bool
 }
 
 ghost use Rattle.std.specs.Prelude.{ℕ, List, []};
-ghost use Rattle.ripemd_mac.specs.Keyed.{StandsFor};
+ghost use Rattle.ripemd_mac.specs.Hmac.{StandsFor};
 
 /// The tag of a text, given the state of a key and the empty text.
 pub fn tag_under<D: BlockDigest>(keyed: &Hmac<D>, text: &[u8]) -> D::Output
@@ -121,7 +121,7 @@ pub fn toy_tag(key: &[u8], text: &[u8]) -> [u8; 1]
 
 ghost use Rattle.ripemd_mac.specs.Pbkdf2.{pbkdf2};
 
-use ripemd_mac::{Pbkdf2Error, pbkdf2};
+use ripemd_mac::{Pbkdf2Error, pbkdf2_hmac};
 
 /// The key of 32 bytes that is derived from a password and a salt, with HMAC over RIPEMD-160.
 ///
@@ -133,6 +133,6 @@ pub fn derived_key(password: &[u8], salt: &[u8], rounds: u32) -> Result<[u8; 32]
         ≡ pbkdf2 (hmac (ripemd ripemd160)) 20 password.now salt.now rounds 32) }
 {
     let mut key = [0; 32];
-    pbkdf2::<Ripemd160>(password, salt, rounds, &mut key)?;
+    pbkdf2_hmac::<Ripemd160>(password, salt, rounds, &mut key)?;
     Ok(key)
 }

@@ -4,21 +4,20 @@ ghost use Rattle.std.specs.Prelude.{◌≡◌};
 ghost use Rattle.ripemd_block.specs.Standard.Compression.{compress, ripemd128};
 ghost use Rattle.ripemd_block.specs.States.{AreWords};
 
-use super::four::{Lines, round, words_of_rounds};
+use super::lines::{Lines, round, words_of_four_rounds};
 use crate::chaining::{joint_state_of_four, lines_of_128};
 
-/// Takes one block into the state.
-pub(crate) fn compress(state: &mut [u32; 4], block: &[u8; 64])
-    ensures state { state.new ≡ compress ripemd128 state.old block.now }
-    ensures old_words { AreWords 4 state.old }
-    ensures new_words { AreWords 4 state.new }
+/// The state after a block.
+pub(crate) fn compress(state: [u32; 4], block: &[u8; 64]) -> [u32; 4]
+    ensures value { result ≡ compress ripemd128 state block.now }
+    ensures words { AreWords 4 result }
 {
-    let words = words_of_rounds(block);
-    let (left, right) = lines_of_128(*state);
+    let words = words_of_four_rounds(block);
+    let (left, right) = lines_of_128(state);
     let lines = Lines { left, right };
     let lines = round(0, &words, lines);
     let lines = round(1, &words, lines);
     let lines = round(2, &words, lines);
     let lines = round(3, &words, lines);
-    *state = joint_state_of_four(*state, lines.left, lines.right);
+    joint_state_of_four(state, lines.left, lines.right)
 }

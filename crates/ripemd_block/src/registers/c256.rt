@@ -4,21 +4,20 @@ ghost use Rattle.std.specs.Prelude.{◌≡◌};
 ghost use Rattle.ripemd_block.specs.Standard.Compression.{compress, ripemd256};
 ghost use Rattle.ripemd_block.specs.States.{AreWords};
 
-use super::four::{Lines, exchange, round, words_of_rounds};
+use super::lines::{Lines, exchange, round, words_of_four_rounds};
 use crate::chaining::{double_state_of_four, lines_of_256};
 
-/// Takes one block into the state. The registers that are exchanged are A, B, C and D in turn.
-pub(crate) fn compress(state: &mut [u32; 8], block: &[u8; 64])
-    ensures state { state.new ≡ compress ripemd256 state.old block.now }
-    ensures old_words { AreWords 8 state.old }
-    ensures new_words { AreWords 8 state.new }
+/// The state after a block. The registers that are exchanged are A, B, C and D in turn.
+pub(crate) fn compress(state: [u32; 8], block: &[u8; 64]) -> [u32; 8]
+    ensures value { result ≡ compress ripemd256 state block.now }
+    ensures words { AreWords 8 result }
 {
-    let words = words_of_rounds(block);
-    let (left, right) = lines_of_256(*state);
+    let words = words_of_four_rounds(block);
+    let (left, right) = lines_of_256(state);
     let lines = Lines { left, right };
     let lines = exchange(0, round(0, &words, lines));
     let lines = exchange(1, round(1, &words, lines));
     let lines = exchange(2, round(2, &words, lines));
     let lines = exchange(3, round(3, &words, lines));
-    *state = double_state_of_four(*state, lines.left, lines.right);
+    double_state_of_four(state, lines.left, lines.right)
 }

@@ -1,7 +1,7 @@
 use Rattle.std.proofs.Common.{◌++◌, ap}
 use Rattle.std.proofs.lemmas.List.{append-nil}
 use Rattle.ripemd_mac.specs.Pbkdf2.{pbkdf2}
-use Rattle.ripemd_batch.specs.Keys.{pbkdf2_each}
+use Rattle.ripemd_batch.specs.Pbkdf2.{pbkdf2_each}
 use Rattle.ripemd_batch.proofs.facts.two_keys.Goals as goal
 
 pub returns : goal.returns

@@ -5,9 +5,9 @@ use Rattle.ripemd.specs.Standard.Compression.{Parameters, ripemd128, ripemd160, 
 use Rattle.ripemd.specs.Standard.Compression.{registers_after, lines_after, compress}
 use Rattle.ripemd.specs.Standard.Hashing.{with_padding, blocks, hash, ripemd}
 use Rattle.ripemd.specs.States.{new_state}
-use Rattle.ripemd_mac.specs.Keyed.{key_block, inner_message, outer_message, hmac}
+use Rattle.ripemd_mac.specs.Hmac.{key_block, inner_message, outer_message, hmac}
 use Rattle.ripemd_mac.specs.Pbkdf2.{U, F, pbkdf2}
-use Rattle.ripemd_batch.specs.Keys.{pbkdf2_each}
+use Rattle.ripemd_batch.specs.Pbkdf2.{pbkdf2_each}
 use Rattle.ripemd_c.specs.Variants.{digest_size, variant_of}
 use Rattle.ripemd_c.specs.SavedStates.{InitsState, UpdatesState, FinalizesState}
 use Rattle.ripemd_c.specs.Worked.{Gives, abc}

@@ -1,7 +1,7 @@
 use Rattle.std.proofs.Common.{refl}
 use Rattle.ripemd.specs.Standard.Compression.{registers_after, lines_after, compress}
 use Rattle.ripemd.specs.Standard.Hashing.{with_padding, blocks, hash}
-use Rattle.ripemd_mac.specs.Keyed.{key_block, inner_message, outer_message, hmac}
+use Rattle.ripemd_mac.specs.Hmac.{key_block, inner_message, outer_message, hmac}
 use Rattle.ripemd_mac.specs.Pbkdf2.{U, F, pbkdf2}
 use Rattle.ripemd_mac.proofs.facts.keys.Goals as goal
 

@@ -3,7 +3,7 @@ use Rattle.std.specs.Prelude.{slice_index}
 use Rattle.ripemd.specs.Standard.Hashing.{padded_message, blocks, with_padding, hash}
 use Rattle.ripemd.specs.Collisions.{Pair, pair_at}
 use Rattle.ripemd.specs.Worked.{block_of}
-use Rattle.ripemd_mac.specs.Keyed.{key_block, inner_message, outer_message}
+use Rattle.ripemd_mac.specs.Hmac.{key_block, inner_message, outer_message}
 use Rattle.ripemd_mac.specs.Worked.{even_sum, small_hash}
 use Rattle.ripemd_mac.proofs.facts.mac_collisions.Goals as goal
 

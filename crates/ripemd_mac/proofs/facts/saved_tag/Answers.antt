@@ -3,7 +3,7 @@ use Rattle.ripemd.specs.Standard.Words.{word_bytes}
 use Rattle.ripemd.specs.Standard.Compression.{ripemd160, registers_after, lines_after, compress}
 use Rattle.ripemd.specs.Standard.Hashing.{with_padding, blocks, partial_block}
 use Rattle.ripemd.specs.States.{HashState, IsState, fed, finish, output_and_count, core_and_tail}
-use Rattle.ripemd_mac.specs.Keyed.{key_block, keyed_state}
+use Rattle.ripemd_mac.specs.Hmac.{key_block, keyed_state}
 use Rattle.ripemd_mac.specs.Saved.{hmac_bytes}
 use Rattle.ripemd_mac.proofs.facts.saved_tag.Goals as goal
 

@@ -1,5 +1,4 @@
-use Rattle.ripemd_sum.proofs.Hashers.{only_origin}
 use Rattle.ripemd_sum.proofs.engine.hash_reader.Goals as goal
 
 pub returns-clause-ok : goal.returns-clause-ok
-returns-clause-ok g c = only_origin _ _ c.read_to_end.result c.read_to_end.ensures.ok c.new.ensures
+returns-clause-ok g c = c.read_to_end.ensures.ok tt c.new.ensures

@@ -32,10 +32,11 @@ returns-in-Ok-eq0-clause-ok g c =
       works = last.failed;
       counted = omega (arith, before.gives.gives.counted, last.taken);
       most = omega arith;
-    } in (
+    } in
+    λ o start. (
       before.message,
       GivesAll_end before.gives read (bytes.1 refl (omega arith)),
-      λ o start. c.finalize.ensures ∙ ap g.S.Incremental.finish (before.held o start) ∙ g.met.S.Incremental.finish_fed o before.message,
+      c.finalize.ensures ∙ ap g.S.Incremental.finish (before.held o start) ∙ g.met.S.Incremental.finish_fed o before.message,
     )
 
 pub returns-then-taken-limit-clause-fault : goal.returns-then-taken-limit-clause-fault

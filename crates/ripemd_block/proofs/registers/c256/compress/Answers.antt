@@ -3,15 +3,15 @@ use Rattle.ripemd_block.specs.Standard.Compression.{ripemd256}
 use Rattle.ripemd_block.proofs.Stepping.{no_rounds, next_round, compress_from, word_sums_fit}
 use Rattle.ripemd_block.proofs.registers.c256.compress.Goals as goal
 
-pub returns-clause-state : goal.returns-clause-state
-returns-clause-state c =
-    let words = c.words_of_rounds-words.ensures in
+pub returns-clause-value : goal.returns-clause-value
+returns-clause-value c =
+    let words = c.words_of_four_rounds-words.ensures in
     c.double_state_of_four.ensures ∙ compress_from (next_round (next_round (next_round (next_round
-    (no_rounds ripemd256 c.args.state.now c.args.block.now c.lines_of_256.ensures)
+    (no_rounds ripemd256 c.args.state c.args.block.now c.lines_of_256.ensures)
     c.round.ensures.left c.round.ensures.right c.exchange-lines.ensures words)
     c.round-2.ensures.left c.round-2.ensures.right c.exchange-lines-2.ensures words)
     c.round-3.ensures.left c.round-3.ensures.right c.exchange-lines-3.ensures words)
     c.round-4.ensures.left c.round-4.ensures.right c.exchange-lines-4.ensures words)
 
-pub returns-clause-new_words : goal.returns-clause-new_words
-returns-clause-new_words c = record { count = omega arith; fit = rw c.double_state_of_four.ensures (word_sums_fit _ _) }
+pub returns-clause-words : goal.returns-clause-words
+returns-clause-words c = record { count = omega arith; fit = rw c.double_state_of_four.ensures (word_sums_fit _ _) }

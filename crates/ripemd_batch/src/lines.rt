@@ -1,0 +1,238 @@
+//! The two lines of eight messages: steps, rounds and exchanges, for any number of registers.
+
+ghost use Rattle.std.specs.Prelude.{◌≡◌, ◌<◌, ◌≤◌, ◌+◌, ◌-◌, ℕ, List, Some, slice_index};
+ghost use Rattle.ripemd_block.specs.Standard.Schedule.{boolean_function, left_line, right_line};
+ghost use Rattle.ripemd_block.specs.Standard.Compression.{step, registers_after, round, exchange};
+ghost use Rattle.ripemd_block.specs.Code.Lines.{both_lines};
+ghost use Rattle.ripemd_batch.specs.Lanes.{line_of, lane_of, HasWords};
+
+use crate::eight::Eight;
+use ripemd_block::textbook::{
+    left_constant, left_number, right_constant_of_five_rounds, right_constant_of_four_rounds,
+    right_number, rotation,
+};
+
+/// One of the two lines.
+#[derive(Clone, Copy)]
+pub(crate) enum Side {
+    Left,
+    Right,
+}
+
+/// The registers of both lines.
+#[derive(Clone, Copy)]
+pub(crate) struct Lines<R: Copy> {
+    pub(crate) left: R,
+    pub(crate) right: R,
+}
+
+/// The registers of a line, of which there are as many as it has rounds.
+pub(crate) trait LineRegisters: Copy {
+    // Those of message `j`.
+    ghost lane: { ℕ → Self → List ℕ };
+
+    ghost ROUNDS: { ℕ };
+
+    /// The constant of round `r` of a line.
+    fn constant(side: Side, r: usize) -> u32
+        requires { r < ROUNDS }
+        ensures { result ≡ (line_of ROUNDS side).constant r };
+
+    /// A step of a line in round `r`, with the message words `x`, the constant `k` and the rotation by
+    /// `s` bits.
+    fn step(self, side: Side, r: usize, x: Eight, k: u32, s: u32) -> Self
+        requires round { r < ROUNDS }
+        requires amount { (0 < s) × (s < 32) }
+        ensures { (j : ℕ) → j < 8 → lane j result
+            ≡ step ((line_of ROUNDS side).function r) (slice_index x j) k s (lane j self) };
+
+    /// The registers of two lines with register `k` exchanged between them.
+    fn exchange(k: usize, left: Self, right: Self) -> (Self, Self)
+        requires { k < ROUNDS }
+        ensures { (j : ℕ) → j < 8 → both_lines (lane j result.0) (lane j result.1)
+            ≡ exchange (Some k) (both_lines (lane j left) (lane j right)) };
+}
+
+impl LineRegisters for [Eight; 4] {
+    ghost lane = { lane_of 4 };
+
+    ghost ROUNDS = { 4 };
+
+    #[inline(always)]
+    fn constant(side: Side, r: usize) -> u32 {
+        match side {
+            Side::Left => left_constant(r),
+            Side::Right => right_constant_of_four_rounds(r),
+        }
+    }
+
+    #[inline(always)]
+    fn step(self, side: Side, r: usize, x: Eight, k: u32, s: u32) -> [Eight; 4] {
+        let [a, b, c, d] = self;
+        let f = function(side, 4, r, b, c, d);
+        let t = a.add(f).add(x).add(Eight::splat(k)).rotate(s);
+        [d, t, b, c]
+    }
+
+    #[inline(always)]
+    fn exchange(k: usize, left: [Eight; 4], right: [Eight; 4]) -> ([Eight; 4], [Eight; 4]) {
+        let mut to_left = left;
+        let mut to_right = right;
+        to_left[k] = right[k];
+        to_right[k] = left[k];
+        (to_left, to_right)
+    }
+}
+
+impl LineRegisters for [Eight; 5] {
+    ghost lane = { lane_of 5 };
+
+    ghost ROUNDS = { 5 };
+
+    #[inline(always)]
+    fn constant(side: Side, r: usize) -> u32 {
+        match side {
+            Side::Left => left_constant(r),
+            Side::Right => right_constant_of_five_rounds(r),
+        }
+    }
+
+    #[inline(always)]
+    fn step(self, side: Side, r: usize, x: Eight, k: u32, s: u32) -> [Eight; 5] {
+        let [a, b, c, d, e] = self;
+        let f = function(side, 5, r, b, c, d);
+        // The constant is added to `f` itself, so that a complement in it costs nothing.
+        let t = a.add(x).add(f.add(Eight::splat(k))).rotate(s).add(e);
+        [e, t, b, c.rotate(10), d]
+    }
+
+    #[inline(always)]
+    fn exchange(k: usize, left: [Eight; 5], right: [Eight; 5]) -> ([Eight; 5], [Eight; 5]) {
+        let mut to_left = left;
+        let mut to_right = right;
+        to_left[k] = right[k];
+        to_right[k] = left[k];
+        (to_left, to_right)
+    }
+}
+
+// The Boolean function of round `r` of a line of so many rounds.
+#[inline(always)]
+fn function(side: Side, rounds: usize, r: usize, x: Eight, y: Eight, z: Eight) -> Eight
+    requires round { r < rounds }
+    requires most { rounds ≤ 5 }
+    ensures { (j : ℕ) → j < 8 → slice_index result j
+        ≡ (line_of rounds side).function r (slice_index x j) (slice_index y j) (slice_index z j) }
+{
+    match side {
+        Side::Left => boolean_function(r, x, y, z),
+        Side::Right => boolean_function(rounds - 1 - r, x, y, z),
+    }
+}
+
+// Boolean function number `k` of the words of each message (1996, functions), by few operations: 1
+// and 3 are factored, and 2 and 4 are complements.
+#[inline(always)]
+fn boolean_function(k: usize, x: Eight, y: Eight, z: Eight) -> Eight
+    requires { k < 5 }
+    ensures { (j : ℕ) → j < 8 → slice_index result j
+        ≡ boolean_function k (slice_index x j) (slice_index y j) (slice_index z j) }
+{
+    match k {
+        0 => x.xor(y.xor(z)),
+        1 => x.and(y.xor(z)).xor(z),
+        2 => y.and(x.not()).xor(z).not(),
+        3 => z.and(x.xor(y)).xor(y),
+        _ => z.and(y.not()).xor(x).not(),
+    }
+}
+
+// The number of the message word that step `i` of round `r` of a line takes, of however many rounds.
+#[inline(always)]
+fn word_number(side: Side, r: usize, i: usize) -> usize
+    requires round { r < 5 }
+    requires step { i < 16 }
+    ensures value { (rounds : ℕ) → result ≡ (line_of rounds side).word_number r i }
+    ensures small { result < 16 }
+{
+    match side {
+        Side::Left => left_number(r, i),
+        Side::Right => right_number(r, i),
+    }
+}
+
+// Step `i` of round `r` of a line.
+#[inline(always)]
+fn step_at<R: LineRegisters>(side: Side, r: usize, i: usize, words: &[Eight; 16], registers: R) -> R
+    requires round { r < R.ROUNDS }
+    requires most { R.ROUNDS ≤ 5 }
+    requires step { i < 16 }
+    ensures { (j : ℕ) → j < 8 → (block first : List ℕ) → HasWords words.now j block
+        → R.lane j registers ≡ registers_after (line_of R.ROUNDS side) block r i first
+        → R.lane j result ≡ registers_after (line_of R.ROUNDS side) block r (i + 1) first }
+{
+    let number = word_number(side, r, i);
+    let k = R::constant(side, r);
+    let s = rotation(r, number);
+    registers.step(side, r, words[number], k, s)
+}
+
+// Four steps of round `r` of a line, from step `from` on.
+#[inline(always)]
+fn four_steps<R: LineRegisters>(
+    side: Side,
+    r: usize,
+    from: usize,
+    words: &[Eight; 16],
+    start: R,
+) -> R
+    requires round { r < R.ROUNDS }
+    requires most { R.ROUNDS ≤ 5 }
+    requires steps { from + 4 ≤ 16 }
+    ensures { (j : ℕ) → j < 8 → (block first : List ℕ) → HasWords words.now j block
+        → R.lane j start ≡ registers_after (line_of R.ROUNDS side) block r from first
+        → R.lane j result ≡ registers_after (line_of R.ROUNDS side) block r (from + 4) first }
+{
+    let mut registers = start;
+    for i in 0..4 {
+        let next = step_at(side, r, from + i, words, registers);
+        registers = next;
+    }
+    registers
+}
+
+/// Round `N` of both lines: sixteen steps, by fours of one line and of the other, which do not wait
+/// for each other.
+#[inline(always)]
+pub(crate) fn round<R: LineRegisters, const N: usize>(
+    words: &[Eight; 16],
+    lines: Lines<R>,
+) -> Lines<R>
+    requires round { N < R.ROUNDS }
+    requires most { R.ROUNDS ≤ 5 }
+    ensures left { (j : ℕ) → j < 8 → (block : List ℕ) → HasWords words.now j block
+        → R.lane j result.left ≡ round left_line block N (R.lane j lines.left) }
+    ensures right { (j : ℕ) → j < 8 → (block : List ℕ) → HasWords words.now j block
+        → R.lane j result.right ≡ round (right_line R.ROUNDS) block N (R.lane j lines.right) }
+{
+    let left = four_steps(Side::Left, N, 0, words, lines.left);
+    let right = four_steps(Side::Right, N, 0, words, lines.right);
+    let left = four_steps(Side::Left, N, 4, words, left);
+    let right = four_steps(Side::Right, N, 4, words, right);
+    let left = four_steps(Side::Left, N, 8, words, left);
+    let right = four_steps(Side::Right, N, 8, words, right);
+    let left = four_steps(Side::Left, N, 12, words, left);
+    let right = four_steps(Side::Right, N, 12, words, right);
+    Lines { left, right }
+}
+
+/// The lines with register `k` exchanged between them.
+#[inline(always)]
+pub(crate) fn exchange<R: LineRegisters>(k: usize, lines: Lines<R>) -> Lines<R>
+    requires { k < R.ROUNDS }
+    ensures { (j : ℕ) → j < 8 → both_lines (R.lane j result.left) (R.lane j result.right)
+        ≡ exchange (Some k) (both_lines (R.lane j lines.left) (R.lane j lines.right)) }
+{
+    let (left, right) = R::exchange(k, lines.left, lines.right);
+    Lines { left, right }
+}

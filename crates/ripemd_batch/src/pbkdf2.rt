@@ -1,0 +1,422 @@
+//! Keys derived from passwords (PBKDF2 with HMAC, RFC 8018, section 5.2): eight blocks at once.
+
+ghost use Rattle.std.specs.Prelude.{◌≡◌, ◌≢◌, ◌↔◌, ℕ, ◌<◌, ◌≤◌, ◌+◌, ◌-◌, ◌*◌, ◌%◌, ◌^◌, ◌++◌, length, slice_index, IfOk, IfErr};
+ghost use Rattle.std.specs.Int.{w32, to_be_bytes, div_ceil};
+ghost use Rattle.ripemd_block.specs.Standard.Hashing.{hash};
+ghost use Rattle.ripemd_mac.specs.Hmac.{hmac};
+ghost use Rattle.ripemd_mac.specs.Pbkdf2.{F, pbkdf2};
+ghost use Rattle.ripemd_batch.specs.Pbkdf2.{HasBlocks, InGroup, IsFilled, block_at, combined_tags, pbkdf2_each, tag_after, total};
+ghost use Rattle.ripemd_batch.specs.Lanes.{hash_after, list_at, targets};
+
+use crate::eight::Eight;
+use crate::groups::{BatchDigest, FunctionOf, StateOf, digest_one, last_state};
+use crate::lists::state_after;
+use crate::states::EightStates;
+use ripemd::digest::Digest;
+use ripemd_block::block_api::{BlockFunction, ByteArray};
+use ripemd_mac::Pbkdf2Error;
+use ripemd_mac::hmac::{filled, masked_keys};
+use ripemd_mac::pbkdf2::{allowed, combined, write_front};
+use std::marker::Model;
+
+/// Derives a key from a password and a salt as [`ripemd_mac::pbkdf2_hmac`] does, by so many rounds, and writes
+/// it to `key`: eight blocks at once, or one by one where there are fewer than three. Nothing is
+/// allocated.
+///
+/// # Errors
+///
+/// `NoRounds` if `rounds` is 0, and else `KeyTooLong` if `key` is longer than 2^32 - 1 digests. Nothing
+/// is written then.
+pub fn pbkdf2_hmac<D: BatchDigest>(
+    password: &[u8],
+    salt: &[u8],
+    rounds: u32,
+    key: &mut [u8],
+) -> Result<(), Pbkdf2Error>
+    ensures ok { IfOk result (λ _. key.new ≡ pbkdf2 (hmac (hash D.start D.step D.output))
+        D.OUTPUT_SIZE password.now salt.now rounds (length key.old)) }
+    ensures fits { IfOk result (λ _. (rounds ≢ 0)
+        × (length key.old ≤ (2 ^ 32 - 1) * D.OUTPUT_SIZE)) }
+    ensures no_rounds { IfErr result (λ why. (why ≡ Pbkdf2Error.NoRounds) ↔ (rounds ≡ 0)) }
+    ensures too_long { IfErr result (λ why. why ≡ Pbkdf2Error.KeyTooLong
+        → (2 ^ 32 - 1) * D.OUTPUT_SIZE < length key.old) }
+    ensures unchanged { IfErr result (λ _. key.new ≡ key.old) }
+{
+    let size = key.len();
+    pbkdf2_hmac_each::<D>(&[password], &[salt], rounds, size, key)
+}
+
+/// Derives a key of `size` bytes from each password and the salt in its place, by so many rounds, and
+/// writes one after another to `keys`: eight of all their blocks at once, and the last ones one by one
+/// where there are fewer than three. There must be as many salts as passwords, and room for so many
+/// keys. Nothing is allocated.
+///
+/// # Errors
+///
+/// `NoRounds` if `rounds` is 0, and else `KeyTooLong` if `size` is more than 2^32 - 1 digests. Nothing
+/// is written then.
+pub fn pbkdf2_hmac_each<D: BatchDigest>(
+    passwords: &[&[u8]],
+    salts: &[&[u8]],
+    rounds: u32,
+    size: usize,
+    keys: &mut [u8],
+) -> Result<(), Pbkdf2Error>
+    requires salts { length salts.now ≡ length passwords.now }
+    requires room { length keys.old ≡ size * length passwords.now }
+    ensures ok { IfOk result (λ _. keys.new ≡ pbkdf2_each (hmac (hash D.start D.step D.output))
+        D.OUTPUT_SIZE (targets passwords.now) (targets salts.now) rounds size) }
+    ensures fits { IfOk result (λ _. (rounds ≢ 0) × (size ≤ (2 ^ 32 - 1) * D.OUTPUT_SIZE)) }
+    ensures no_rounds { IfErr result (λ why. (why ≡ Pbkdf2Error.NoRounds) ↔ (rounds ≡ 0)) }
+    ensures too_long { IfErr result (λ why. why ≡ Pbkdf2Error.KeyTooLong
+        → (2 ^ 32 - 1) * D.OUTPUT_SIZE < size) }
+    ensures unchanged { IfErr result (λ _. keys.new ≡ keys.old) }
+{
+    let digest = digest_size::<D>();
+    allowed(rounds, digest, size)?;
+    if size == 0 {
+        return Ok(());
+    }
+    let of = KeyBlocks {
+        passwords,
+        salts,
+        rounds,
+        count: size.div_ceil(digest),
+    };
+    let mut group = [[0; 64]; 8];
+    for i in 0..passwords.len() {
+        let next = of.write_key::<D>(i, group, &mut keys[size * i..size * i + size]);
+        group = next;
+    }
+    Ok(())
+}
+
+// The blocks of the keys of a list, one key after another: so many of each, of which there are not too
+// many. Contracts see the list.
+#[derive(Drop)]
+struct KeyBlocks<'a> {
+    passwords: &'a [&'a [u8]],
+    salts: &'a [&'a [u8]],
+    rounds: u32,
+    count: usize,
+}
+
+impl<'a> Model for KeyBlocks<'a> {
+    ghost use Rattle.std.specs.Prelude.{◌≡◌, ◌<◌, ◌*◌, ◌^◌, length};
+    ghost use Rattle.ripemd_batch.specs.Pbkdf2.{KeyList};
+    ghost use Rattle.ripemd_batch.specs.Lanes.{targets};
+
+    ghost Value = { KeyList };
+
+    ghost view = { λ k. record {
+      passwords = targets k.passwords.now;
+      salts = targets k.salts.now;
+      rounds = k.rounds;
+      count = k.count;
+    } };
+
+    ghost invariant = { λ k. (0 < k.rounds) × (length k.salts.now ≡ length k.passwords.now)
+        × (k.count < 2 ^ 32) × (k.count * length k.passwords.now < 2 ^ 63) };
+}
+
+impl<'a> KeyBlocks<'a> {
+    // How many there are.
+    fn total(&self) -> usize
+        ensures value { result ≡ total self.now }
+        ensures fits { result < 2 ^ 63 }
+    {
+        self.count * self.passwords.len()
+    }
+
+    // Writes key `i`. Given and returned is the group of eight that the next block belongs to, unless it
+    // begins with that block.
+    fn write_key<D: BatchDigest>(
+        &self,
+        i: usize,
+        group: [[u8; 64]; 8],
+        key: &mut [u8],
+    ) -> [[u8; 64]; 8]
+        requires digest { 0 < D.OUTPUT_SIZE }
+        requires pair { i < length self.now.passwords }
+        requires count { self.now.count ≡ div_ceil (length key.old) D.OUTPUT_SIZE }
+        requires group { InGroup D.OUTPUT_SIZE (hmac (hash D.start D.step D.output)) self.now
+            (self.now.count * i) group }
+        ensures key { key.new ≡ pbkdf2 (hmac (hash D.start D.step D.output)) D.OUTPUT_SIZE
+            (list_at self.now.passwords i) (list_at self.now.salts i) self.now.rounds
+            (length key.old) }
+        ensures group { InGroup D.OUTPUT_SIZE (hmac (hash D.start D.step D.output)) self.now
+            (self.now.count * (i + 1)) result }
+    {
+        let size = digest_size::<D>();
+        let mut group = group;
+        for b in 0..self.count {
+            let k = self.count * i + b;
+            let next = self.group_at::<D>(k, group);
+            group = next;
+            let end = key.len().min(size * b + size);
+            write_front(&next[k % 8], &mut key[size * b..end]);
+        }
+        group
+    }
+
+    // The group of eight that block `k` is in: derived where it begins with this block, and else the
+    // group that is given.
+    fn group_at<D: BatchDigest>(&self, k: usize, group: [[u8; 64]; 8]) -> [[u8; 64]; 8]
+        requires { k < total self.now }
+        ensures { InGroup D.OUTPUT_SIZE (hmac (hash D.start D.step D.output)) self.now k group
+            → HasBlocks D.OUTPUT_SIZE (hmac (hash D.start D.step D.output)) self.now (k - k % 8)
+            result }
+    {
+        if 0 < k % 8 {
+            group
+        } else if self.total() - k < 3 {
+            self.few_blocks::<D>(k)
+        } else {
+            self.eight_blocks::<D>(k)
+        }
+    }
+
+    // The blocks from block `k` on, filled with zeros, one after another: there are at most eight.
+    fn few_blocks<D: BatchDigest>(&self, k: usize) -> [[u8; 64]; 8]
+        requires inside { k < total self.now }
+        requires few { total self.now ≤ k + 8 }
+        ensures { HasBlocks D.OUTPUT_SIZE (hmac (hash D.start D.step D.output)) self.now k result }
+    {
+        let mut blocks = [[0; 64]; 8];
+        for j in 0..self.total() - k {
+            let block = one_by_one::<D>(self.chain_at::<D>(k + j), self.rounds);
+            blocks[j] = block;
+        }
+        blocks
+    }
+
+    // Eight blocks from block `k` on, filled with zeros, all at once. Where there are fewer, the rest is
+    // any.
+    fn eight_blocks<D: BatchDigest>(&self, k: usize) -> [[u8; 64]; 8]
+        requires { k < total self.now }
+        ensures { HasBlocks D.OUTPUT_SIZE (hmac (hash D.start D.step D.output)) self.now k result }
+    {
+        let live = self.total() - k;
+        let start = D::States::splat(FunctionOf::<D>::start());
+        let mut inner = start;
+        let mut outer = start;
+        let mut first = start;
+        for j in 0..8 {
+            let chain = self.chain_at::<D>(place_of(k, j, live));
+            let lane = only_lane(j);
+            inner = D::States::select(lane, D::States::splat(chain.inner), inner);
+            outer = D::States::select(lane, D::States::splat(chain.outer), outer);
+            first = D::States::select(lane, D::States::splat(chain.first), first);
+        }
+        let sums = combined_tags(inner, outer, first, self.rounds);
+        // Proof only: its contract gives the size of a digest.
+        digest_size::<D>();
+        blocks_of(&sums)
+    }
+
+    // What block `k` is made of.
+    fn chain_at<D: BatchDigest>(&self, k: usize) -> Chain<D>
+        requires { k < total self.now }
+        ensures inner { D.States.Function.is_state result.inner }
+        ensures outer { D.States.Function.is_state result.outer }
+        ensures block { combined_tags (tag_after D.step D.output
+            (D.States.Function.list result.inner) (D.States.Function.list result.outer)) self.now.rounds
+            (D.output (D.States.Function.list result.first))
+            ≡ block_at (hmac (hash D.start D.step D.output)) self.now k }
+    {
+        let i = k / self.count;
+        chain_of::<D>(
+            self.passwords[i],
+            self.salts[i],
+            (k % self.count) as u32 + 1,
+        )
+    }
+}
+
+// Which block lane `j` is given, of `live` from block `k` on: the first again, where there is none.
+fn place_of(k: usize, j: usize, live: usize) -> usize
+    requires some { 0 < live }
+    requires fits { k + live < 2 ^ 64 }
+    ensures block { j < live → result ≡ k + j }
+    ensures inside { result < k + live }
+{
+    if j < live { k + j } else { k }
+}
+
+// All bits in one lane, and 0 in the others.
+fn only_lane(j: usize) -> Eight
+    requires { j < 8 }
+    ensures yes { slice_index result j ≡ 0xffff_ffff }
+    ensures no { (i : ℕ) → i < 8 → i ≢ j → slice_index result i ≡ 0 }
+{
+    let mut lanes = [0; 8];
+    lanes[j] = 0xffff_ffff;
+    Eight::of(lanes)
+}
+
+// What a block is made of: the states after the two masked keys, and that whose output is the first tag.
+#[derive(Drop)]
+struct Chain<D: BatchDigest> {
+    inner: StateOf<D>,
+    outer: StateOf<D>,
+    first: StateOf<D>,
+}
+
+// That of block `number` of the key of one password.
+fn chain_of<D: BatchDigest>(password: &[u8], salt: &[u8], number: u32) -> Chain<D>
+    ensures inner { D.States.Function.is_state result.inner }
+    ensures outer { D.States.Function.is_state result.outer }
+    ensures block { (rounds : ℕ) → combined_tags (tag_after D.step D.output
+        (D.States.Function.list result.inner) (D.States.Function.list result.outer)) rounds
+        (D.output (D.States.Function.list result.first))
+        ≡ F (hmac (hash D.start D.step D.output)) password.now salt.now rounds number }
+{
+    let keys = masked_keys::<D>(password);
+    let digest = inner_digest::<D>(&keys.inner, salt, number);
+    let outer = state_after::<D>(keys.outer);
+    Chain {
+        inner: state_after::<D>(keys.inner),
+        outer,
+        first: last_state::<D>(outer, 64, D::output_bytes(&digest)),
+    }
+}
+
+// The digest of the inner masked key, the salt and the number of a block.
+fn inner_digest<D: Digest>(inner_key: &[u8; 64], salt: &[u8], number: u32) -> D::Output
+    ensures { D.bytes_of result ≡ hash D.start D.step D.output
+        (inner_key.now ++ salt.now ++ to_be_bytes w32 number) }
+{
+    let mut hasher = D::new_with_prefix(inner_key);
+    hasher.update(salt);
+    hasher.update(&number.to_be_bytes());
+    hasher.finalize()
+}
+
+// The exclusive or of so many tags of a chain, the first one's tag and so on, filled with zeros.
+fn one_by_one<D: BatchDigest>(chain: Chain<D>, rounds: u32) -> [u8; 64]
+    requires rounds { 0 < rounds }
+    requires inner { D.States.Function.is_state chain.inner }
+    requires outer { D.States.Function.is_state chain.outer }
+    ensures { IsFilled D.OUTPUT_SIZE result (combined_tags (tag_after D.step D.output
+        (D.States.Function.list chain.inner) (D.States.Function.list chain.outer)) rounds
+        (D.output (D.States.Function.list chain.first))) }
+{
+    let mut tag = FunctionOf::<D>::output(chain.first);
+    let mut sum = filled(D::output_bytes(&tag));
+    for k in 1..rounds {
+        let next = digest_after_one::<D>(chain.outer, &digest_after_one::<D>(chain.inner, &tag));
+        tag = next;
+        sum = combined(&sum, &filled(D::output_bytes(&next)));
+    }
+    sum
+}
+
+// The digest of a digest, as a message after one block, which led to the state `first`.
+#[inline(always)]
+fn digest_after_one<D: BatchDigest>(first: StateOf<D>, digest: &D::Output) -> D::Output
+    requires { D.States.Function.is_state first }
+    ensures digest { D.bytes_of result ≡ hash_after 64 (D.States.Function.list first) D.step D.output
+        (D.bytes_of digest.now) }
+    ensures size { length (D.bytes_of result) ≡ D.OUTPUT_SIZE }
+{
+    let result = digest_one::<D>(first, 64, D::output_bytes(digest));
+    // Proof only: its contract gives the size of the digest.
+    D::output_bytes(&result);
+    result
+}
+
+/// How many bytes a digest has.
+pub fn digest_size<D: BatchDigest>() -> usize
+    ensures size { result ≡ D.OUTPUT_SIZE }
+    ensures array { result ≡ D.Output.LEN }
+    ensures most { result ≤ 64 }
+{
+    let zeros = D::Output::zeros();
+    // Proof only: their contracts give the size of the array.
+    zeros.as_bytes();
+    D::output_bytes(&zeros);
+    D::OUTPUT_SIZE
+}
+
+// The digest of each message, filled with zeros.
+#[inline(always)]
+fn blocks_of<S: EightStates>(states: &S) -> [[u8; 64]; 8]
+    ensures { (j : ℕ) → j < 8
+        → IsFilled S.Output.LEN (list_at result j) (S.Function.output (S.words_of j states.now)) }
+{
+    [
+        digest_block(states, 0),
+        digest_block(states, 1),
+        digest_block(states, 2),
+        digest_block(states, 3),
+        digest_block(states, 4),
+        digest_block(states, 5),
+        digest_block(states, 6),
+        digest_block(states, 7),
+    ]
+}
+
+// The digest of message `j`, filled with zeros.
+#[inline(never)]
+fn digest_block<S: EightStates>(states: &S, j: usize) -> [u8; 64]
+    requires { j < 8 }
+    ensures { IsFilled S.Output.LEN result (S.Function.output (S.words_of j states.now)) }
+{
+    filled(states.digest_of(j).as_bytes())
+}
+
+// The states whose outputs are the exclusive or of so many tags: those that are the outputs of `first`,
+// their tags, the tags of these, and so on, from the states after the masked keys.
+#[inline(never)]
+fn combined_tags<S: EightStates>(inner: S, outer: S, first: S, rounds: u32) -> S
+    requires { 0 < rounds }
+    ensures { (j : ℕ) → j < 8 → S.Function.output (S.words_of j result)
+        ≡ combined_tags (tag_after S.Function.step S.Function.output (S.words_of j inner)
+        (S.words_of j outer)) rounds (S.Function.output (S.words_of j first)) }
+{
+    let mut tag = first;
+    let mut sum = first;
+    for k in 1..rounds {
+        let next = tag_after(inner, outer, tag);
+        tag = next;
+        let added = sum.xor(next);
+        sum = added;
+    }
+    sum
+}
+
+// The states whose outputs are the tags of those of `text`. Both halves go through one call, so that the
+// compiler writes out the rounds of it.
+#[inline(always)]
+fn tag_after<S: EightStates>(inner: S, outer: S, text: S) -> S
+    ensures { (j : ℕ) → j < 8 → S.Function.output (S.words_of j result)
+        ≡ tag_after S.Function.step S.Function.output (S.words_of j inner) (S.words_of j outer)
+        (S.Function.output (S.words_of j text)) }
+{
+    let mut digest = text;
+    for half in 0..2 {
+        let next = digest_after(first_of_half(half, inner, outer), digest);
+        digest = next;
+    }
+    digest
+}
+
+// The states from which a half of a tag starts.
+#[inline(always)]
+fn first_of_half<S: EightStates>(half: usize, inner: S, outer: S) -> S
+    ensures inner { (j : ℕ) → j < 8 → half ≡ 0 → S.words_of j result ≡ S.words_of j inner }
+    ensures outer { (j : ℕ) → j < 8 → half ≡ 1 → S.words_of j result ≡ S.words_of j outer }
+{
+    if half == 0 { inner } else { outer }
+}
+
+// The states whose outputs are the digests of those of `digest`, as messages after one block, which led
+// to the states `first`.
+#[inline(always)]
+fn digest_after<S: EightStates>(first: S, digest: S) -> S
+    ensures { (j : ℕ) → j < 8 → S.Function.output (S.words_of j result)
+        ≡ hash_after 64 (S.words_of j first) S.Function.step S.Function.output
+        (S.Function.output (S.words_of j digest)) }
+{
+    first.compress(&digest.last_words())
+}

@@ -1,9 +1,0 @@
-use Rattle.std.proofs.Common.{refl}
-use Rattle.std.proofs.lemmas.Simd.{zip2_splat}
-use Rattle.ripemd_block.specs.Standard.Words.{◌⊞◌}
-use Rattle.ripemd_block.specs.Code.Lines.{message_words, words_with}
-use Rattle.ripemd_block.proofs.registers.steps.words_with.Goals as goal
-
-pub returns : goal.returns
-unfolding message_words words_with
-returns c = rw c.message_words.ensures (zip2_splat (λ w k. w ⊞ k) (message_words c.args.block.now) 16 c.args.k refl)

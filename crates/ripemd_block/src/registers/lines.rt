@@ -1,0 +1,253 @@
+//! Both lines of a block side by side: steps, rounds and exchanges, for any number of registers.
+
+ghost use Rattle.std.specs.Prelude.{◌≡◌, ◌<◌, ◌≤◌, ◌+◌, ◌-◌, ℕ, List, Some};
+ghost use Rattle.ripemd_block.specs.Standard.Words.{◌⊞◌};
+ghost use Rattle.ripemd_block.specs.Standard.Schedule.{boolean_function, left_line, right_line};
+ghost use Rattle.ripemd_block.specs.Standard.Compression.{step, registers_after, round, exchange};
+ghost use Rattle.ripemd_block.specs.Code.Lines.{both_lines, words_with, HasWords};
+
+use crate::message::message_words;
+use crate::textbook::{
+    amounts, left_constant, left_number, right_constant_of_five_rounds,
+    right_constant_of_four_rounds, right_number,
+};
+use std::simd::prelude::*;
+
+/// The registers of a line, of which there are as many as it has rounds.
+pub(crate) trait LineRegisters: Copy {
+    ghost list: { Self → List ℕ };
+
+    ghost ROUNDS: { ℕ };
+
+    /// A step with Boolean function `k`, where the constant is added to the message word `x`, and with the
+    /// rotation by `s` bits.
+    fn step(self, k: usize, x: u32, s: u32) -> Self
+        requires function { k < ROUNDS }
+        requires amount { (0 < s) × (s < 32) }
+        ensures { list result ≡ step (boolean_function k) x 0 s (list self) };
+
+    /// The registers of two lines with register `j` exchanged between them.
+    fn exchange(j: usize, left: Self, right: Self) -> (Self, Self)
+        requires { j < ROUNDS }
+        ensures { both_lines (list result.0) (list result.1)
+            ≡ exchange (Some j) (both_lines (list left) (list right)) };
+}
+
+impl LineRegisters for [u32; 4] {
+    ghost list = { λ registers. registers };
+
+    ghost ROUNDS = { 4 };
+
+    #[inline(always)]
+    fn step(self, k: usize, x: u32, s: u32) -> [u32; 4] {
+        let [a, b, c, d] = self;
+        let t = sum(a.wrapping_add(x), k, b, c, d).rotate_left(s);
+        [d, t, b, c]
+    }
+
+    #[inline(always)]
+    fn exchange(j: usize, left: [u32; 4], right: [u32; 4]) -> ([u32; 4], [u32; 4]) {
+        let mut to_left = left;
+        let mut to_right = right;
+        to_left[j] = right[j];
+        to_right[j] = left[j];
+        (to_left, to_right)
+    }
+}
+
+impl LineRegisters for [u32; 5] {
+    ghost list = { λ registers. registers };
+
+    ghost ROUNDS = { 5 };
+
+    #[inline(always)]
+    fn step(self, k: usize, x: u32, s: u32) -> [u32; 5] {
+        let [a, b, c, d, e] = self;
+        let t = sum(a.wrapping_add(x), k, b, c, d)
+            .rotate_left(s)
+            .wrapping_add(e);
+        [e, t, b, c.rotate_left(10), d]
+    }
+
+    #[inline(always)]
+    fn exchange(j: usize, left: [u32; 5], right: [u32; 5]) -> ([u32; 5], [u32; 5]) {
+        let mut to_left = left;
+        let mut to_right = right;
+        to_left[j] = right[j];
+        to_right[j] = left[j];
+        (to_left, to_right)
+    }
+}
+
+// The sum of `u` and Boolean function `k` of three words, modulo 2^32 (1996, Boolean functions). The
+// two parts of function 3 have no bit in common and are added one after the other, so that less waits
+// for `x`, the newest of the words.
+#[inline(always)]
+fn sum(u: u32, k: usize, x: u32, y: u32, z: u32) -> u32
+    requires { k < 5 }
+    ensures { result ≡ u ⊞ boolean_function k x y z }
+{
+    match k {
+        0 => u.wrapping_add(x ^ y ^ z),
+        1 => u.wrapping_add((x & y) | (!x & z)),
+        2 => u.wrapping_add((x | !y) ^ z),
+        3 => u.wrapping_add(y & !z).wrapping_add(x & z),
+        _ => u.wrapping_add(x ^ (y | !z)),
+    }
+}
+
+/// The message words of a block with the constant of each round added, of both lines: rows of rounds.
+#[derive(Drop)]
+pub(crate) struct Words<const N: usize> {
+    left: [[u32; 16]; N],
+    right: [[u32; 16]; N],
+}
+
+// The sixteen message words of a block, each with `k` added, modulo 2^32.
+#[inline(always)]
+fn words_with(block: &[u8; 64], k: u32) -> [u32; 16]
+    ensures { result ≡ words_with k block.now }
+{
+    (message_words(block) + u32x16::splat(k)).to_array()
+}
+
+/// These words of lines of four rounds. Not inlined: in the steps the compiler would add the constants
+/// last, where the next step waits for them.
+#[inline(never)]
+pub(crate) fn words_of_four_rounds(block: &[u8; 64]) -> Words<4>
+    ensures { HasWords 4 result.left result.right block.now }
+{
+    Words {
+        left: [
+            words_with(block, left_constant(0)),
+            words_with(block, left_constant(1)),
+            words_with(block, left_constant(2)),
+            words_with(block, left_constant(3)),
+        ],
+        right: [
+            words_with(block, right_constant_of_four_rounds(0)),
+            words_with(block, right_constant_of_four_rounds(1)),
+            words_with(block, right_constant_of_four_rounds(2)),
+            words_with(block, right_constant_of_four_rounds(3)),
+        ],
+    }
+}
+
+/// The same of lines of five rounds.
+#[inline(never)]
+pub(crate) fn words_of_five_rounds(block: &[u8; 64]) -> Words<5>
+    ensures { HasWords 5 result.left result.right block.now }
+{
+    Words {
+        left: [
+            words_with(block, left_constant(0)),
+            words_with(block, left_constant(1)),
+            words_with(block, left_constant(2)),
+            words_with(block, left_constant(3)),
+            words_with(block, left_constant(4)),
+        ],
+        right: [
+            words_with(block, right_constant_of_five_rounds(0)),
+            words_with(block, right_constant_of_five_rounds(1)),
+            words_with(block, right_constant_of_five_rounds(2)),
+            words_with(block, right_constant_of_five_rounds(3)),
+            words_with(block, right_constant_of_five_rounds(4)),
+        ],
+    }
+}
+
+/// The registers of both lines.
+#[derive(Clone, Copy)]
+pub(crate) struct Lines<R: LineRegisters> {
+    pub(crate) left: R,
+    pub(crate) right: R,
+}
+
+// Step `i` of round `r` of both lines.
+#[inline(always)]
+fn step_at<R: LineRegisters, const N: usize>(
+    r: usize,
+    i: usize,
+    words: &Words<N>,
+    lines: Lines<R>,
+) -> Lines<R>
+    requires rounds { N ≡ R.ROUNDS }
+    requires most { R.ROUNDS ≤ 5 }
+    requires round { r < N }
+    requires step { i < 16 }
+    ensures left { (block start : List ℕ) → HasWords N words.now.left words.now.right block
+        → R.list lines.left ≡ registers_after left_line block r i start
+        → R.list result.left ≡ registers_after left_line block r (i + 1) start }
+    ensures right { (block start : List ℕ) → HasWords N words.now.left words.now.right block
+        → R.list lines.right ≡ registers_after (right_line N) block r i start
+        → R.list result.right ≡ registers_after (right_line N) block r (i + 1) start }
+{
+    let left = left_number(r, i);
+    let right = right_number(r, i);
+    let [left_amount, right_amount] = amounts(r, i);
+    Lines {
+        left: lines.left.step(r, words.left[r][left], left_amount),
+        right: lines
+            .right
+            .step(N - 1 - r, words.right[r][right], right_amount),
+    }
+}
+
+// Four steps of round `r` of both lines, from step `from` on.
+#[inline(always)]
+fn four_steps<R: LineRegisters, const N: usize>(
+    r: usize,
+    from: usize,
+    words: &Words<N>,
+    start: Lines<R>,
+) -> Lines<R>
+    requires rounds { N ≡ R.ROUNDS }
+    requires most { R.ROUNDS ≤ 5 }
+    requires round { r < N }
+    requires steps { from + 4 ≤ 16 }
+    ensures left { (block first : List ℕ) → HasWords N words.now.left words.now.right block
+        → R.list start.left ≡ registers_after left_line block r from first
+        → R.list result.left ≡ registers_after left_line block r (from + 4) first }
+    ensures right { (block first : List ℕ) → HasWords N words.now.left words.now.right block
+        → R.list start.right ≡ registers_after (right_line N) block r from first
+        → R.list result.right ≡ registers_after (right_line N) block r (from + 4) first }
+{
+    let mut lines = start;
+    for i in 0..4 {
+        let next = step_at(r, from + i, words, lines);
+        lines = next;
+    }
+    lines
+}
+
+/// Round `r` of both lines: sixteen steps. Fours of them are what the compiler unrolls.
+#[inline(always)]
+pub(crate) fn round<R: LineRegisters, const N: usize>(
+    r: usize,
+    words: &Words<N>,
+    lines: Lines<R>,
+) -> Lines<R>
+    requires rounds { N ≡ R.ROUNDS }
+    requires most { R.ROUNDS ≤ 5 }
+    requires round { r < N }
+    ensures left { (block : List ℕ) → HasWords N words.now.left words.now.right block
+        → R.list result.left ≡ round left_line block r (R.list lines.left) }
+    ensures right { (block : List ℕ) → HasWords N words.now.left words.now.right block
+        → R.list result.right ≡ round (right_line N) block r (R.list lines.right) }
+{
+    let lines = four_steps(r, 0, words, lines);
+    let lines = four_steps(r, 4, words, lines);
+    let lines = four_steps(r, 8, words, lines);
+    four_steps(r, 12, words, lines)
+}
+
+/// The lines with register `j` exchanged between them.
+#[inline(always)]
+pub(crate) fn exchange<R: LineRegisters>(j: usize, lines: Lines<R>) -> Lines<R>
+    requires { j < R.ROUNDS }
+    ensures { both_lines (R.list result.left) (R.list result.right)
+        ≡ exchange (Some j) (both_lines (R.list lines.left) (R.list lines.right)) }
+{
+    let (left, right) = R::exchange(j, lines.left, lines.right);
+    Lines { left, right }
+}

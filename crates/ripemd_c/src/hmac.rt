@@ -1,0 +1,111 @@
+//! Tags of texts under keys (HMAC, RFC 2104), whole and in pieces.
+
+ghost use Rattle.std.specs.Prelude.{◌≡◌, ◌↔◌, length, IsTrue};
+ghost use Rattle.ripemd.specs.Standard.Hashing.{hash};
+ghost use Rattle.ripemd_mac.specs.Hmac.{StandsFor, hmac};
+ghost use Rattle.ripemd_c.specs.SavedStates.{FinalizesHmac, InitsHmac, UpdatesHmac, VerifiesHmac};
+ghost use Rattle.ripemd_c.specs.Variants.{VerifiesTag, Writes, WritesTag};
+
+use crate::states::{final_kept, init_kept, update_kept, verify_kept};
+use crate::write;
+use ripemd::digest::BlockDigest;
+use ripemd::{Ripemd128, Ripemd160, Ripemd256, Ripemd320};
+use ripemd_mac::Hmac;
+
+/// Writes the tag of the text under the key by the variant to `tag`. True exactly if there is such a
+/// variant and `tag` has the size of its digests; otherwise nothing is written.
+#[unsafe(no_mangle)]
+pub extern "C" fn nattizhu_hmac_nonnull(
+    variant: u32,
+    key: &[u8],
+    text: &[u8],
+    tag: &mut [u8],
+) -> bool
+    ensures { WritesTag variant key.now text.now tag.old tag.new result }
+{
+    by_variant!(variant, write_tag(key, text, tag))
+}
+
+/// Whether there is such a variant and these bytes are the tag of the text under the key by it, all of
+/// them. It compares all bytes of a tag of the right length, whatever they are.
+#[unsafe(no_mangle)]
+pub extern "C" fn nattizhu_hmac_verify_text_nonnull(
+    variant: u32,
+    key: &[u8],
+    text: &[u8],
+    tag: &[u8],
+) -> bool
+    ensures { VerifiesTag variant key.now text.now tag.now result }
+{
+    by_variant!(variant, verify_text(key, text, tag))
+}
+
+/// Writes the HMAC state of the key and the empty text by the variant. False exactly if there is none, and
+/// then nothing is written.
+#[unsafe(no_mangle)]
+pub extern "C" fn nattizhu_hmac_init_nonnull(
+    variant: u32,
+    state: &mut [u8; 225],
+    key: &[u8],
+) -> bool
+    ensures { InitsHmac variant key.now state.old state.new result }
+{
+    by_variant!(
+        variant,
+        init_kept::<Hmac>(key, 128 + (variant / 8) as u8, state)
+    )
+}
+
+/// Appends bytes to the text. False exactly if these are the bytes of no HMAC state, and then nothing is
+/// written.
+#[unsafe(no_mangle)]
+pub extern "C" fn nattizhu_hmac_update_nonnull(state: &mut [u8; 225], bytes: &[u8]) -> bool
+    ensures { UpdatesHmac state.old bytes.now state.new result }
+{
+    let bits = 8 * state[0].saturating_sub(128) as u32;
+    by_variant!(bits, update_kept::<Hmac>(state, bytes))
+}
+
+/// Writes the tag of the text so far to `tag`. True exactly if these are the bytes of an HMAC state, and
+/// `tag` has the size of its tags; otherwise nothing is written.
+#[unsafe(no_mangle)]
+pub extern "C" fn nattizhu_hmac_final_nonnull(state: &[u8; 225], tag: &mut [u8]) -> bool
+    ensures { FinalizesHmac state.now tag.old tag.new result }
+{
+    let bits = 8 * state[0].saturating_sub(128) as u32;
+    by_variant!(bits, final_kept::<Hmac>(state, tag))
+}
+
+/// Whether these bytes are the tag of the text so far, all of them. False too if these are the bytes of no
+/// HMAC state.
+#[unsafe(no_mangle)]
+pub extern "C" fn nattizhu_hmac_verify_nonnull(state: &[u8; 225], tag: &[u8]) -> bool
+    ensures { VerifiesHmac state.now tag.now result }
+{
+    let bits = 8 * state[0].saturating_sub(128) as u32;
+    by_variant!(bits, verify_kept::<Hmac>(state, tag))
+}
+
+// Writes the tag of a text that is there as a whole, if its place has the size of it.
+fn write_tag<D: BlockDigest>(key: &[u8], text: &[u8], tag: &mut [u8]) -> bool
+    ensures { Writes (length tag.old ≡ D.OUTPUT_SIZE) (hmac (hash D.start D.step D.output) key.now text.now)
+        tag.old tag.new result }
+{
+    write(D::output_bytes(&mac_of::<D>(key, text).finalize()), tag)
+}
+
+// Whether these bytes are the tag of a text that is there as a whole, all of them.
+fn verify_text<D: BlockDigest>(key: &[u8], text: &[u8], tag: &[u8]) -> bool
+    ensures { IsTrue result ↔ (tag.now ≡ hmac (hash D.start D.step D.output) key.now text.now) }
+{
+    mac_of::<D>(key, text).verify(tag)
+}
+
+// The HMAC state of a key and a whole text.
+fn mac_of<D: BlockDigest>(key: &[u8], text: &[u8]) -> Hmac<D>
+    ensures { StandsFor D.start D.step D.output key.now text.now result }
+{
+    let mut mac = Hmac::<D>::new(key);
+    mac.update(text);
+    mac
+}

@@ -1,0 +1,64 @@
+use Rattle.std.proofs.Common.{◌≡◌, ◌≢◌, ℕ, ◌+◌, length, take, drop, Result, Ok, Err, IfErr, sym, ap, ◌∙◌, arith}
+use Rattle.std.proofs.lemmas.List.{take-append-drop}
+use Rattle.ripemd_mac.specs.Hmac.{KeyedState}
+use Rattle.ripemd_mac.specs.Saved.{IsKeyedState, hmac_bytes}
+use Rattle.ripemd_mac.specs.Laws.{length-hmac_bytes, inner_part, outer_part, hmac_bytes_injective}
+use Rattle.ripemd_mac.proofs.hmac.Hmac+BlockHasher+F.load_slice.Goals as goal
+
+-- what holds anyway holds of an error
+of_error : {T E Q : Type 0} (r : Result T E) → Q → IfErr r (λ (e : E). Q)
+of_error (Ok x) q = tt
+of_error (Err e) q = q
+
+-- a state is saved as so many bytes
+pub returns-then-bytes-LEN-clause-err : goal.returns-then-bytes-LEN-clause-err
+returns-then-bytes-LEN-clause-err g c state valid same =
+    let r = g.met.F.ResumableFunction in
+    omega (
+      arith,
+      c.if-bytes-LEN.true,
+      ap length same,
+      length-hmac_bytes r.injective_output state valid,
+      r.saved_core_size,
+      r.saved_hasher_size,
+      r.saved_hmac_size,
+    )
+
+-- the first of them are those of its inner hash state
+pub returns-in_err-load_slice-clause-err : goal.returns-in_err-load_slice-clause-err
+returns-in_err-load_slice-clause-err g c =
+    let r = g.met.F.ResumableFunction in
+    let bytes = c.args.bytes.now in
+    let size = c.LEN-2.ensures ∙ r.saved_hasher_size ∙ ap (λ (n : ℕ). n + 64) r.saved_core_size in
+    let refused : (state : KeyedState) → IsKeyedState g.F.ListBlockFunction.are_words state
+    → hmac_bytes g.F.ListBlockFunction.output state ≢ bytes =
+    λ state valid same. c.in_err-load_slice.ensures.err state.inner valid.inner
+    (inner_part r.injective_output state valid bytes same ∙ ap (λ (n : ℕ). take n bytes) (sym size) ∙ sym c.split_at.ensures.front) in
+    of_error _ refused
+
+-- and the others those of its outer one
+pub returns-in_err-load_slice-2-clause-err : goal.returns-in_err-load_slice-2-clause-err
+returns-in_err-load_slice-2-clause-err g c =
+    let r = g.met.F.ResumableFunction in
+    let bytes = c.args.bytes.now in
+    let size = c.LEN-2.ensures ∙ r.saved_hasher_size ∙ ap (λ (n : ℕ). n + 64) r.saved_core_size in
+    let refused : (state : KeyedState) → IsKeyedState g.F.ListBlockFunction.are_words state
+    → hmac_bytes g.F.ListBlockFunction.output state ≢ bytes =
+    λ state valid same. c.in_err-load_slice-2.ensures.err state.outer valid.outer
+    (outer_part r.injective_output state valid bytes same ∙ ap (λ (n : ℕ). drop n bytes) (sym size) ∙ sym c.split_at.ensures.back) in
+    of_error _ refused
+
+pub returns-clause-text : goal.returns-clause-text
+returns-clause-text g c key text saved =
+    let tells = g.met.F.ResumableFunction.injective_output in
+    let inner = c.in_ok-load_slice in
+    let outer = c.in_ok-load_slice-2 in
+    let state : KeyedState = record { inner = inner.field-0; outer = outer.field-0 } in
+    let bytes : hmac_bytes g.F.ListBlockFunction.output state ≡ c.args.bytes.now =
+    rw (inner.ensures.ok, outer.ensures.ok, c.split_at.ensures.front, c.split_at.ensures.back)
+    (take-append-drop c.LEN-2.result c.args.bytes.now) in
+    record {
+      is = hmac_bytes_injective tells state saved.state (record { inner = inner.ensures.valid; outer = outer.ensures.valid })
+          saved.valid (bytes ∙ sym saved.saved)
+          ∙ saved.stands.is;
+    }

@@ -1,0 +1,17 @@
+use Rattle.std.proofs.Common.{ℕ, ◌<◌, arith, get_or, length, rules}
+use Rattle.std.specs.Int.Bits.{bit_xor}
+use Rattle.std.proofs.lemmas.List.{get_or_default}
+use Rattle.std.proofs.lemmas.List.Edits.{map_over_more}
+use Rattle.ripemd_mac.proofs.hmac.masked.Goals as goal
+
+pub loop-byte-preserved : goal.loop-byte-preserved
+loop-byte-preserved c =
+    let mask = c.args.mask in
+    let bytes = c.loop-byte.byte-items in
+    let i = c.loop-byte.byte-index in
+    let within : i < length bytes = omega (arith, c.loop-byte.invariant.size) in
+    record {
+      bytes = map_over_more (λ (b : ℕ). bit_xor b mask) c.args.block.now bytes i (get_or bytes i 0)
+          (omega arith) c.loop-byte.invariant.bytes (get_or_default bytes i 0 _ within);
+      size = search (rules, c.loop-byte.invariant.size);
+    }

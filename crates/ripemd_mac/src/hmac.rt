@@ -1,0 +1,303 @@
+//! The tag of a text under a key (RFC 2104).
+
+ghost use Rattle.std.specs.Prelude.{◌≡◌, ◌≢◌, ◌≤◌, ◌↔◌, ℕ, List, [], ◌++◌, length, IsTrue, IfOk, IfErr, ⊤};
+ghost use Rattle.ripemd.specs.Standard.Hashing.{hash};
+ghost use Rattle.ripemd_mac.specs.Hmac.{
+  KeyedState,
+  StandsFor,
+  fed_text,
+  filled,
+  hmac,
+  key_block,
+  keyed_state,
+  masked,
+  tag_of,
+};
+ghost use Rattle.ripemd_mac.specs.Saved.{IsKeyedState, IsSavedFor, hmac_bytes};
+
+use ripemd::block_api::ByteArray;
+use ripemd::digest::{BlockDigest, Digest, SerializableState};
+use ripemd::incremental::{Incremental, Resumable};
+use ripemd::state::DeserializeStateError;
+use ripemd::{BlockHasher, ListBlockFunction, ResumableFunction};
+use std::alloc::AllocError;
+use std::marker::Model;
+
+/// An HMAC state: the tag of a text under a key, by any hash function (RFC 2104). The text comes in
+/// pieces, and how it is cut makes no difference. No call allocates, and only `load` and `load_slice`
+/// can fail.
+#[derive(Drop)]
+pub struct Hmac<D: Digest> {
+    inner: D,
+    outer: D,
+}
+
+impl<D: Digest> Model for Hmac<D> {
+    ghost Value = { KeyedState };
+
+    ghost view = { λ h. record { inner = D.meaning h.inner; outer = D.meaning h.outer } };
+}
+
+impl<D: BlockDigest> Hmac<D> {
+    /// The state of a key and the empty text. The key has any length: a longer one than 64 bytes
+    /// counts as its digest, and a shorter one is filled with zeros to 64 bytes.
+    pub fn new(key: &[u8]) -> Hmac<D>
+        ensures state { result ≡ keyed_state D.start D.step D.output key.now }
+        ensures text { StandsFor D.start D.step D.output key.now [] result }
+    {
+        let keys = masked_keys::<D>(key);
+        Hmac {
+            inner: D::new_with_prefix(&keys.inner),
+            outer: D::new_with_prefix(&keys.outer),
+        }
+    }
+
+    /// Appends bytes to the text.
+    pub fn update(&mut self, bytes: &[u8])
+        ensures state { self.new ≡ fed_text D.step self.old bytes.now }
+        ensures text { (key text : List ℕ) → StandsFor D.start D.step D.output key text self.old
+            → StandsFor D.start D.step D.output key (text ++ bytes.now) self.new }
+    {
+        self.inner.update(bytes);
+    }
+
+    /// A second state of the same key and text, independent of this one. Copies of a state of the
+    /// empty text spare hashing the key again for each of many texts.
+    pub fn duplicate(&self) -> Hmac<D>
+        ensures { result ≡ self.now }
+    {
+        Hmac {
+            inner: self.inner.duplicate(),
+            outer: self.outer.duplicate(),
+        }
+    }
+
+    /// Gives the tag.
+    pub fn finalize(self) -> D::Output
+        ensures state { D.bytes_of result ≡ tag_of D.step D.output self }
+        ensures text { (key text : List ℕ) → StandsFor D.start D.step D.output key text self
+            → D.bytes_of result ≡ hmac (hash D.start D.step D.output) key text }
+        ensures size { length (D.bytes_of result) ≡ D.OUTPUT_SIZE }
+    {
+        let inner = self.inner.finalize();
+        self.outer.chain_update(D::output_bytes(&inner)).finalize()
+    }
+
+    /// Whether these bytes are the tag, all of them. It compares all bytes of a tag of the right
+    /// length, whatever they are, and refuses a tag of another length at once. That the time is
+    /// always the same is not proved.
+    pub fn verify(self, tag: &[u8]) -> bool
+        ensures state { IsTrue result ↔ (tag.now ≡ tag_of D.step D.output self) }
+        ensures text { (key text : List ℕ) → StandsFor D.start D.step D.output key text self
+            → IsTrue result ↔ (tag.now ≡ hmac (hash D.start D.step D.output) key text) }
+    {
+        let whole = self.finalize();
+        all_equal(D::output_bytes(&whole), tag)
+    }
+}
+
+impl<D: BlockDigest> Clone for Hmac<D> {
+    ghost is_clone = { λ x y. y ≡ x };
+
+    ghost is_infallible = { λ _. ⊤ };
+
+    fn clone(&self) -> Result<Hmac<D>, AllocError> {
+        Ok(self.duplicate())
+    }
+}
+
+impl<F: ListBlockFunction> Incremental for Hmac<BlockHasher<F>> {
+    type Hash = BlockHasher<F>;
+
+    ghost Origin = { List ℕ };
+
+    ghost new_state = { keyed_state (F.list F.start_of) F.step F.output };
+
+    ghost fed = { fed_text F.step };
+
+    ghost finish = { tag_of F.step F.output };
+
+    ghost whole = { hmac (hash (F.list F.start_of) F.step F.output) };
+
+    fn update(&mut self, bytes: &[u8]) {
+        Hmac::update(self, bytes);
+    }
+
+    fn finalize(self) -> F::Digest {
+        Hmac::finalize(self)
+    }
+
+    ghost use Rattle.ripemd_mac.specs.Laws as laws;
+
+    ghost fed_nothing = { laws.fed_nothing (F.list F.start_of) F.step F.output };
+
+    ghost fed_twice = { laws.fed_twice F.step };
+
+    ghost finish_fed = { laws.tag_of_text (F.list F.start_of) F.step F.output };
+}
+
+impl<F: ResumableFunction> Hmac<BlockHasher<F>> {
+    /// Saves the state, to be loaded later, here or elsewhere: the bytes that its inner hasher is saved
+    /// as, and then those of its outer one. They are as secret as the key: whoever has them can make
+    /// tags under it.
+    pub fn save(&self) -> F::SavedHmac
+        ensures bytes { F.SavedHmac.bytes result ≡ hmac_bytes F.output self.now }
+        ensures valid { IsKeyedState F.are_words self.now }
+        ensures text { (key text : List ℕ)
+            → StandsFor (F.list F.start_of) F.step F.output key text self.now
+            → IsSavedFor (F.list F.start_of) F.step F.output F.are_words key text
+            (F.SavedHmac.bytes result) }
+    {
+        let inner = self.inner.serialize();
+        let outer = self.outer.serialize();
+        F::SavedHmac::from_slices(inner.as_bytes(), outer.as_bytes()).unwrap()
+    }
+
+    /// Makes the state that was saved as these bytes.
+    ///
+    /// # Errors
+    ///
+    /// `DeserializeStateError` if no state is saved as these bytes.
+    pub fn load(saved: &F::SavedHmac) -> Result<Hmac<BlockHasher<F>>, DeserializeStateError>
+        ensures ok { IfOk result (λ mac. hmac_bytes F.output mac ≡ F.SavedHmac.bytes saved.now) }
+        ensures valid { IfOk result (IsKeyedState F.are_words) }
+        ensures text { IfOk result (λ mac. (key text : List ℕ)
+            → IsSavedFor (F.list F.start_of) F.step F.output F.are_words key text
+            (F.SavedHmac.bytes saved.now)
+            → StandsFor (F.list F.start_of) F.step F.output key text mac) }
+        ensures err { IfErr result (λ _. (state : KeyedState) → IsKeyedState F.are_words state
+            → hmac_bytes F.output state ≢ F.SavedHmac.bytes saved.now) }
+    {
+        Self::load_slice(saved.as_bytes())
+    }
+
+    /// Makes the state that was saved as these bytes, which are all the bytes of the array.
+    ///
+    /// # Errors
+    ///
+    /// `DeserializeStateError` if no state is saved as these bytes, so for any other number of them
+    /// than the array has.
+    pub fn load_slice(bytes: &[u8]) -> Result<Hmac<BlockHasher<F>>, DeserializeStateError>
+        ensures ok { IfOk result (λ mac. hmac_bytes F.output mac ≡ bytes.now) }
+        ensures valid { IfOk result (IsKeyedState F.are_words) }
+        ensures text { IfOk result (λ mac. (key text : List ℕ)
+            → IsSavedFor (F.list F.start_of) F.step F.output F.are_words key text bytes.now
+            → StandsFor (F.list F.start_of) F.step F.output key text mac) }
+        ensures err { IfErr result (λ _. (state : KeyedState) → IsKeyedState F.are_words state
+            → hmac_bytes F.output state ≢ bytes.now) }
+    {
+        if bytes.len() != <F::SavedHmac as ByteArray>::LEN {
+            return Err(DeserializeStateError);
+        }
+        let (inner, outer) = bytes.split_at(<F::SavedHasher as ByteArray>::LEN);
+        Ok(Hmac {
+            inner: BlockHasher::load_slice(inner)?,
+            outer: BlockHasher::load_slice(outer)?,
+        })
+    }
+}
+
+impl<F: ResumableFunction> Resumable for Hmac<BlockHasher<F>> {
+    type Saved = F::SavedHmac;
+
+    ghost is_valid = { IsKeyedState F.are_words };
+
+    ghost state_bytes = { hmac_bytes F.output };
+
+    ghost tail_of = { λ state. state.inner.tail };
+
+    fn save(&self) -> F::SavedHmac {
+        Hmac::save(self)
+    }
+
+    fn load(saved: &F::SavedHmac) -> Result<Hmac<BlockHasher<F>>, DeserializeStateError> {
+        Hmac::load(saved)
+    }
+
+    fn append_saved(saved: &mut [u8], bytes: &[u8]) -> bool {
+        if saved.len() != <F::SavedHmac as ByteArray>::LEN {
+            return false;
+        }
+        let (inner, outer) = saved.split_at_mut(<F::SavedHasher as ByteArray>::LEN);
+        match BlockHasher::<F>::load_slice(outer) {
+            Ok(_outer) => BlockHasher::<F>::append_saved(inner, bytes),
+            Err(_) => false,
+        }
+    }
+
+    ghost use Rattle.ripemd_mac.specs.Laws.{hmac_bytes_injective};
+
+    ghost injective = { hmac_bytes_injective F.injective_output };
+}
+
+/// Whether bytes are equal. Where both are as many, it compares all of them, whatever they are.
+pub fn all_equal(a: &[u8], b: &[u8]) -> bool
+    ensures { IsTrue result ↔ (a.now ≡ b.now) }
+{
+    if a.len() != b.len() {
+        return false;
+    }
+    let mut difference = 0;
+    for i in 0..a.len() {
+        difference |= a[i] ^ b[i];
+    }
+    difference == 0
+}
+
+/// A key as the two blocks that are hashed before anything else. They are as secret as the key.
+#[derive(Clone, Copy)]
+pub struct MaskedKeys {
+    /// The block before the text.
+    pub inner: [u8; 64],
+    /// The block before the digest of the first and the text.
+    pub outer: [u8; 64],
+}
+
+/// The key, filled with zeros to 64 bytes, or its digest if it is longer than that, with each byte
+/// masked by 0x36, and by 0x5c (RFC 2104). The hash of the one block and a text, hashed after the
+/// other block, is the tag of the text.
+pub fn masked_keys<D: BlockDigest>(key: &[u8]) -> MaskedKeys
+    ensures inner { result.inner
+        ≡ masked 0x36 (key_block (hash D.start D.step D.output) key.now) }
+    ensures outer { result.outer
+        ≡ masked 0x5c (key_block (hash D.start D.step D.output) key.now) }
+{
+    let block = key_block::<D>(key);
+    MaskedKeys {
+        inner: masked(&block, 0x36),
+        outer: masked(&block, 0x5c),
+    }
+}
+
+// The key as a block of the hash function.
+fn key_block<D: BlockDigest>(key: &[u8]) -> [u8; 64]
+    ensures { result ≡ key_block (hash D.start D.step D.output) key.now }
+{
+    if key.len() > 64 {
+        let digest = D::digest(key);
+        filled(D::output_bytes(&digest))
+    } else {
+        filled(key)
+    }
+}
+
+/// Bytes, at most 64, and zeros after them to a block.
+pub fn filled(bytes: &[u8]) -> [u8; 64]
+    requires { length bytes.now ≤ 64 }
+    ensures { result ≡ filled bytes.now }
+{
+    let mut block = [0; 64];
+    block[..bytes.len()].copy_from_slice(bytes);
+    block
+}
+
+// A block, each byte combined with a mask.
+fn masked(block: &[u8; 64], mask: u8) -> [u8; 64]
+    ensures { result ≡ masked mask block.now }
+{
+    let mut bytes = *block;
+    for byte in bytes.iter_mut() {
+        *byte ^= mask;
+    }
+    bytes
+}
