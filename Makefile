@@ -1,32 +1,11 @@
-# What people who install software are used to, over the toolchain's command `rt`.
+# The usual targets, over the toolchain's command `rt`.
+# README.md, "Build and test", says what each does.
 #
-#   make               builds the program, proved, as crates/ripemd_sum/out/ripemd_sum
-#   make check         every proof and every test from nothing: those of the crates, and with pytest those of
-#                      the built program, libraries and packages
-#   make mutants       every mutant, which the prover has to refuse, and each allocation failing in turn
-#   make gate          both
-#   make fuzz          arbitrary calls of the functions for C and for Python, each for SECONDS (600)
-#   make bench         prints the tables of docs/PERFORMANCE.md, as measured here: the functions for C, calls
-#                      from Python and from Rust and the program, beside other libraries and programs, where
-#                      they are there, and with them a C compiler; and the libraries in Rattle
-#   make library       builds the library for C, proved, with a C compiler: libnattizhu.a and the shared
-#                      object libnattizhu.so, in crates/ripemd_c/out, for the toolchain's default
-#                      processors and for x86-64-v3
-#   make wheel         builds the package for Python, with Python's headers, pip, setuptools and wheel:
-#                      dist/nattizhu-VERSION-cp311-abi3-linux_x86_64.whl, which `pip install` installs
-#                      where there is no compiler
-#   make dist          builds what people install without the toolchain, in dist: an archive of the
-#                      source, one of what is built, the wheel, Debian packages, and SHA256SUMS
-#   make install       builds all of it and copies to PREFIX (/usr/local; DESTDIR goes in front) the
-#                      program, the libraries, nattizhu.h, nattizhu.pc for pkg-config, the manual pages,
-#                      and the package nattizhu for the python3 on the path. LIBDIR is the folder of the
-#                      libraries below PREFIX (lib).
-#   make uninstall     removes these again
-#   make clean         removes what was built
-#
-#   CPU=x86-64-v3      builds the program, libnattizhu.a and the plain shared object for processors with
-#                      AVX2; without it, for the toolchain's default, x86-64-v2. Give it to `make install`
-#                      too.
+#   PREFIX=/usr/local  where `make install` copies to; DESTDIR goes in front
+#   LIBDIR=lib         the folder of the libraries below PREFIX
+#   CPU=x86-64-v3      builds the program, libnattizhu.a and the plain shared object for processors with AVX2,
+#                      not for the toolchain's default, x86-64-v2; give it to `make install` too
+#   SECONDS=600        how long `make fuzz` takes, for C and for Python each
 
 PREFIX = /usr/local
 LIBDIR = lib

@@ -5,11 +5,11 @@
  * tested, replaces null pointers and hands lists on in groups.
  *
  * Each call that returns a bool returns true where it did what it says. It returns false and writes
- * nothing where it can't: if there is no such variant, if what it writes to does not have the size
- * that it has to have, if the bytes of a state are none, or as is said there.
+ * nothing where it can't: if there is no such variant, if what it writes to does not have its size,
+ * if bytes given as a state are not one, or as the function says.
  *
  * Arguments come in this order: the variant; the state; what is read; what is written. The length
- * of a piece of memory, or the count of a list, follows its pointer. Lengths and sizes are bytes.
+ * of a piece of memory, or the count of a list, follows its pointer. Lengths and sizes are in bytes.
  *
  * Each caller has to ensure this, which nothing checks:
  *
@@ -19,7 +19,7 @@
  * - What a call writes overlaps nothing else that it is given; what it only reads may overlap.
  * - While a call runs, no other thread writes what it reads, or reads or writes what it writes.
  *
- * What was in the memory of a digest, a tag or a key, or of a state before init, has no effect.
+ * Outputs, and a state before init, need not be initialized.
  *
  * No call allocates memory, keeps a pointer, or uses global data that changes: all calls may
  * run at once in any number of threads. Nothing is wiped from memory, neither keys nor texts. */
@@ -88,10 +88,9 @@ NATTIZHU_CHECKED bool nattizhu_digest(nattizhu_variant variant, const uint8_t *m
 
 /* ---- Digests of many messages, eight at once */
 
-/* Writes the digests of records, one after another. The records lie one after another too, each of
- * `size` bytes. `digests_length` has to be so many digests, and `length` as many records of this
- * size, as a product without overflow. Records of 0 bytes are empty messages, and `length` then is
- * 0. */
+/* Writes the digests of records of `size` bytes, one after another. For n records, which lie one
+ * after another too, `length` has to be n * size, without overflow, and `digests_length` n digests.
+ * Records of 0 bytes are empty messages, and `length` then is 0. */
 NATTIZHU_CHECKED bool nattizhu_each(nattizhu_variant variant, const uint8_t *records, size_t length,
                                     size_t size, uint8_t *digests, size_t digests_length);
 
@@ -156,7 +155,7 @@ NATTIZHU_CHECKED bool nattizhu_hmac_list(nattizhu_variant variant, const uint8_t
                                          size_t count, uint8_t *tags, size_t tags_length);
 
 /* An HMAC state is as secret as the key: whoever has it can make tags. For many tags under one key,
- * copy the state after init. It is bytes as a hash state is. Its first byte is 128 and the size of
+ * copy the state after init. It is bytes as a hash state is. Its first byte is 128 plus the size of
  * its tags, and the next `2 * (size + 72)` are what the inner hasher and then the outer one are
  * saved as. */
 typedef struct nattizhu_hmac_state {
