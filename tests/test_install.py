@@ -4,7 +4,7 @@ import shlex
 import shutil
 
 import pytest
-from conftest import ABC, need, run
+from conftest import ABC, need, programs, run
 
 SOURCE = r"""
 #include <nattizhu.h>
@@ -50,6 +50,16 @@ def test_space_in_the_prefix(library, source, tmp_path):
 def test_static_library(prefix, source):
     run("cc", "-o", source.with_suffix(""), "-I", prefix / "include", source, prefix / "lib/libnattizhu.a")
     assert run(source.with_suffix("")).stdout == ABC
+
+
+def test_static_library_with_musl(prefix, source):
+    need("musl-gcc", "musl-tools")
+    for text, printed in programs("docs/C.md", "c"):
+        if "argv" not in text:
+            source.write_text(text)
+            run("musl-gcc", "-static", "-o", source.with_suffix(""), "-I", prefix / "include", source,
+                prefix / "lib/libnattizhu.a")
+            assert run(source.with_suffix("")).stdout == printed
 
 
 def test_exported_names(prefix):

@@ -1,12 +1,14 @@
-use ripemd::block_api::Ripemd160Function;
+use ripemd::block_api::{Ripemd160Function, SerializableState};
 use ripemd::replay::Command;
+use ripemd::state::DeserializeStateError;
 use ripemd::{Ripemd128, Ripemd160};
 use ripemd_uses::batch;
-use ripemd_uses::block::digest_of_short;
+use ripemd_uses::block::{digest_of_short, loaded_core};
 use ripemd_uses::calling::{
-    collision_of_160, digest_of, digest_of_reader, digest_of_three, digest_put_aside, digests_of,
-    has_digest, has_digest_by, places_of_collision, prefixed_digest, prefixed_digest_160,
-    toy_digest, toy_put_aside, toy_replay,
+    collision_of_160, digest_of, digest_of_reader, digest_of_saved, digest_of_three,
+    digest_put_aside, digests_of, has_digest, has_digest_by, places_of_collision, prefixed_digest,
+    prefixed_digest_160, saved_has_digest, start_saved, toy_digest, toy_put_aside, toy_replay,
+    update_saved,
 };
 use ripemd_uses::commands::digests_of_ends;
 use ripemd_uses::readme::digest_of_two;
@@ -51,6 +53,27 @@ fn comparisons(rt: HostRuntime) {
     assert!(rt; has_digest_by::<Ripemd128>(b"abc", &ABC_128));
     assert!(rt; !has_digest_by::<Ripemd128>(b"abc", &ABC_128[..15]));
     assert!(rt; !has_digest_by::<Ripemd128>(b"abc", &ABC));
+}
+
+// What is saved after some pieces.
+fn saved_after_pieces(pieces: &[&[u8]]) -> Result<[u8; 92], DeserializeStateError> {
+    let mut saved = start_saved();
+    for piece in pieces {
+        saved = update_saved(&saved, piece)?;
+    }
+    Ok(saved)
+}
+
+#[test]
+fn saved_states(rt: HostRuntime) {
+    let saved = saved_after_pieces(&[b"a", b"", b"bc"]).unwrap_or([0xff; 92]);
+    assert!(rt; digest_of_saved(&saved) == Ok(ABC));
+    assert!(rt; saved_has_digest(&saved, &ABC) == Ok(true));
+    assert!(rt; saved_has_digest(&start_saved(), &ABC) == Ok(false));
+    assert!(rt; update_saved(&[0xff; 92], b"a").is_err());
+    assert!(rt; digest_of_saved(&[0xff; 92]).is_err());
+    assert!(rt; saved_has_digest(&[0xff; 92], &ABC).is_err());
+    assert!(rt; loaded_core(&[7; 28]).serialize() == [7; 28]);
 }
 
 // A reader that gives "abc" a byte at a time, and fails after as many bytes as it is told.
@@ -183,6 +206,22 @@ fn keys(rt: HostRuntime) {
     assert!(rt; derived_key(b"password", b"salt", 0).is_err());
 }
 
+// That of "secret" and "pepper".
+const OTHER_KEY: [u8; 32] = [
+    0xd9, 0x2a, 0xc5, 0x85, 0x75, 0xf9, 0x40, 0xa3, 0x9c, 0x42, 0x95, 0x75, 0xde, 0x31, 0x80, 0x04,
+    0x51, 0x94, 0xd5, 0x48, 0x8e, 0xd8, 0xde, 0x5c, 0xcd, 0x0d, 0xdf, 0x67, 0xfb, 0x81, 0xe5, 0x48,
+];
+
+#[test]
+fn keys_of_many(rt: HostRuntime) {
+    let passwords: [&[u8]; 2] = [b"password", b"secret"];
+    let salts: [&[u8]; 2] = [b"salt", b"pepper"];
+    let mut keys = [0; 64];
+    assert!(rt; batch::keys_of(&passwords, &salts, 2, &mut keys).is_ok());
+    assert!(rt; keys.as_chunks::<32>().0 == [KEY, OTHER_KEY].as_slice());
+    assert!(rt; batch::keys_of(&passwords, &salts, 0, &mut keys).is_err());
+}
+
 // Records, of which one has not the digest that is wanted.
 #[test]
 fn records(rt: HostRuntime) {
@@ -190,4 +229,7 @@ fn records(rt: HostRuntime) {
     assert!(rt; batch::have_digests(&[b"abc", b"abc"], &[ABC, ABC], &mut found));
     assert!(rt; !batch::have_digests(&[b"abc", b"abd"], &[ABC, ABC], &mut found));
     assert!(rt; !batch::have_digests(&[b"abc", b"abc"], &[ABC], &mut found));
+    let mut tags = [[0; 20]; 2];
+    batch::tags_of(&[0x0b; 20], &[b"Hi There", b"Hi There"], &mut tags);
+    assert!(rt; tags == [TAG, TAG]);
 }
