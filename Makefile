@@ -4,17 +4,22 @@
 #   PREFIX=/usr/local  where `make install` copies to; DESTDIR goes in front
 #   LIBDIR=lib         the folder of the libraries below PREFIX
 #   CPU=x86-64-v3      builds the program, libnattizhu.a and the plain shared object for processors with AVX2,
-#                      not for the toolchain's default, x86-64-v2; give it to `make install` too
+#                      not for every x86-64; give it to `make install` too
+#   TARGET=aarch64-unknown-linux-gnu
+#                      `make library`, `make install-library` and `make wheel` are for ARM64, by the compiler of
+#                      Debian's gcc-aarch64-linux-gnu
 #   SECONDS=600        how long `make fuzz` takes, for C and for Python each
 
 PREFIX = /usr/local
 LIBDIR = lib
 CPU =
+TARGET =
 SECONDS = 600
 
-PROGRAM = crates/ripemd_sum/out/ripemd_sum
+PROCESSOR = $(or $(TARGET),$(CPU),x86-64)
+PROGRAM = crates/ripemd_sum/out/$(PROCESSOR)/ripemd_sum
 
-BUILT = crates/ripemd_c/out
+BUILT = crates/ripemd_c/out$(if $(TARGET),/$(TARGET))
 HWCAPS = glibc-hwcaps/x86-64-v3
 AT = $(DESTDIR)$(PREFIX)
 LIBRARIES = $(AT)/$(LIBDIR)
@@ -31,11 +36,11 @@ SITE = $(shell python3 -c 'import sys; sys.version_info < (3, 11) or \
 .PHONY: all library wheel dist toolchain prefix check mutants gate fuzz bench install install-program install-library \
   install-python uninstall clean
 
-# `rt run` proves, builds and then runs the program, here on no input. The libraries are proved first,
-# where they have changed.
+# The libraries are proved first, where they have changed.
 all: toolchain
+	@[ -z '$(TARGET)' ] || { echo 'make: the program and make install are for x86-64: leave TARGET out' >&2; exit 1; }
 	@[ -e $(PROGRAM) ] || echo 'make: proving and building the program: some minutes the first time' >&2
-	@cd crates/ripemd_sum && ../../build/tell rt run $(if $(CPU),--cpu $(CPU)) </dev/null >/dev/null
+	@build/tell build/crate ripemd_sum $(PROCESSOR) >/dev/null
 
 toolchain:
 	@rt version >/dev/null 2>&1 || { echo 'make: the command rt of the Rattle toolchain does not run;' \
@@ -58,15 +63,18 @@ bench: toolchain
 
 library: toolchain
 	@echo 'make: proving and building the library' >&2
-	@mkdir -p $(BUILT) && build/library $(or $(CPU),x86-64-v2) x86-64-v3 >$(BUILT)/log 2>&1 || { cat $(BUILT)/log; exit 1; }
-	@build/shared $(BUILT) $(CPU)
+	@mkdir -p $(BUILT) && build/crate ripemd_c $(PROCESSOR) $(if $(TARGET),,x86-64-v3) >$(BUILT)/log 2>&1 || \
+	  { cat $(BUILT)/log; exit 1; }
+	@build/shared $(BUILT) $(PROCESSOR)
 
 wheel: library
-	@build/wheel dist
+	@build/wheel dist $(BUILT) $(TARGET)
 
 dist:
-	@[ -z '$(CPU)' ] || { echo 'make: packages are for each processor: leave CPU out' >&2; exit 1; }
+	@[ -z '$(CPU)$(TARGET)' ] || { echo 'make: packages are for each processor: leave CPU and TARGET out' >&2; exit 1; }
 	@$(MAKE) --no-print-directory all library
+	@! command -v aarch64-linux-gnu-gcc >/dev/null || \
+	  $(MAKE) --no-print-directory library TARGET=aarch64-unknown-linux-gnu
 	@build/dist dist
 
 # nattizhu.pc has the prefix in it.
@@ -94,9 +102,9 @@ install-program: prefix
 install-library: prefix
 	@[ -e $(BUILT)/libnattizhu.so.0 ] || { echo 'make: there is no libnattizhu.so: it needs a C compiler' \
 	  '(cc) and `make library`' >&2; exit 1; }
-	install -D -m 644 -t "$(LIBRARIES)" $(BUILT)/libnattizhu.a $(BUILT)/libnattizhu_v3.a
+	install -D -m 644 -t "$(LIBRARIES)" $(wildcard $(BUILT)/libnattizhu*.a)
 	install -D -m 755 -t "$(LIBRARIES)" $(BUILT)/libnattizhu.so.0
-	install -D -m 755 -t "$(LIBRARIES)/$(HWCAPS)" $(BUILT)/$(HWCAPS)/libnattizhu.so.0
+	$(if $(TARGET),,install -D -m 755 -t "$(LIBRARIES)/$(HWCAPS)" $(BUILT)/$(HWCAPS)/libnattizhu.so.0)
 	ln -sf libnattizhu.so.0 "$(LIBRARIES)/libnattizhu.so"
 	install -D -m 644 -t "$(AT)/include" crates/ripemd_c/nattizhu.h
 	install -d "$(LIBRARIES)/pkgconfig" "$(PAGES)/man3"

@@ -1,6 +1,6 @@
 #!/usr/bin/env python3
-"""Prints the tables of docs/PERFORMANCE.md, as measured on this machine, for the default processors and, where
-this one has AVX2, for x86-64-v3. What the machine lacks is left out: other programs and libraries, a C compiler,
+"""Prints the tables of docs/PERFORMANCE.md, as measured on this machine, for the default build and, where this one
+has AVX2, for x86-64-v3. What the machine lacks is left out: other programs and libraries, a C compiler,
 pip, cargo.
 
     bench/bench.py
@@ -18,7 +18,7 @@ import tempfile
 ROOT = pathlib.Path(__file__).resolve().parent.parent
 MIB = 256
 RUNS = 7
-DEFAULT = "x86-64-v2"
+DEFAULT = "x86-64"
 
 # What hashes its standard input: ours as built for a level, for each variant, and others by RIPEMD-160 alone.
 OURS = {"the library": "ripemd_bench", "ripemd_sum": "ripemd_sum"}
@@ -42,17 +42,11 @@ def machine():
     print(*(re.search(rf"^{what}\s*: .*$", text, re.MULTILINE)[0] for what in ("model name", "flags")), sep="\n")
 
 
-def build(levels, folder):
-    """The program and ripemd_bench as built for each level, the default last, so that it stays where it is
-    built; by name and level."""
-    programs = {}
-    for level in levels:
-        for name in OURS.values():
-            crate = ROOT / "crates" / name
-            subprocess.run([ROOT / "build/tell", "rt", "run", "--cpu", level], cwd=crate, stdin=subprocess.DEVNULL,
-                           stdout=subprocess.DEVNULL, check=True)
-            programs[name, level] = shutil.copy(crate / "out" / name, folder / f"{name}-{level}")
-    return programs
+def build(levels):
+    """The program and ripemd_bench as built for each level, by name and level."""
+    for name in OURS.values():
+        subprocess.run([ROOT / "build/tell", ROOT / "build/crate", name, *levels], stdout=subprocess.DEVNULL, check=True)
+    return {(name, level): ROOT / "crates" / name / "out" / level / name for name in OURS.values() for level in levels}
 
 
 def processor_time(command, message):
@@ -156,9 +150,9 @@ def main():
     levels = ["x86-64-v3", DEFAULT] if "x86-64-v3 (supported" in loader else [DEFAULT]
     with tempfile.TemporaryDirectory() as name:
         folder = pathlib.Path(name)
-        programs = build(levels, folder)
+        programs = build(levels)
         if shutil.which("cc"):
-            for command in ([ROOT / "build/library"], [ROOT / "build/shared", folder]):
+            for command in ([ROOT / "build/crate", "ripemd_c", DEFAULT, "x86-64-v3"], [ROOT / "build/shared", folder, DEFAULT]):
                 subprocess.run(command, stdout=sys.stderr, check=True)
         machine()
         if shutil.which("cc"):

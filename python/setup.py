@@ -3,12 +3,15 @@ or over those in the folder that LIBNATTIZHU names."""
 
 import os
 import re
+import sysconfig
 
 from setuptools import Extension, setup
 
 CRATE = "../crates/ripemd_c"
 FOLDER = os.environ.get("LIBNATTIZHU", f"{CRATE}/out")
-LIBRARIES = [f"{FOLDER}/libnattizhu.a", f"{FOLDER}/libnattizhu_v3.a"]
+LIBRARIES = [f"{FOLDER}/libnattizhu.a"]
+if sysconfig.get_platform().endswith("x86_64"):
+    LIBRARIES.append(f"{FOLDER}/libnattizhu_v3.a")
 with open(f"{CRATE}/nattizhu.h", encoding="utf-8") as header:
     VERSION = re.search('NATTIZHU_VERSION "(.*)"', header.read())[1]
 

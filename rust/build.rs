@@ -1,11 +1,9 @@
-//! Finds the library in both its builds, libnattizhu.a and libnattizhu_v3.a: in the folder that
+//! Finds the library, libnattizhu.a and for x86-64 also libnattizhu_v3.a: in the folder that
 //! `NATTIZHU_LIB_DIR` names, or where pkg-config says, or where `make library` leaves them in this repository.
 
 use std::env;
 use std::path::{Path, PathBuf};
 use std::process::{exit, Command};
-
-const LIBRARIES: [&str; 2] = ["nattizhu", "nattizhu_v3"];
 
 fn file(folder: &Path, library: &str) -> PathBuf {
     folder.join(format!("lib{library}.a"))
@@ -26,25 +24,39 @@ fn main() {
         println!("cargo:rerun-if-env-changed={name}");
     }
     let here = env::var_os("CARGO_MANIFEST_DIR").unwrap_or_default();
-    let built = Path::new(&here).join("../crates/ripemd_c/out");
+    let mut built = Path::new(&here).join("../crates/ripemd_c/out");
+    let mut libraries = vec!["nattizhu"];
+    let processor = env::var("CARGO_CFG_TARGET_ARCH").unwrap_or_default();
+    let host = env::var("HOST").unwrap_or_default();
+    if processor == "x86_64" {
+        libraries.push("nattizhu_v3");
+    } else {
+        built.push(env::var_os("TARGET").unwrap_or_default());
+    }
+    // For another processor pkg-config would name a library of this machine.
+    let installed = if host.starts_with(&processor) {
+        by_pkg_config()
+    } else {
+        None
+    };
     let folders = match env::var_os("NATTIZHU_LIB_DIR") {
         Some(named) => vec![named.into()],
-        None => by_pkg_config().into_iter().chain([built]).collect(),
+        None => installed.into_iter().chain([built]).collect(),
     };
-    let has_both = |folder: &&PathBuf| LIBRARIES.iter().all(|name| file(folder, name).exists());
-    match folders.iter().find(has_both) {
+    let has_all = |folder: &&PathBuf| libraries.iter().all(|name| file(folder, name).exists());
+    match folders.iter().find(has_all) {
         Some(folder) => {
             println!("cargo:rustc-link-search=native={}", folder.display());
-            for name in LIBRARIES {
+            for name in libraries {
                 println!("cargo:rerun-if-changed={}", file(folder, name).display());
                 println!("cargo:rustc-link-lib=static={name}");
             }
         }
         None => {
-            eprintln!("There is no libnattizhu.a with libnattizhu_v3.a in {folders:?}.");
+            eprintln!("There is no library of {libraries:?} in {folders:?}.");
             eprintln!(
-                "In the repository of Nattizhu run `make library`, or `make install PREFIX=..` and add \
-                 PREFIX/lib/pkgconfig to PKG_CONFIG_PATH; or set NATTIZHU_LIB_DIR to the folder that \
+                "In the repository of Nattizhu run `make library` (for ARM64 with TARGET=), or \
+                 `make install PREFIX=..` and add PREFIX/lib/pkgconfig to PKG_CONFIG_PATH; or set NATTIZHU_LIB_DIR to the folder that \
                  has them."
             );
             exit(1);

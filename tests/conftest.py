@@ -12,8 +12,12 @@ import pytest
 ROOT = pathlib.Path(__file__).resolve().parent.parent
 DATA = ROOT / "tests/data"
 BUILT = ROOT / "crates/ripemd_c/out"
-PROGRAM = ROOT / "crates/ripemd_sum/out/ripemd_sum"
+PROGRAM = ROOT / "crates/ripemd_sum/out/x86-64/ripemd_sum"
 SECRETS = ROOT / "tests/secrets"
+
+# The target for ARM64, and Debian's C compiler for it.
+ARM64 = "aarch64-unknown-linux-gnu"
+ARM64_COMPILER = "aarch64-linux-gnu-gcc"
 
 # The status of a program of which memcheck reports something.
 NOTICED = 3
@@ -87,17 +91,41 @@ def once(tmp_path_factory):
     return do
 
 
+def compiles(compiler):
+    """Whether there is this C compiler, with headers of a C library."""
+    return shutil.which(compiler) is not None and not run(
+        compiler, "-E", "-", input="#include <stdlib.h>\n", status=None).returncode
+
+
+def need_arm64():
+    """The tests that ask for it are left out where no C compiler is for ARM64."""
+    if not compiles(ARM64_COMPILER):
+        pytest.skip(f"there is no {ARM64_COMPILER} (Debian's gcc-aarch64-linux-gnu, libc6-dev-arm64-cross)")
+
+
 @pytest.fixture(scope="session")
 def library(once):
-    """The folder of the libraries for C, which build/library and build/shared make."""
+    """The folder of the libraries for C, which build/crate and build/shared make. Where there is a compiler for
+    ARM64, those for it are in a folder below."""
     need("cc", "gcc")
+    targets = [ARM64] if compiles(ARM64_COMPILER) else []
 
     def build(_):
-        run("build/library")
-        run("build/shared", BUILT)
+        run("build/crate", "ripemd_c", "x86-64", "x86-64-v3", *targets)
+        run("build/shared", BUILT, "x86-64")
+        for target in targets:
+            run("build/shared", BUILT / target, target)
 
     once("library", build)
     return BUILT
+
+
+@pytest.fixture(scope="session")
+def arm64(library):
+    """The folder of the libraries for ARM64, whose programs qemu-aarch64 runs."""
+    need_arm64()
+    need("qemu-aarch64", "qemu-user")
+    return library / ARM64
 
 
 def memcheck(*command, **options):
@@ -124,17 +152,16 @@ def marks(once):
 
 
 @pytest.fixture(scope="session")
-def program():
-    """The program ripemd_sum, which `rt ci` and `make` build."""
-    if not PROGRAM.exists():
-        pytest.skip("ripemd_sum is not built (make)")
+def program(once):
+    """The program ripemd_sum, which build/crate makes as `make` does."""
+    once("program", lambda _: run("build/crate", "ripemd_sum", "x86-64"))
     return PROGRAM
 
 
 @pytest.fixture(scope="session")
-def prefix(library, once):
+def prefix(library, program, once):
     """A folder into which `make install` copied what is built."""
-    parts = ["install-library", "install-python", *(["install-program"] if PROGRAM.exists() else [])]
+    parts = ["install-library", "install-python", "install-program"]
     return once("prefix", lambda folder: run("make", *parts, f"PREFIX={folder}", "DESTDIR="))
 
 

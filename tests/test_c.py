@@ -168,13 +168,13 @@ def test_warning_of_wrong_calls(compiler, standard, calls):
 @pytest.fixture(name="build", ids="-".join, params=[
     *((*compiler, "libnattizhu.a") for compiler in COMPILERS), ("cc", "c99", "libnattizhu.so.0")])
 def fixture_build(request, library, tmp_path):
-    """Compiles a program with the static library or the shared one, and returns its file."""
+    """Compiles a program with the static library or the shared one, and returns the command that runs it."""
     compiler, standard, name = request.param
 
     def build(source, **options):
         compile_by(compiler, standard, *STRICT, source, "-x", "none", library / name, f"-Wl,-rpath,{library}",
                    "-o", tmp_path / "program", **options)
-        return tmp_path / "program"
+        return [tmp_path / "program"]
 
     return build
 
@@ -184,7 +184,7 @@ def test_page(build, tmp_path, text, printed):
     """A program with an argument goes on from the state that its first run leaves in that file."""
     program = build("-", input=text)
     runs = [("a", tmp_path / "kept"), ("bc", tmp_path / "kept")] if "argv" in text else [("",)]
-    assert "".join(run(program, *words, input=piece).stdout for piece, *words in runs) == printed
+    assert "".join(run(*program, *words, input=piece).stdout for piece, *words in runs) == printed
 
 
 def assert_tried(least, *command, by=run):
@@ -195,7 +195,7 @@ def assert_tried(least, *command, by=run):
 
 
 def test_calls(build):
-    assert_tried(933000, build(CALLS), DATA)
+    assert_tried(933000, *build(CALLS), DATA)
 
 
 @pytest.mark.parametrize("compiler, package", [("cc", "libgcc-12-dev"), ("clang", "libclang-rt-14-dev")],

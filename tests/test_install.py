@@ -62,6 +62,29 @@ def test_static_library_with_musl(prefix, source):
             assert run(source.with_suffix("")).stdout == printed
 
 
+# Processors of the plain level, of x86-64-v2 and of x86-64-v3, as qemu-user names them, and the build for each.
+PROCESSORS = {"qemu64": "", "Nehalem": "", "Haswell": "glibc-hwcaps/x86-64-v3/"}
+
+
+@pytest.mark.parametrize("processor", PROCESSORS)
+def test_shared_library_by_processor(prefix, source, processor):
+    need("qemu-x86_64", "qemu-user")
+    emulator = ["qemu-x86_64", "-cpu", processor, "-E", f"LD_LIBRARY_PATH={prefix}/lib", "-E", "LD_DEBUG=libs"]
+    for text, printed in programs("docs/C.md", "c"):
+        if "argv" not in text:
+            source.write_text(text)
+            run("cc", "-o", source.with_suffix(""), "-I", prefix / "include", source, "-L", prefix / "lib", "-lnattizhu")
+            ended = run(*emulator, source.with_suffix(""))
+            assert ended.stdout == printed
+            assert f"calling init: {prefix}/lib/{PROCESSORS[processor]}libnattizhu.so.0\n" in ended.stderr
+
+
+@pytest.mark.parametrize("processor", PROCESSORS)
+def test_program_by_processor(prefix, processor):
+    need("qemu-x86_64", "qemu-user")
+    assert run("qemu-x86_64", "-cpu", processor, prefix / "bin/ripemd_sum", input="abc").stdout == ABC + "\n"
+
+
 def test_exported_names(prefix):
     names = [line.split()[-1] for line in run("nm", "-D", "--defined-only", prefix / "lib/libnattizhu.so").stdout.splitlines()]
     assert names and all(name.startswith("nattizhu_") for name in names)

@@ -7,13 +7,16 @@ import re
 import shutil
 
 import pytest
-from conftest import ABC, ROOT, need, programs, run, version
+from conftest import ABC, ROOT, need, need_arm64, programs, run, version
 
 ARCHIVE = f"nattizhu-{version()}-linux-x86_64"
-# For each file, the version of the C library that it needs by docs/PACKAGES.md.
-OLDEST = dict(re.findall(r"^\| `([^`]+)`[^|]* \| ([0-9.]+) \|$", (ROOT / "docs/PACKAGES.md").read_text("utf-8"), re.M))
+PAGES = {"x86_64": ["nattizhu.3", "ripemd_sum.1"], "aarch64": ["nattizhu.3"]}
+# For each machine and file, the version of the C library that it needs by docs/PACKAGES.md.
+OLDEST = [(machine, name, needed) for name, *versions in re.findall(
+    r"^\| `([^`]+)`[^|]* \| ([0-9.]+) \| ([0-9.]*) ?\|$", (ROOT / "docs/PACKAGES.md").read_text("utf-8"), re.MULTILINE)
+          for machine, needed in zip(PAGES, versions) if needed]
 # For each build of the shared library, what the loader is told of the processor so that it takes this one.
-BUILDS = {"x86-64-v2": "-AVX2", "x86-64-v3": ""}
+BUILDS = {"x86-64": "-AVX2", "x86-64-v3": ""}
 
 
 def bootstrap(folder):
@@ -47,7 +50,7 @@ def fixture_dist(library, program, once):
 def fixture_again(dist, once):
     """What build/dist makes of the same tree and of what is built, copied to another folder."""
     copy = """mkdir -p "$0" && { git ls-files -z --cached --others --exclude-standard &&
-      find .git crates/ripemd_c/out/{lib,glibc}* crates/ripemd_sum/out/ripemd_sum -type f -print0; } |
+      find .git crates/ripemd_c/out/{lib,glibc,aarch64}* crates/ripemd_sum/out/x86-64/ripemd_sum -type f -print0; } |
       xargs -0 cp --parents -t "$0"; "$0/build/dist" "$0/dist" """
     return once("again", lambda folder: run("bash", "-c", copy, folder)) / "dist"
 
@@ -57,11 +60,18 @@ def fixture_debs(dist):
     return list(dist.glob("*.deb")) or pytest.skip("there are no packages (Debian's dpkg-dev, debhelper, dh-python)")
 
 
+@pytest.fixture(name="machine", scope="module", params=PAGES)
+def fixture_machine(request):
+    if request.param == "aarch64":
+        need_arm64()
+    return request.param
+
+
 @pytest.fixture(name="files", scope="module")
-def fixture_files(dist, tmp_path_factory):
+def fixture_files(machine, dist, tmp_path_factory):
     """What is in the archive and in the wheel."""
-    folder = tmp_path_factory.mktemp("unpacked")
-    for archive in [dist / f"{ARCHIVE}.tar.gz", *dist.glob("*.whl")]:
+    folder = tmp_path_factory.mktemp(machine)
+    for archive in [dist / f"nattizhu-{version()}-linux-{machine}.tar.gz", *dist.glob(f"*_{machine}.whl")]:
         shutil.unpack_archive(archive, folder, "zip" if archive.suffix == ".whl" else "gztar")
     return [path for path in folder.rglob("*") if path.is_file() and not path.is_symlink()]
 
@@ -80,25 +90,36 @@ def test_lintian(debs):
     run("lintian", "--fail-on", "error", "--allow-root", *debs)
 
 
-def test_names_of_programs_libraries_and_pages(files):
+def test_libraries_of_two_architectures_together(debs, tmp_path):
+    """What their packages have under the same name is the same, so that dpkg installs both."""
+    for deb in debs:
+        if deb.name.startswith("libnattizhu"):
+            run("dpkg-deb", "-x", deb, tmp_path / deb.stem.rpartition("_")[2])
+    if not (tmp_path / "arm64").exists():
+        pytest.skip("there are no packages for arm64 (Debian's gcc-aarch64-linux-gnu, libpython3-dev:arm64)")
+    printed = run("diff", "-rq", "--no-dereference", "amd64", "arm64", cwd=tmp_path, status=1).stdout
+    assert [line for line in printed.splitlines() if not line.startswith("Only in")] == []
+
+
+def test_names_of_programs_libraries_and_pages(files, machine):
     names = {path.name for path in files if ".so" in path.name or path.parent.name == "bin"}
-    assert names | {"_nattizhu.abi3.so"} == set(OLDEST)
-    assert sorted(path.name for path in files if path.parts[-3] == "man") == ["nattizhu.3", "ripemd_sum.1"]
+    assert names | {"_nattizhu.abi3.so"} == {name for of, name, _ in OLDEST if of == machine}
+    assert sorted(path.name for path in files if path.parts[-3] == "man") == PAGES[machine]
 
 
-@pytest.mark.parametrize("name", OLDEST)
-def test_oldest_c_library(files, name):
+@pytest.mark.parametrize("machine, name, needed", OLDEST, indirect=["machine"], scope="module")
+def test_oldest_c_library(files, name, needed):
     need("objdump", "binutils")
     named = [path for path in files if path.name == name] or pytest.skip(f"there is no {name}")
     versions = re.findall(r"\bGLIBC_([0-9.]+)", run("objdump", "-T", *named).stdout)
-    assert all([*map(int, text.split("."))] <= [*map(int, OLDEST[name].split("."))] for text in versions)
+    assert all([*map(int, text.split("."))] <= [*map(int, needed.split("."))] for text in versions)
 
 
-@pytest.mark.parametrize("name", ["nattizhu.3", "ripemd_sum.1"])
-def test_manual_page(files, name):
+def test_manual_pages(files):
     need("man", "man-db")
-    shown = run("man", "--warnings", "-l", *(path for path in files if path.name == name))
-    assert shown.stderr == "" and f"nattizhu {version()}" in shown.stdout
+    for page in (path for path in files if path.parts[-3] == "man"):
+        shown = run("man", "--warnings", "-l", page)
+        assert shown.stderr == "" and f"nattizhu {version()}" in shown.stdout
 
 
 @pytest.fixture(name="shell", scope="module")
@@ -122,7 +143,7 @@ def fixture_shell(debian, dist, tmp_path_factory):
 def newest():
     """The build that the loader takes on this processor."""
     said = run("/lib64/ld-linux-x86-64.so.2", "--help", status=None).stdout
-    return "x86-64-v3" if "x86-64-v3 (supported" in said else "x86-64-v2"
+    return "x86-64-v3" if "x86-64-v3 (supported" in said else "x86-64"
 
 
 def uses_shared_library(shell, build, libraries, flags, environment=""):
@@ -130,7 +151,7 @@ def uses_shared_library(shell, build, libraries, flags, environment=""):
     environment += f" GLIBC_TUNABLES=glibc.cpu.hwcaps={BUILDS[build]}"
     assert shell(f"eval cc -o first first.c {flags} && {environment} ./first") == ABC + "\n"
     taken = re.findall(r"calling init: (.*/libnattizhu\.so\.0.*)", shell(f"{environment} LD_DEBUG=libs ./first 2>&1"))
-    place = {"x86-64-v2": libraries, "x86-64-v3": f"{libraries}/glibc-hwcaps/x86-64-v3"}[build]
+    place = {"x86-64": libraries, "x86-64-v3": f"{libraries}/glibc-hwcaps/x86-64-v3"}[build]
     assert len(taken) == 1 and taken[0].endswith(f"/{place}/libnattizhu.so.0")
 
 
@@ -154,9 +175,9 @@ def test_shared_library_of_the_archive(shell, build):
 @pytest.fixture(name="python", scope="module")
 def fixture_python(shell):
     """The interpreter of a fresh environment with the wheel and nothing else."""
-    shell("ls *.whl", lacking="wheel (Debian's python3-dev, python3-pip, python3-setuptools, python3-wheel)")
+    shell("ls *_x86_64.whl", lacking="wheel (Debian's python3-dev, python3-pip, python3-setuptools, python3-wheel)")
     shell("python3 -c 'import ensurepip'", lacking="ensurepip (Debian's python3-venv)")
-    shell("python3 -m venv env && env/bin/pip install --no-index --disable-pip-version-check ./*.whl")
+    shell("python3 -m venv env && env/bin/pip install --no-index --disable-pip-version-check ./*_x86_64.whl")
     return "env/bin/python"
 
 
@@ -173,12 +194,12 @@ def test_debian_packages(debian, shell, debs):
     debian.result()
     files = "find / -xdev -regextype awk -regex '/(a folder|tmp|proc|var/(cache|lib/(apt|dpkg)|log))' -prune -o -print"
     before = sorted(shell(files).split("\n"))
-    shell("apt-get -y install ./*.deb")
+    shell("apt-get -y install ./*_amd64.deb")
     try:
         assert shell("printf abc | ripemd_sum") == ABC + "\n"
-        for build in sorted({"x86-64-v2", newest()}):
+        for build in sorted({"x86-64", newest()}):
             uses_shared_library(shell, build, "lib/x86_64-linux-gnu", "$(pkg-config --cflags --libs nattizhu)")
         assert shell("python3 first.py") == ABC + "\n"
     finally:
-        shell("apt-get -y purge " + " ".join(deb.name.split("_")[0] for deb in debs))
+        shell("apt-get -y purge " + " ".join({deb.name.split("_")[0] for deb in debs}))
     assert sorted(shell(files).split("\n")) == before

@@ -7,49 +7,52 @@ import subprocess
 import sys
 
 import pytest
-from conftest import ENVIRONMENT, NOTICED, ROOT, SECRETS, memcheck, need, run, site
+from conftest import ARM64, ARM64_COMPILER, ENVIRONMENT, NOTICED, ROOT, SECRETS, memcheck, need, need_arm64, run, site
 
 CRATE = ROOT / "crates/ripemd_c"
-LEVELS = ["x86-64-v2", "x86-64-v3"]
+LEVELS = ["x86-64", "x86-64-v3"]
+# For each processor that qemu-user emulates, the emulator.
+EMULATORS = {**dict.fromkeys(LEVELS, "qemu-x86_64"), ARM64: "qemu-aarch64"}
 SEEDS = range(1, 6)
 CONTROLS = {"jump": "Conditional jump or move depends on uninitialised value",
             "address": "Use of uninitialised value of size 8"}
 
 every_level = pytest.mark.parametrize("level", LEVELS)
+every_processor = pytest.mark.parametrize("processor", EMULATORS)
 
 
 @pytest.fixture(name="compiled", scope="module")
 def fixture_compiled(library, marks, once):
-    """The programs of secrets.c with the library for each level, for memcheck and, linked statically, for qemu-user,
-    where a program is then always in the same place."""
+    """Compiles secrets.c with the library for a processor."""
 
-    def build(folder):
-        for kind, flags in (("memcheck", []), ("qemu", ["-static"])):
-            (folder / kind).mkdir(parents=True)
-            for level in LEVELS:
-                run("cc", "-O2", "-Wall", "-Wextra", "-Werror", *flags, "-I", CRATE, SECRETS / "secrets.c",
-                    CRATE / "nattizhu.c", library / level / "libripemd_c.a", "-o", folder / kind / level)
+    def compiled(processor, *flags):
+        if processor == ARM64:
+            need_arm64()
+        compiler = ARM64_COMPILER if processor == ARM64 else "cc"
+        return once(f"secrets-{processor}{''.join(flags)}", lambda file: run(
+            compiler, "-O2", "-Wall", "-Wextra", "-Werror", *flags, "-I", CRATE, SECRETS / "secrets.c",
+            CRATE / "nattizhu.c", library / processor / "libripemd_c.a", "-o", file))
 
-    return once("secrets", build)
+    return compiled
 
 
 @every_level
 def test_calls_from_c(compiled, level):
-    memcheck(compiled / "memcheck" / level, 1)
+    memcheck(compiled(level), 1)
 
 
 @every_level
 @pytest.mark.parametrize("control", CONTROLS)
 def test_control(compiled, level, control):
-    said = memcheck(compiled / "memcheck" / level, 1, control, status=NOTICED).stderr
+    said = memcheck(compiled(level), 1, control, status=NOTICED).stderr
     assert CONTROLS[control] in said and said.count("uninitialised") == 1
 
 
-def executed(*command, **options):
+def executed(emulator, *command, **options):
     """How many blocks of instructions a program executes, and a digest of where they are, in order."""
-    need("qemu-x86_64", "qemu-user")
+    need(emulator, "qemu-user")
     # With addresses that are not random.
-    command = ["setarch", "-R", "qemu-x86_64", "-cpu", "max", "-d", "exec,nochain", *map(str, command)]
+    command = ["setarch", "-R", emulator, "-cpu", "max", "-d", "exec,nochain", *map(str, command)]
     with subprocess.Popen(command, env=ENVIRONMENT, stdout=subprocess.DEVNULL, stderr=subprocess.PIPE,
                           **options) as running:
         count, places = 0, hashlib.sha256()
@@ -61,14 +64,20 @@ def executed(*command, **options):
     return count, places.digest()
 
 
-@every_level
-def test_what_calls_from_c_execute(compiled, level):
-    assert len({executed(compiled / "qemu" / level, seed) for seed in SEEDS}) == 1
+def traces(compiled, processor, *words):
+    """What is executed for different secrets. A program that is linked statically is always in the same place."""
+    program = compiled(processor, "-static")
+    return {executed(EMULATORS[processor], program, seed, *words) for seed in SEEDS}
 
 
-@every_level
-def test_control_of_what_is_executed(compiled, level):
-    assert len({executed(compiled / "qemu" / level, seed, "jump") for seed in SEEDS}) == 2
+@every_processor
+def test_what_calls_from_c_execute(compiled, processor):
+    assert len(traces(compiled, processor)) == 1
+
+
+@every_processor
+def test_control_of_what_is_executed(compiled, processor):
+    assert len(traces(compiled, processor, "jump")) == 2
 
 
 @pytest.mark.parametrize("length", [1, 55, 64, 200, 5000])
@@ -78,7 +87,7 @@ def test_what_the_program_executes(program, tmp_path, length):
     for seed in SEEDS:
         (tmp_path / "text").write_bytes(hashlib.shake_128(bytes([seed])).digest(length))
         with (tmp_path / "text").open("rb") as text:
-            seen.add(executed(program, 160, "hmac", "0b" * 20, stdin=text))
+            seen.add(executed("qemu-x86_64", program, 160, "hmac", "0b" * 20, stdin=text))
     assert len(seen) == 1
 
 

@@ -22,14 +22,16 @@ enum { GROUP = 1024 };
 
 /* ---- The library */
 
-/* The module has the library in two builds: for any processor that it runs on, and for x86-64-v3, where
+/* For x86-64 the module has the library in two builds: for every such processor, and for x86-64-v3, where
  * each name ends in _v3. The calls for many messages, and for keys, are those of the second where this
  * processor can run them; for one message the first is as fast. */
+#ifdef __x86_64__
 #if !defined(__clang__) && __GNUC__ >= 12
 #define HAS_V3 (__builtin_cpu_supports("x86-64-v3") != 0)
 #else
 #define HAS_V3 false /* such a compiler may not know this level */
 #endif
+#define LEVEL (HAS_V3 ? "x86-64-v3" : "x86-64")
 #define BEST(name) (HAS_V3 ? name##_v3 : name)
 
 extern __typeof__(nattizhu_each) nattizhu_each_v3;
@@ -37,6 +39,10 @@ extern __typeof__(nattizhu_list) nattizhu_list_v3;
 extern __typeof__(nattizhu_hmac_each) nattizhu_hmac_each_v3;
 extern __typeof__(nattizhu_hmac_list) nattizhu_hmac_list_v3;
 extern __typeof__(nattizhu_pbkdf2) nattizhu_pbkdf2_v3;
+#else
+#define LEVEL "aarch64"
+#define BEST(name) name
+#endif
 
 /* Sets an exception if the library refused what it was given, which it has no reason to. */
 static bool taken(bool answer) {
@@ -871,7 +877,7 @@ static int module_exec(PyObject *module) {
       state->hmac_from_state == NULL || PyModule_AddType(module, state->hasher) != 0 ||
       PyModule_AddType(module, state->hmac) != 0)
     return -1;
-  if (PyModule_AddStringConstant(module, "_level", HAS_V3 ? "x86-64-v3" : "x86-64-v2") != 0)
+  if (PyModule_AddStringConstant(module, "_level", LEVEL) != 0)
     return -1;
   return PyModule_AddStringConstant(module, "__version__", nattizhu_version());
 }

@@ -182,6 +182,7 @@ fn sizes_as_the_library_says() {
 /// Whether this processor can run the build of the library for x86-64-v3, whose functions over many
 /// messages, and over many or long keys, are faster. The standard library asks the processor; without
 /// `std` the other build is taken.
+#[cfg(target_arch = "x86_64")]
 #[allow(unused_unsafe)] // `__cpuid` was unsafe in older versions of Rust.
 fn has_v3() -> bool {
     #[cfg(feature = "std")]
@@ -190,14 +191,17 @@ fn has_v3() -> bool {
         // 1 if it has not, 2 if it has, and 0 before it was asked: in a virtual machine CPUID is slow.
         static FOUND: AtomicU8 = AtomicU8::new(0);
         if FOUND.load(Relaxed) == 0 {
-            // What the level has beyond x86-64-v2. For MOVBE, bit 22 of the features that CPUID gives,
-            // the standard library of Rust 1.63 has no name.
+            // What the level has beyond x86-64, but for what every processor with AVX2 has: CMPXCHG16B, LAHF
+            // and the older SSE. For MOVBE, bit 22 of the features that CPUID gives, the standard library of
+            // Rust 1.63 has no name.
             let all = std::is_x86_feature_detected!("avx2")
                 && std::is_x86_feature_detected!("bmi1")
                 && std::is_x86_feature_detected!("bmi2")
                 && std::is_x86_feature_detected!("f16c")
                 && std::is_x86_feature_detected!("fma")
                 && std::is_x86_feature_detected!("lzcnt")
+                && std::is_x86_feature_detected!("popcnt")
+                && std::is_x86_feature_detected!("sse4.2")
                 // SAFETY: every x86-64 processor has CPUID, with this leaf.
                 && unsafe { core::arch::x86_64::__cpuid(1) }.ecx & (1 << 22) != 0;
             FOUND.store(1 + u8::from(all), Relaxed);
@@ -208,20 +212,22 @@ fn has_v3() -> bool {
     false
 }
 
-#[cfg(all(test, feature = "std"))]
+#[cfg(all(test, feature = "std", target_arch = "x86_64"))]
 #[test]
 fn has_v3_as_the_kernel_says() {
     let said = std::fs::read_to_string("/proc/cpuinfo").unwrap();
     let flags = said.lines().find(|line| line.starts_with("flags")).unwrap();
     let has = |flag| flags.split_whitespace().any(|word| word == flag);
-    let level = ["abm", "avx2", "bmi1", "bmi2", "f16c", "fma", "movbe"];
+    let level = [
+        "abm", "avx2", "bmi1", "bmi2", "f16c", "fma", "movbe", "popcnt", "sse4_2",
+    ];
     assert_eq!(has_v3(), level.iter().all(|flag| has(*flag)));
 }
 
 /// Functions of the library that read slices, take numbers, and write to a slice. What they return is what
-/// `nattizhu.h` says. The library has each one twice: for any processor under its name, and for x86-64-v3
-/// with `_v3` behind that. Both are the same function, and the second is taken only where the processor
-/// has all of its instructions.
+/// `nattizhu.h` says. For x86-64 the library has each one twice: for every such processor under its name,
+/// and for x86-64-v3 with `_v3` behind that. Both are the same function, and the second is taken only where
+/// the processor has all of its instructions.
 macro_rules! functions {
     ($($function:ident = $name:ident(
         $($read:ident: $item:ty),*; $($number:ident: $type:ty),*; $place:ident: $output:ty);)*) => {$(
@@ -233,12 +239,16 @@ macro_rules! functions {
                 fn $name(
                     _: u32, $(_: *const $item, _: usize,)* $(_: $type,)* _: *mut u8, _: usize
                 ) -> bool;
+                #[cfg(target_arch = "x86_64")]
                 #[link_name = concat!(stringify!($name), "_v3")]
                 fn v3(
                     _: u32, $(_: *const $item, _: usize,)* $(_: $type,)* _: *mut u8, _: usize
                 ) -> bool;
             }
+            #[cfg(target_arch = "x86_64")]
             let call = if has_v3() { v3 } else { $name };
+            #[cfg(not(target_arch = "x86_64"))]
+            let call = $name;
             let (length, place) = (size_of_val($place), $place.as_mut_ptr().cast());
             // SAFETY: memory by the slices, of which digests and tags are arrays of bytes, and by those of
             // which each message was made; null, overlap and threads by all of these.

@@ -1,4 +1,4 @@
 pub mod LastDifference
 pub mod Reduction
 pub mod Replaying
-pub mod Saving
+pub mod Saved

@@ -19,6 +19,6 @@ pub mod Laws
 -- The same, for loops of reads.
 pub mod Reading
 -- The same, for callers who keep saved bytes between the pieces of a message.
-pub mod Saving
+pub mod SavedLaws
 -- And of the machine.
 pub mod ReplayLaws

@@ -147,7 +147,7 @@ impl<F: ResumableFunction> Resumable for BlockHasher<F> {
         append_saved::<F>(saved, bytes)
     }
 
-    ghost use Rattle.ripemd_block.specs.Laws.Saving.{core_and_tail_injective};
+    ghost use Rattle.ripemd_block.specs.Laws.Saved.{core_and_tail_injective};
 
     ghost injective = { core_and_tail_injective F.injective_output };
 }

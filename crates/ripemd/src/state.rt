@@ -44,7 +44,7 @@ impl<F: ResumableFunction> SerializableState for BlockHasher<F> {
         }
     }
 
-    ghost use Rattle.ripemd_block.specs.Laws.Saving.{core_and_tail_injective};
+    ghost use Rattle.ripemd_block.specs.Laws.Saved.{core_and_tail_injective};
 
     ghost state_injective = { core_and_tail_injective F.injective_output };
 

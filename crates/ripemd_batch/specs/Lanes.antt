@@ -6,7 +6,6 @@ use Rattle.std.specs.Borrow.{Bor}
 use Rattle.ripemd_block.specs.Standard.Words.{message_word}
 use Rattle.ripemd_block.specs.Standard.Hashing.{with_padding, blocks, walk}
 use Rattle.ripemd_block.specs.Standard.Schedule.{Line, left_line, right_line}
-use Rattle.ripemd_block.specs.Standard.Compression.{Lines}
 use Rattle.ripemd_batch.specs.declared.lines.Side.{Side}
 use Rattle.ripemd_batch.specs.declared.lines.Side.TheVariants.{Left, Right}
 
@@ -30,10 +29,6 @@ HasWords words j block = (i : ℕ) → i < 16 → lane_at words i j ≡ message_
 abbrev pub line_of : ℕ → Side → Line
 line_of rounds Left = left_line
 line_of rounds Right = right_line rounds
-
--- both lines of message j, of n registers
-abbrev pub lines_of : ℕ → ℕ → List (List ℕ) → List (List ℕ) → Lines
-lines_of n j left right = record { left = lane_of n j left; right = lane_of n j right }
 
 -- ---- lists of messages
 

@@ -4,7 +4,8 @@
 ghost use Rattle.std.specs.Prelude.{◌≡◌, ◌<◌, ℕ, List};
 ghost use Rattle.ripemd_block.specs.Standard.Compression.{lines_from, double_state};
 ghost use Rattle.ripemd_block.specs.Standard.Compression.{compress, ripemd256};
-ghost use Rattle.ripemd_batch.specs.Lanes.{HasWords, lane_of, lines_of};
+ghost use Rattle.ripemd_block.specs.Code.Lines.{both_lines};
+ghost use Rattle.ripemd_batch.specs.Lanes.{HasWords, lane_of};
 
 use crate::eight::Eight;
 use crate::lines::{Lines, exchange, round};
@@ -12,7 +13,7 @@ use crate::lines::{Lines, exchange, round};
 // Where the lines start.
 #[inline(always)]
 fn lines_from(state: [Eight; 8]) -> Lines<[Eight; 4]>
-    ensures { (j : ℕ) → j < 8 → lines_of 4 j result.left result.right
+    ensures { (j : ℕ) → j < 8 → both_lines (lane_of 4 j result.left) (lane_of 4 j result.right)
         ≡ lines_from ripemd256 (lane_of 8 j state) }
 {
     Lines {

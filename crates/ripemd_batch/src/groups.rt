@@ -6,10 +6,10 @@ ghost use Rattle.ripemd_block.specs.Standard.Hashing.{hash, walk, blocks};
 ghost use Rattle.ripemd_batch.specs.Lanes.{list_at, targets, blocks_of, padded_after, hash_after};
 
 use crate::eight::Eight;
+use crate::eight_states::EightStates;
 use crate::lists::ListHasher;
 use crate::message::message_words;
 use crate::padded::MessageBlocks;
-use crate::states::EightStates;
 use ripemd::digest::BlockDigest;
 use ripemd::padding::block_count;
 use ripemd::{Ripemd128, Ripemd160, Ripemd256, Ripemd320};

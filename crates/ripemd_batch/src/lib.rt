@@ -7,6 +7,7 @@ mod c160;
 mod c256;
 mod c320;
 mod eight;
+mod eight_states;
 pub mod facts;
 mod four_words;
 pub mod groups;
@@ -15,7 +16,6 @@ pub mod lists;
 mod message;
 mod padded;
 pub mod pbkdf2;
-mod states;
 
 pub use groups::BatchDigest;
 pub use lists::{ListHasher, digest_each, tag_each};

@@ -11,6 +11,7 @@ use ripemd_block::textbook::{
     left_constant, left_number, right_constant_of_five_rounds, right_constant_of_four_rounds,
     right_number, rotation,
 };
+use std::mem::swap;
 
 /// One of the two lines.
 #[derive(Clone, Copy)]
@@ -75,12 +76,9 @@ impl LineRegisters for [Eight; 4] {
     }
 
     #[inline(always)]
-    fn exchange(k: usize, left: [Eight; 4], right: [Eight; 4]) -> ([Eight; 4], [Eight; 4]) {
-        let mut to_left = left;
-        let mut to_right = right;
-        to_left[k] = right[k];
-        to_right[k] = left[k];
-        (to_left, to_right)
+    fn exchange(k: usize, mut left: [Eight; 4], mut right: [Eight; 4]) -> ([Eight; 4], [Eight; 4]) {
+        swap(&mut left[k], &mut right[k]);
+        (left, right)
     }
 }
 
@@ -107,12 +105,9 @@ impl LineRegisters for [Eight; 5] {
     }
 
     #[inline(always)]
-    fn exchange(k: usize, left: [Eight; 5], right: [Eight; 5]) -> ([Eight; 5], [Eight; 5]) {
-        let mut to_left = left;
-        let mut to_right = right;
-        to_left[k] = right[k];
-        to_right[k] = left[k];
-        (to_left, to_right)
+    fn exchange(k: usize, mut left: [Eight; 5], mut right: [Eight; 5]) -> ([Eight; 5], [Eight; 5]) {
+        swap(&mut left[k], &mut right[k]);
+        (left, right)
     }
 }
 

@@ -31,8 +31,7 @@ pub fn digest_each<D: BatchDigest>(messages: &[&[u8]], digests: &mut [D::Output]
 /// texts. Nothing is allocated.
 ///
 /// The key is hashed once for all texts. These go in groups of eight as they come, as messages do in
-/// [`digest_each`], and so it is fastest if neighbours have like
-/// lengths.
+/// [`digest_each`], and so it is fastest if neighbours have like lengths.
 pub fn tag_each<D: BatchDigest>(key: &[u8], texts: &[&[u8]], tags: &mut [D::Output])
     requires { length tags.old ≡ length texts.now }
     ensures { map D.bytes_of tags.new

@@ -9,9 +9,9 @@ ghost use Rattle.ripemd_batch.specs.Pbkdf2.{HasBlocks, InGroup, IsFilled, block_
 ghost use Rattle.ripemd_batch.specs.Lanes.{hash_after, list_at, targets};
 
 use crate::eight::Eight;
+use crate::eight_states::EightStates;
 use crate::groups::{BatchDigest, FunctionOf, StateOf, digest_one, last_state};
 use crate::lists::state_after;
-use crate::states::EightStates;
 use ripemd::digest::Digest;
 use ripemd_block::block_api::{BlockFunction, ByteArray};
 use ripemd_mac::Pbkdf2Error;
@@ -19,9 +19,9 @@ use ripemd_mac::hmac::{filled, masked_keys};
 use ripemd_mac::pbkdf2::{allowed, combined, write_front};
 use std::marker::Model;
 
-/// Derives a key from a password and a salt as [`ripemd_mac::pbkdf2_hmac`] does, by so many rounds, and writes
-/// it to `key`: eight blocks at once, or one by one where there are fewer than three. Nothing is
-/// allocated.
+/// Derives a key from a password and a salt as [`ripemd_mac::pbkdf2_hmac`] does, by so many rounds,
+/// and writes it to `key`: eight blocks at once, or one by one where there are fewer than three.
+/// Nothing is allocated.
 ///
 /// # Errors
 ///

@@ -3,7 +3,7 @@
 pub mod Arrays
 pub mod WordBytes
 pub mod Starting
-pub mod Saving
+pub mod Saved
 pub mod Walking
 pub mod Blocks
 pub mod Pieces

@@ -252,7 +252,7 @@ impl<F: ResumableFunction> SerializableState for BlockCore<F> {
         }
     }
 
-    ghost use Rattle.ripemd_block.specs.Laws.Saving.{output_and_count_injective};
+    ghost use Rattle.ripemd_block.specs.Laws.Saved.{output_and_count_injective};
 
     ghost state_injective = { output_and_count_injective F.injective_output };
 

@@ -111,7 +111,7 @@ impl ResumableFunction for Ripemd128Function {
     }
 
     ghost use Rattle.std.specs.Prelude.{refl};
-    ghost use Rattle.ripemd_block.specs.Laws.Saving.{word_bytes_output};
+    ghost use Rattle.ripemd_block.specs.Laws.Saved.{word_bytes_output};
 
     ghost injective_output = { word_bytes_output 4 };
 
@@ -213,7 +213,7 @@ impl ResumableFunction for Ripemd160Function {
     }
 
     ghost use Rattle.std.specs.Prelude.{refl};
-    ghost use Rattle.ripemd_block.specs.Laws.Saving.{word_bytes_output};
+    ghost use Rattle.ripemd_block.specs.Laws.Saved.{word_bytes_output};
 
     ghost injective_output = { word_bytes_output 5 };
 
@@ -318,7 +318,7 @@ impl ResumableFunction for Ripemd256Function {
     }
 
     ghost use Rattle.std.specs.Prelude.{refl};
-    ghost use Rattle.ripemd_block.specs.Laws.Saving.{word_bytes_output};
+    ghost use Rattle.ripemd_block.specs.Laws.Saved.{word_bytes_output};
 
     ghost injective_output = { word_bytes_output 8 };
 
@@ -425,7 +425,7 @@ impl ResumableFunction for Ripemd320Function {
     }
 
     ghost use Rattle.std.specs.Prelude.{refl};
-    ghost use Rattle.ripemd_block.specs.Laws.Saving.{word_bytes_output};
+    ghost use Rattle.ripemd_block.specs.Laws.Saved.{word_bytes_output};
 
     ghost injective_output = { word_bytes_output 10 };
 

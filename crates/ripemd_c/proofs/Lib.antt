@@ -1,4 +1,4 @@
 -- Saved bytes tell their state.
-pub mod SavedStates
+pub mod KeptStates
 -- What calls do with some values.
 pub mod Working

@@ -7,8 +7,8 @@ use Rattle.ripemd_mac.specs.Worked.{saved_inner, saved_outer}
 use Rattle.ripemd_c.specs.Variants.{Refuses, WritesDigest, WritesTag, VerifiesTag}
 use Rattle.ripemd_c.specs.Records.{WritesDigests, WritesTags, WritesEachDigest, WritesEachTag}
 use Rattle.ripemd_c.specs.Pbkdf2.{FillsKey, FillsKeys, DerivesKey, DerivesKeys}
-use Rattle.ripemd_c.specs.SavedStates.{InitsState, UpdatesState, FinalizesState}
-use Rattle.ripemd_c.specs.SavedStates.{InitsHmac, UpdatesHmac, FinalizesHmac, VerifiesHmac}
+use Rattle.ripemd_c.specs.KeptStates.{InitsState, UpdatesState, FinalizesState}
+use Rattle.ripemd_c.specs.KeptStates.{InitsHmac, UpdatesHmac, FinalizesHmac, VerifiesHmac}
 
 -- a call that does this fills a place of so many bytes with an output
 abbrev pub Gives : (Does : (old new : List ℕ) → Bool → Type 0) → (size : ℕ) → (output : List ℕ) → Type 0

@@ -3,7 +3,7 @@
 ghost use Rattle.std.specs.Prelude.{◌≡◌, ◌↔◌, length, IsTrue};
 ghost use Rattle.ripemd.specs.Standard.Hashing.{hash};
 ghost use Rattle.ripemd_mac.specs.Hmac.{StandsFor, hmac};
-ghost use Rattle.ripemd_c.specs.SavedStates.{FinalizesHmac, InitsHmac, UpdatesHmac, VerifiesHmac};
+ghost use Rattle.ripemd_c.specs.KeptStates.{FinalizesHmac, InitsHmac, UpdatesHmac, VerifiesHmac};
 ghost use Rattle.ripemd_c.specs.Variants.{VerifiesTag, Writes, WritesTag};
 
 use crate::states::{final_kept, init_kept, update_kept, verify_kept};

@@ -1,6 +1,6 @@
 //! Digests of messages that come in pieces.
 
-ghost use Rattle.ripemd_c.specs.SavedStates.{FinalizesState, InitsState, UpdatesState};
+ghost use Rattle.ripemd_c.specs.KeptStates.{FinalizesState, InitsState, UpdatesState};
 
 use crate::states::{final_kept, init_kept, update_kept};
 use ripemd::{Ripemd128, Ripemd160, Ripemd256, Ripemd320};

@@ -1,13 +1,13 @@
 //! The run of the program, over any reader and any writer.
 
 ghost use Rattle.std.specs.Prelude.{◌≡◌, ◌+◌, ◌*◌, ◌≤◌, ◌++◌, ℕ, List, false, length, codes};
-ghost use Rattle.std.specs.Prelude.{IfOk, IfErr};
+ghost use Rattle.std.specs.Prelude.{IfOk, OnOk, IfErr};
 ghost use Rattle.hex.specs.Hex.{encode_lower};
 ghost use Rattle.ripemd.specs.Standard.Hashing.{hash};
 ghost use Rattle.ripemd_mac.specs.Hmac.{hmac};
 ghost use Rattle.ripemd_sum.specs.Track.{Ready, has_failed, taken_of};
-ghost use Rattle.ripemd_sum.specs.Runs.{digest_line, tag_line, GivesAll};
-ghost use Rattle.ripemd_sum.specs.Faults.{ExplainsReading, IsRun};
+ghost use Rattle.ripemd_sum.specs.Runs.{digest_line, tag_line, GivesAll, Gets};
+ghost use Rattle.ripemd_sum.specs.Faults.{ExplainsReading, ExplainsRun, IsRun};
 
 use crate::any_hasher::AnyHasher;
 use crate::fault::{ReadFault, RunFault};
@@ -123,9 +123,12 @@ fn run_state<S: Incremental, R: Read, W: Write>(
 ) -> Result<(), RunFault>
     requires fits { 2 * S.Hash.OUTPUT_SIZE + 1 ≤ 81 }
     requires ready { Ready reader.old writer.old }
-    ensures { (o : S.Origin) → state ≡ S.new_state o
-        → IsRun R.remaining W.contents reader.old reader.new writer.old writer.new limit
-        (λ message. encode_lower (S.whole o message) ++ codes "\n") result }
+    ensures ok { OnOk result ((message : List ℕ)
+        × GivesAll R.remaining reader.old reader.new limit message
+        × ((o : S.Origin) → state ≡ S.new_state o → Gets W.contents writer.old writer.new
+        (encode_lower (S.whole o message) ++ codes "\n"))) }
+    ensures fault { IfErr result
+        (ExplainsRun R.remaining reader.old reader.new writer.old writer.new limit) }
 {
     let output = read_to_end::<S, R>(state, reader, limit)?;
     let bytes = S::Hash::output_bytes(&output);
@@ -168,9 +171,9 @@ fn read_to_end<S: Incremental, R: Read>(
 ) -> Result<<S::Hash as OutputSizeUser>::Output, ReadFault>
     requires works { has_failed reader.old ≡ false }
     requires fresh { taken_of reader.old ≡ 0 }
-    ensures ok { (o : S.Origin) → state ≡ S.new_state o → IfOk result (λ output. (message : List ℕ)
+    ensures ok { IfOk result (λ output. (message : List ℕ)
         × GivesAll R.remaining reader.old reader.new limit message
-        × (S.Hash.bytes_of output ≡ S.whole o message)) }
+        × ((o : S.Origin) → state ≡ S.new_state o → S.Hash.bytes_of output ≡ S.whole o message)) }
     ensures fault { IfErr result (ExplainsReading R.remaining reader.old reader.new limit) }
 {
     let mut state = state;

@@ -11,6 +11,7 @@ use crate::textbook::{
     amounts, left_constant, left_number, right_constant_of_five_rounds,
     right_constant_of_four_rounds, right_number,
 };
+use std::mem::swap;
 use std::simd::prelude::*;
 
 /// The registers of a line, of which there are as many as it has rounds.
@@ -46,12 +47,9 @@ impl LineRegisters for [u32; 4] {
     }
 
     #[inline(always)]
-    fn exchange(j: usize, left: [u32; 4], right: [u32; 4]) -> ([u32; 4], [u32; 4]) {
-        let mut to_left = left;
-        let mut to_right = right;
-        to_left[j] = right[j];
-        to_right[j] = left[j];
-        (to_left, to_right)
+    fn exchange(j: usize, mut left: [u32; 4], mut right: [u32; 4]) -> ([u32; 4], [u32; 4]) {
+        swap(&mut left[j], &mut right[j]);
+        (left, right)
     }
 }
 
@@ -70,12 +68,9 @@ impl LineRegisters for [u32; 5] {
     }
 
     #[inline(always)]
-    fn exchange(j: usize, left: [u32; 5], right: [u32; 5]) -> ([u32; 5], [u32; 5]) {
-        let mut to_left = left;
-        let mut to_right = right;
-        to_left[j] = right[j];
-        to_right[j] = left[j];
-        (to_left, to_right)
+    fn exchange(j: usize, mut left: [u32; 5], mut right: [u32; 5]) -> ([u32; 5], [u32; 5]) {
+        swap(&mut left[j], &mut right[j]);
+        (left, right)
     }
 }
 

@@ -5,7 +5,7 @@ use Rattle.ripemd_block.specs.Standard.Hashing.{with_padding, blocks, partial_bl
 use Rattle.ripemd_block.specs.States.{HashState, IsState, new_state, with_tail, fed, finish}
 use Rattle.ripemd_block.specs.States.{output_and_count, core_and_tail, hasher_bytes}
 use Rattle.ripemd_block.specs.Laws.Starting.{start_words_160}
-use Rattle.ripemd_block.specs.Laws.Saving.{word_bytes_output, length-core_and_tail}
+use Rattle.ripemd_block.specs.Laws.Saved.{word_bytes_output, length-core_and_tail}
 use Rattle.ripemd.specs.Worked.{saved_after_a}
 use Rattle.ripemd.proofs.facts.replays.Goals as goal
 

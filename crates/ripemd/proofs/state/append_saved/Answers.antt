@@ -1,7 +1,7 @@
 use Rattle.std.proofs.Common.{ap, ◌∙◌, arith, [], length}
 use Rattle.ripemd_block.specs.States.{with_tail}
-use Rattle.ripemd_block.specs.Laws.Saving.{length-core_and_tail}
-use Rattle.ripemd.proofs.Saving.{both_appended, core_front, tail_back, own_core}
+use Rattle.ripemd_block.specs.Laws.Saved.{length-core_and_tail}
+use Rattle.ripemd.proofs.Saved.{both_appended, core_front, tail_back, own_core}
 use Rattle.ripemd.proofs.state.append_saved.Goals as goal
 
 pub returns-in-Ok-clause-appended : goal.returns-in-Ok-clause-appended

@@ -1,4 +1,4 @@
-use Rattle.ripemd.proofs.Saving.{tail_appended}
+use Rattle.ripemd.proofs.Saved.{tail_appended}
 use Rattle.ripemd.proofs.state.append_tail.Goals as goal
 
 pub returns-clause-appended : goal.returns-clause-appended

@@ -1,6 +1,6 @@
 use Rattle.std.proofs.Common.{◌≡◌, true, rules}
 use Rattle.ripemd_block.proofs.Absorbing.{slice_from}
-use Rattle.ripemd.proofs.Saving.{tail_loaded, rest_of_tail}
+use Rattle.ripemd.proofs.Saved.{tail_loaded, rest_of_tail}
 use Rattle.ripemd.proofs.state.load_tail.Goals as goal
 
 pub returns-then-not-are_zeros-clause-none : goal.returns-then-not-are_zeros-clause-none

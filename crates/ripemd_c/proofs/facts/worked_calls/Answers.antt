@@ -9,7 +9,7 @@ use Rattle.ripemd_mac.specs.Hmac.{key_block, inner_message, outer_message, hmac}
 use Rattle.ripemd_mac.specs.Pbkdf2.{U, F, pbkdf2}
 use Rattle.ripemd_batch.specs.Pbkdf2.{pbkdf2_each}
 use Rattle.ripemd_c.specs.Variants.{digest_size, variant_of}
-use Rattle.ripemd_c.specs.SavedStates.{InitsState, UpdatesState, FinalizesState}
+use Rattle.ripemd_c.specs.KeptStates.{InitsState, UpdatesState, FinalizesState}
 use Rattle.ripemd_c.specs.Worked.{Gives, abc}
 use Rattle.ripemd_c.proofs.Working.{written, refused, not_answered}
 use Rattle.ripemd_c.proofs.facts.worked_calls.Goals as goal

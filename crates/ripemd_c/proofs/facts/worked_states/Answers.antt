@@ -4,10 +4,10 @@ use Rattle.ripemd.specs.Standard.Words.{word_bytes}
 use Rattle.ripemd.specs.Standard.Compression.{ripemd160, registers_after, lines_after, compress}
 use Rattle.ripemd.specs.Standard.Hashing.{with_padding, blocks, partial_block, hash}
 use Rattle.ripemd.specs.States.{HashState, IsState, new_state, fed, output_and_count, tail_bytes, core_and_tail}
-use Rattle.ripemd_block.specs.Laws.Saving.{word_bytes_output, length-output_and_count, length-core_and_tail, core_and_tail-split}
+use Rattle.ripemd_block.specs.Laws.Saved.{word_bytes_output, length-output_and_count, length-core_and_tail, core_and_tail-split}
 use Rattle.ripemd_mac.specs.Hmac.{KeyedState, key_block, inner_message, outer_message, hmac, keyed_state, fed_text}
 use Rattle.ripemd_mac.specs.Worked.{saved_inner, saved_outer}
-use Rattle.ripemd_c.specs.SavedStates.{IsSavedState, IsSavedHmac}
+use Rattle.ripemd_c.specs.KeptStates.{IsSavedState, IsSavedHmac}
 use Rattle.ripemd_c.specs.Worked.{forged, key}
 use Rattle.ripemd_c.proofs.Working.{written, refused, not_answered}
 use Rattle.ripemd_c.proofs.facts.worked_states.Goals as goal

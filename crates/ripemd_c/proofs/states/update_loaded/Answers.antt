@@ -1,5 +1,5 @@
 use Rattle.std.proofs.Common.{◌∙◌}
-use Rattle.ripemd_c.proofs.SavedStates.{updates}
+use Rattle.ripemd_c.proofs.KeptStates.{updates}
 use Rattle.ripemd_c.proofs.states.update_loaded.Goals as goal
 
 pub returns-in-Ok-clause-updates : goal.returns-in-Ok-clause-updates

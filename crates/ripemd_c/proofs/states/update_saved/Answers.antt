@@ -1,4 +1,4 @@
-use Rattle.ripemd_c.proofs.SavedStates.{appended}
+use Rattle.ripemd_c.proofs.KeptStates.{appended}
 use Rattle.ripemd_c.proofs.states.update_saved.Goals as goal
 
 pub returns-then-append_saved-clause-updates : goal.returns-then-append_saved-clause-updates

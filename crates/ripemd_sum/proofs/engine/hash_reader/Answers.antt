@@ -1,4 +1,5 @@
+use Rattle.ripemd_sum.proofs.Hashers.{of_origin}
 use Rattle.ripemd_sum.proofs.engine.hash_reader.Goals as goal
 
 pub returns-clause-ok : goal.returns-clause-ok
-returns-clause-ok g c = c.read_to_end.ensures.ok tt c.new.ensures
+returns-clause-ok g c = of_origin _ _ _ c.read_to_end.result c.read_to_end.ensures.ok tt c.new.ensures

@@ -32,11 +32,10 @@ returns-in-Ok-eq0-clause-ok g c =
       works = last.failed;
       counted = omega (arith, before.gives.gives.counted, last.taken);
       most = omega arith;
-    } in
-    λ o start. (
+    } in (
       before.message,
       GivesAll_end before.gives read (bytes.1 refl (omega arith)),
-      c.finalize.ensures ∙ ap g.S.Incremental.finish (before.held o start) ∙ g.met.S.Incremental.finish_fed o before.message,
+      λ o start. c.finalize.ensures ∙ ap g.S.Incremental.finish (before.held o start) ∙ g.met.S.Incremental.finish_fed o before.message,
     )
 
 pub returns-then-taken-limit-clause-fault : goal.returns-then-taken-limit-clause-fault

@@ -1,5 +1,5 @@
 use Rattle.ripemd_block.specs.Standard.Compression.{ripemd160}
-use Rattle.ripemd_block.specs.Laws.Saving.{takes_every_core}
+use Rattle.ripemd_block.specs.Laws.Saved.{takes_every_core}
 use Rattle.ripemd_uses.proofs.block.loaded_core.Goals as goal
 
 -- any 28 bytes are those of some core

@@ -10,7 +10,7 @@ use Rattle.ripemd.specs.declared.replay.Command.{Command}
 use Rattle.ripemd.specs.declared.replay.Command.TheVariants.{New, Update, Fork, Finish}
 use Rattle.ripemd.specs.Replay.{Gives}
 use Rattle.ripemd.specs.ReplayLaws.{ripemd_of_new, gives_once, gives_or_stops}
-use Rattle.ripemd_block.specs.Laws.Saving.{hasher_bytes_injective}
+use Rattle.ripemd_block.specs.Laws.Saved.{hasher_bytes_injective}
 use Rattle.ripemd_uses.proofs.commands.digests_of_ends.Goals as goal
 
 -- the commands, and what the machine makes of them

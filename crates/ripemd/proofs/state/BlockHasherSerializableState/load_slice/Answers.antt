@@ -1,7 +1,7 @@
 use Rattle.std.proofs.Common.{ap, ◌∙◌, arith, [], length}
 use Rattle.ripemd_block.specs.States.{HashState, with_tail, output_and_count}
-use Rattle.ripemd_block.specs.Laws.Saving.{length-core_and_tail}
-use Rattle.ripemd.proofs.Saving.{core_front, tail_back, both_saved, own_core}
+use Rattle.ripemd_block.specs.Laws.Saved.{length-core_and_tail}
+use Rattle.ripemd.proofs.Saved.{core_front, tail_back, both_saved, own_core}
 use Rattle.ripemd.proofs.state.BlockHasherSerializableState.load_slice.Goals as goal
 
 -- a hasher is saved as so many bytes

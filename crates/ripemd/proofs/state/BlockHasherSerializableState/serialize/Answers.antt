@@ -1,6 +1,6 @@
 use Rattle.std.proofs.Common.{◌≡◌, sym, ap, ◌∙◌}
 use Rattle.ripemd_block.specs.States.{HashState, with_tail, output_and_count, tail_bytes, core_and_tail}
-use Rattle.ripemd_block.specs.Laws.Saving.{core_and_tail-split}
+use Rattle.ripemd_block.specs.Laws.Saved.{core_and_tail-split}
 use Rattle.ripemd.proofs.state.BlockHasherSerializableState.serialize.Goals as goal
 
 pub returns-clause-bytes : goal.returns-clause-bytes

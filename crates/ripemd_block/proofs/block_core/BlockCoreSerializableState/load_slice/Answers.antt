@@ -2,7 +2,7 @@ use Rattle.std.proofs.Common.{◌≡◌, ◌++◌, ap, sym, ◌∙◌, arith, le
 use Rattle.std.proofs.lemmas.List.{take-append-drop}
 use Rattle.ripemd_block.specs.Standard.Words.{eight_bytes}
 use Rattle.ripemd_block.specs.States.{output_and_count}
-use Rattle.ripemd_block.specs.Laws.Saving.{length-output_and_count, output_front}
+use Rattle.ripemd_block.specs.Laws.Saved.{length-output_and_count, output_front}
 use Rattle.ripemd_block.proofs.block_core.BlockCoreSerializableState.load_slice.Goals as goal
 
 -- a core is saved as so many bytes

@@ -12,7 +12,7 @@ use Rattle.ripemd_block.specs.OverLists.{IsInjectiveOutput}
 use Rattle.ripemd_block.specs.States.{fed}
 use Rattle.ripemd_block.specs.Laws.Pieces.{fed_short}
 use Rattle.ripemd.specs.Saved.{IsAppended, IsTailAppended}
-use Rattle.ripemd_block.specs.Laws.Saving.{length-output_and_count, core_and_tail-split}
+use Rattle.ripemd_block.specs.Laws.Saved.{length-output_and_count, core_and_tail-split}
 
 -- bytes that are a length, as many bytes, and zero bytes, are those of the saved tail
 pub tail_loaded : (saved tail rest : List ℕ) → length saved ≡ 64 → get_or saved 0 0 < 64

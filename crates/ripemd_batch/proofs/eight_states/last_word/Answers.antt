@@ -2,7 +2,7 @@ use Rattle.std.proofs.Common.{List, [], ℕ, slice_index, ap, ◌∙◌, arith}
 use Rattle.std.proofs.lemmas.List.{get_or_default}
 use Rattle.ripemd_batch.specs.Lanes.{padding_words}
 use Rattle.ripemd_batch.proofs.DigestWords.{word_in_front, word_behind}
-use Rattle.ripemd_batch.proofs.states.last_word.Goals as goal
+use Rattle.ripemd_batch.proofs.eight_states.last_word.Goals as goal
 
 pub returns-then-i-clause-value : goal.returns-then-i-clause-value
 returns-then-i-clause-value g c j h =

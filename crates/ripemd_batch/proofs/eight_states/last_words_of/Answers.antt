@@ -2,7 +2,7 @@ use Rattle.std.proofs.Common.{arith}
 use Rattle.std.proofs.lemmas.List.FromFn.{length-map-range_with_len}
 use Rattle.ripemd_batch.specs.Lanes.{lane_at, lane_of}
 use Rattle.ripemd_batch.proofs.DigestWords.{has_padded_words, padded_size}
-use Rattle.ripemd_batch.proofs.states.last_words_of.Goals as goal
+use Rattle.ripemd_batch.proofs.eight_states.last_words_of.Goals as goal
 
 pub returns-clause-words : goal.returns-clause-words
 returns-clause-words g c j h =

@@ -1,7 +1,7 @@
 -- The vectors so far have the words of the last block.
 use Rattle.std.proofs.Common.{◌≡◌, ℕ, ◌<◌, ◌++◌, ◌^◌, slice_index}
 use Rattle.ripemd_batch.specs.Lanes.{lane_at, lane_of, padding_words}
-use Rattle.ripemd_batch.proofs.states.last_words_of.Given as goal
+use Rattle.ripemd_batch.proofs.eight_states.last_words_of.Given as goal
 
 abbrev pub invariant-loop-i : goal.invariant-loop-i
 invariant-loop-i g l = record {

@@ -4,8 +4,8 @@ use Rattle.ripemd_block.specs.Standard.Words.{word_bytes}
 use Rattle.ripemd_block.specs.Standard.Compression.{Parameters, compress}
 use Rattle.ripemd_block.specs.Standard.Hashing.{ripemd}
 use Rattle.ripemd_block.specs.States.{HashState, IsState, new_state, fed, finish, hasher_bytes}
-pub use Rattle.ripemd_block.specs.Laws.Saving.{length-core_and_tail, core_and_tail_injective}
-use Rattle.ripemd_block.specs.Laws.Saving.{hasher_bytes_injective}
+pub use Rattle.ripemd_block.specs.Laws.Saved.{length-core_and_tail, core_and_tail_injective}
+use Rattle.ripemd_block.specs.Laws.Saved.{hasher_bytes_injective}
 use Rattle.ripemd_block.specs.Laws.Pieces as laws
 use Rattle.ripemd.specs.Laws.{fed_nothing}
 

@@ -1,0 +1,10 @@
+-- Hashers, which begin with nothing.
+use Rattle.std.proofs.Common.{ℕ, List, Result, Ok, Err, IfOk}
+
+-- what is known of a result and a message for each origin, of the origin that there is
+pub of_origin : {T E Origin : Type 0} (New : Origin → Type 0) (A : List ℕ → Type 0)
+    (C : Origin → T → List ℕ → Type 0) (result : Result T E)
+    → IfOk result (λ value. (message : List ℕ) × A message × ((o : Origin) → New o → C o value message))
+    → (o : Origin) → New o → IfOk result (λ value. (message : List ℕ) × A message × C o value message)
+of_origin New A C (Ok value) given o new = (given.0, given.1, given.2 o new)
+of_origin New A C (Err error) given o new = tt
