@@ -15,6 +15,7 @@ use ripemd::digest::OutputSizeUser;
 use ripemd::{Digest, Ripemd128, Ripemd160, Ripemd256, Ripemd320};
 use ripemd_batch::pbkdf2::digest_size;
 use ripemd_batch::{BatchDigest, ListHasher};
+use ripemd_calls::by_variant;
 
 // How many messages a group has at most: so many outputs lie in an array before they are written.
 const GROUP: usize = 64;

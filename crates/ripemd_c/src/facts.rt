@@ -1,10 +1,8 @@
-//! What is proved of the definitions. The functions do nothing, or call one that does nothing; their
-//! contracts are the facts.
+//! What is proved of the definitions. The functions do nothing; their contracts are the facts.
 
 ghost use Rattle.std.specs.Prelude.{◌≡◌, [], ◌∷◌, ◌++◌, replicate};
 ghost use Rattle.ripemd_c.specs.Records.{records};
-ghost use Rattle.ripemd_c.specs.Worked.{WorkedDigests, WorkedHmacStates, WorkedKeys, WorkedLists};
-ghost use Rattle.ripemd_c.specs.Worked.{WorkedStates, WorkedTags};
+ghost use Rattle.ripemd_c.specs.Worked.{WorkedKeyLists, WorkedLists};
 
 /// Three records of two bytes, with a byte behind them; two that are longer than a block; and two
 /// empty ones.
@@ -16,18 +14,8 @@ pub fn worked_records()
     ensures empty { records 0 2 0 [] ≡ [] ∷ [] ∷ [] }
 {}
 
-/// Digests and tags, those of records and lists, and keys: what is written, and what is refused.
-pub fn worked_calls()
-    ensures digests { WorkedDigests }
-    ensures tags { WorkedTags }
+/// Digests, tags and keys of records and lists: what is written, and what is refused.
+pub fn worked_lists()
     ensures lists { WorkedLists }
-    ensures keys { WorkedKeys }
+    ensures keys { WorkedKeyLists }
 {}
-
-/// States of RIPEMD-160 and of HMAC over it: what they are kept as, what comes of them, and bytes that are none.
-pub fn worked_states()
-    ensures states { WorkedStates }
-    ensures hmac_states { WorkedHmacStates }
-{
-    ripemd_mac::facts::saved_tag();
-}

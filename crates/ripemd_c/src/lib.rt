@@ -1,90 +1,121 @@
-//! RIPEMD-128, RIPEMD-160, RIPEMD-256 and RIPEMD-320 (1996) for callers in C: digests of messages,
-//! whole and in pieces, digests of many messages, tags (HMAC, RFC 2104), and keys derived from passwords
-//! (PBKDF2, RFC 8018). The variant is a number, the bits of its digests, or is known by a state.
+//! RIPEMD-128, RIPEMD-160, RIPEMD-256 and RIPEMD-320 (1996) for callers in C: the calls of `ripemd_calls`, and
+//! digests, tags and keys of many messages. The variant is a number, the bits of its digests, or is known by
+//! a state.
 //!
 //! C calls these functions through `nattizhu.h`. A name that ends in `_nonnull` takes slices, whose
 //! pointer may not be null; the header has a function without this ending, which may be given a null
 //! pointer and the length 0.
 #![tactic(auto)]
 
-ghost use Rattle.std.specs.Prelude.{◌≡◌, length};
-ghost use Rattle.ripemd.specs.Standard.Hashing.{hash};
-ghost use Rattle.ripemd_c.specs.Variants.{AtVariant, Writes, WritesDigest, digest_size};
-
-// A call of a generic function at the variant whose digests have so many bits: at its hasher, the HMAC
-// over it, or its block function. False if there is none.
-macro_rules! by_variant {
-    ($bits:expr, $call:ident::<Hmac> $arguments:tt) => {
-        match $bits {
-            128 => $call::<Hmac<Ripemd128>> $arguments,
-            160 => $call::<Hmac<Ripemd160>> $arguments,
-            256 => $call::<Hmac<Ripemd256>> $arguments,
-            320 => $call::<Hmac<Ripemd320>> $arguments,
-            _ => false,
-        }
-    };
-    ($bits:expr, $call:ident $arguments:tt) => {
-        match $bits {
-            128 => $call::<Ripemd128> $arguments,
-            160 => $call::<Ripemd160> $arguments,
-            256 => $call::<Ripemd256> $arguments,
-            320 => $call::<Ripemd320> $arguments,
-            _ => false,
-        }
-    };
-}
+ghost use Rattle.std.specs.Prelude.{◌≡◌};
+ghost use Rattle.ripemd_calls.specs.KeptStates.{FinalizesHmac, FinalizesState, InitsHmac, InitsState};
+ghost use Rattle.ripemd_calls.specs.KeptStates.{UpdatesHmac, UpdatesState, VerifiesHmac};
+ghost use Rattle.ripemd_calls.specs.Variants.{AtVariant, VerifiesTag, WritesDigest, WritesTag, digest_size};
 
 pub mod each;
 pub mod facts;
-pub mod hmac;
 pub mod pbkdf2;
-mod states;
-pub mod streams;
 
-use ripemd::{Digest, Ripemd128, Ripemd160, Ripemd256, Ripemd320};
+use ripemd_calls::{hmac, streams};
 
-/// How many bytes the digests and the tags of the variant have; 0 if there is none.
+/// Does what [`ripemd_calls::digest_size`] does.
 #[unsafe(no_mangle)]
 pub extern "C" fn nattizhu_digest_size(variant: u32) -> usize
     ensures { AtVariant variant (λ v. result ≡ digest_size v) (result ≡ 0) }
 {
-    match variant {
-        128 => 16,
-        160 => 20,
-        256 => 32,
-        320 => 40,
-        _ => 0,
-    }
+    ripemd_calls::digest_size(variant)
 }
 
-/// Writes the digest of the message by the variant to `digest`. True exactly if there is such a
-/// variant and `digest` has the size of its digests; otherwise nothing is written.
+/// Does what [`ripemd_calls::digest`] does.
 #[unsafe(no_mangle)]
 pub extern "C" fn nattizhu_digest_nonnull(variant: u32, message: &[u8], digest: &mut [u8]) -> bool
     ensures { WritesDigest variant message.now digest.old digest.new result }
 {
-    by_variant!(variant, write_digest(message, digest))
+    ripemd_calls::digest(variant, message, digest)
 }
 
-// Writes a digest to its place, if that has its size.
-fn write_digest<D: Digest>(message: &[u8], digest: &mut [u8]) -> bool
-    ensures { Writes (length digest.old ≡ D.OUTPUT_SIZE) (hash D.start D.step D.output message.now)
-        digest.old digest.new result }
+/// Does what [`streams::init`] does.
+#[unsafe(no_mangle)]
+pub extern "C" fn nattizhu_init(variant: u32, state: &mut [u8; 113]) -> bool
+    ensures { InitsState variant state.old state.new result }
 {
-    if digest.len() != D::OUTPUT_SIZE {
-        return false;
-    }
-    digest.copy_from_slice(D::output_bytes(&D::digest(message)));
-    true
+    streams::init(variant, state)
 }
 
-// Writes an output to its place, if that has its size.
-fn write(output: &[u8], place: &mut [u8]) -> bool
-    ensures { Writes (length place.old ≡ length output.now) output.now place.old place.new result }
+/// Does what [`streams::update`] does.
+#[unsafe(no_mangle)]
+pub extern "C" fn nattizhu_update_nonnull(state: &mut [u8; 113], bytes: &[u8]) -> bool
+    ensures { UpdatesState state.old bytes.now state.new result }
 {
-    if place.len() != output.len() {
-        return false;
-    }
-    place.copy_from_slice(output);
-    true
+    streams::update(state, bytes)
+}
+
+/// Does what [`streams::finalize`] does.
+#[unsafe(no_mangle)]
+pub extern "C" fn nattizhu_final_nonnull(state: &[u8; 113], digest: &mut [u8]) -> bool
+    ensures { FinalizesState state.now digest.old digest.new result }
+{
+    streams::finalize(state, digest)
+}
+
+/// Does what [`hmac::tag`] does.
+#[unsafe(no_mangle)]
+pub extern "C" fn nattizhu_hmac_nonnull(
+    variant: u32,
+    key: &[u8],
+    text: &[u8],
+    tag: &mut [u8],
+) -> bool
+    ensures { WritesTag variant key.now text.now tag.old tag.new result }
+{
+    hmac::tag(variant, key, text, tag)
+}
+
+/// Does what [`hmac::verify_text`] does.
+#[unsafe(no_mangle)]
+pub extern "C" fn nattizhu_hmac_verify_text_nonnull(
+    variant: u32,
+    key: &[u8],
+    text: &[u8],
+    tag: &[u8],
+) -> bool
+    ensures { VerifiesTag variant key.now text.now tag.now result }
+{
+    hmac::verify_text(variant, key, text, tag)
+}
+
+/// Does what [`hmac::init`] does.
+#[unsafe(no_mangle)]
+pub extern "C" fn nattizhu_hmac_init_nonnull(
+    variant: u32,
+    state: &mut [u8; 225],
+    key: &[u8],
+) -> bool
+    ensures { InitsHmac variant key.now state.old state.new result }
+{
+    hmac::init(variant, state, key)
+}
+
+/// Does what [`hmac::update`] does.
+#[unsafe(no_mangle)]
+pub extern "C" fn nattizhu_hmac_update_nonnull(state: &mut [u8; 225], bytes: &[u8]) -> bool
+    ensures { UpdatesHmac state.old bytes.now state.new result }
+{
+    hmac::update(state, bytes)
+}
+
+/// Does what [`hmac::finalize`] does.
+#[unsafe(no_mangle)]
+pub extern "C" fn nattizhu_hmac_final_nonnull(state: &[u8; 225], tag: &mut [u8]) -> bool
+    ensures { FinalizesHmac state.now tag.old tag.new result }
+{
+    hmac::finalize(state, tag)
+}
+
+/// Does what [`hmac::verify`] does.
+#[unsafe(no_mangle)]
+pub extern "C" fn nattizhu_hmac_verify_nonnull(state: &[u8; 225], tag: &[u8]) -> bool
+    ensures { VerifiesHmac state.now tag.now result }
+{
+    hmac::verify(state, tag)
 }

@@ -2,10 +2,12 @@
 
 ghost use Rattle.ripemd.specs.Standard.Hashing.{hash};
 ghost use Rattle.ripemd_batch.specs.Lanes.{targets};
-ghost use Rattle.ripemd_c.specs.Pbkdf2.{DerivesKey, DerivesKeys, FillsKey, FillsKeys};
+ghost use Rattle.ripemd_calls.specs.Pbkdf2.{DerivesKey, FillsKey};
+ghost use Rattle.ripemd_c.specs.Pbkdf2.{DerivesKeys, FillsKeys};
 
 use ripemd::{Ripemd128, Ripemd160, Ripemd256, Ripemd320};
 use ripemd_batch::{BatchDigest, pbkdf2_hmac, pbkdf2_hmac_each};
+use ripemd_calls::by_variant;
 
 /// Derives a key from a password and a salt by so many rounds, with HMAC over the variant, and fills
 /// `key` with it. False exactly if there is no such variant, there are no rounds, or the key is longer

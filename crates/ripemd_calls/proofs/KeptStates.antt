@@ -1,7 +1,7 @@
 -- Saved bytes tell their state: what is loaded is what was saved, and what follows of it is saved again.
 use Rattle.std.proofs.Common.{◌≡◌, ◌↔◌, ℕ, List, ◌++◌, IsTrue, IsFalse, Bool, true, false, rules, refl, sym, ap, subst, ◌∙◌}
 use Rattle.ripemd.specs.Saved.{IsSaved, IsAppended}
-use Rattle.ripemd_c.specs.KeptStates.{Updates}
+use Rattle.ripemd_calls.specs.KeptStates.{Updates}
 
 module _ {S : Type 0} {is_valid : S → Type 0} {state_bytes : S → List ℕ}
     (injective : (s t : S) → is_valid s → is_valid t → state_bytes s ≡ state_bytes t → s ≡ t)

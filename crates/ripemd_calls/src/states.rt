@@ -5,8 +5,8 @@ ghost use Rattle.std.specs.Prelude.{◌≡◌, ◌↔◌, ℕ, ◌+◌, ◌-◌,
 ghost use Rattle.ripemd.specs.Saved.{IsSaved};
 ghost use Rattle.ripemd.specs.States.{initial_state};
 ghost use Rattle.ripemd_mac.specs.Hmac.{keyed_state};
-ghost use Rattle.ripemd_c.specs.KeptStates.{Updates, WithOutput, saved_in};
-ghost use Rattle.ripemd_c.specs.Variants.{Refuses, Writes};
+ghost use Rattle.ripemd_calls.specs.KeptStates.{Updates, WithOutput, saved_in};
+ghost use Rattle.ripemd_calls.specs.Variants.{Refuses, Writes};
 
 use crate::write;
 use ripemd::block_api::ByteArray;

@@ -3,8 +3,8 @@
 ghost use Rattle.std.specs.Prelude.{◌≡◌, ◌↔◌, length, IsTrue};
 ghost use Rattle.ripemd.specs.Standard.Hashing.{hash};
 ghost use Rattle.ripemd_mac.specs.Hmac.{StandsFor, hmac};
-ghost use Rattle.ripemd_c.specs.KeptStates.{FinalizesHmac, InitsHmac, UpdatesHmac, VerifiesHmac};
-ghost use Rattle.ripemd_c.specs.Variants.{VerifiesTag, Writes, WritesTag};
+ghost use Rattle.ripemd_calls.specs.KeptStates.{FinalizesHmac, InitsHmac, UpdatesHmac, VerifiesHmac};
+ghost use Rattle.ripemd_calls.specs.Variants.{VerifiesTag, Writes, WritesTag};
 
 use crate::states::{final_kept, init_kept, update_kept, verify_kept};
 use crate::write;
@@ -14,13 +14,7 @@ use ripemd_mac::Hmac;
 
 /// Writes the tag of the text under the key by the variant to `tag`. True exactly if there is such a
 /// variant and `tag` has the size of its digests; otherwise nothing is written.
-#[unsafe(no_mangle)]
-pub extern "C" fn nattizhu_hmac_nonnull(
-    variant: u32,
-    key: &[u8],
-    text: &[u8],
-    tag: &mut [u8],
-) -> bool
+pub fn tag(variant: u32, key: &[u8], text: &[u8], tag: &mut [u8]) -> bool
     ensures { WritesTag variant key.now text.now tag.old tag.new result }
 {
     by_variant!(variant, write_tag(key, text, tag))
@@ -28,26 +22,15 @@ pub extern "C" fn nattizhu_hmac_nonnull(
 
 /// Whether there is such a variant and these bytes are the tag of the text under the key by it, all of
 /// them. It compares all bytes of a tag of the right length, whatever they are.
-#[unsafe(no_mangle)]
-pub extern "C" fn nattizhu_hmac_verify_text_nonnull(
-    variant: u32,
-    key: &[u8],
-    text: &[u8],
-    tag: &[u8],
-) -> bool
+pub fn verify_text(variant: u32, key: &[u8], text: &[u8], tag: &[u8]) -> bool
     ensures { VerifiesTag variant key.now text.now tag.now result }
 {
-    by_variant!(variant, verify_text(key, text, tag))
+    by_variant!(variant, is_tag(key, text, tag))
 }
 
 /// Writes the HMAC state of the key and the empty text by the variant. False exactly if there is none, and
 /// then nothing is written.
-#[unsafe(no_mangle)]
-pub extern "C" fn nattizhu_hmac_init_nonnull(
-    variant: u32,
-    state: &mut [u8; 225],
-    key: &[u8],
-) -> bool
+pub fn init(variant: u32, state: &mut [u8; 225], key: &[u8]) -> bool
     ensures { InitsHmac variant key.now state.old state.new result }
 {
     by_variant!(
@@ -58,8 +41,7 @@ pub extern "C" fn nattizhu_hmac_init_nonnull(
 
 /// Appends bytes to the text. False exactly if these are the bytes of no HMAC state, and then nothing is
 /// written.
-#[unsafe(no_mangle)]
-pub extern "C" fn nattizhu_hmac_update_nonnull(state: &mut [u8; 225], bytes: &[u8]) -> bool
+pub fn update(state: &mut [u8; 225], bytes: &[u8]) -> bool
     ensures { UpdatesHmac state.old bytes.now state.new result }
 {
     let bits = 8 * state[0].saturating_sub(128) as u32;
@@ -68,8 +50,7 @@ pub extern "C" fn nattizhu_hmac_update_nonnull(state: &mut [u8; 225], bytes: &[u
 
 /// Writes the tag of the text so far to `tag`. True exactly if these are the bytes of an HMAC state, and
 /// `tag` has the size of its tags; otherwise nothing is written.
-#[unsafe(no_mangle)]
-pub extern "C" fn nattizhu_hmac_final_nonnull(state: &[u8; 225], tag: &mut [u8]) -> bool
+pub fn finalize(state: &[u8; 225], tag: &mut [u8]) -> bool
     ensures { FinalizesHmac state.now tag.old tag.new result }
 {
     let bits = 8 * state[0].saturating_sub(128) as u32;
@@ -78,8 +59,7 @@ pub extern "C" fn nattizhu_hmac_final_nonnull(state: &[u8; 225], tag: &mut [u8])
 
 /// Whether these bytes are the tag of the text so far, all of them. False too if these are the bytes of no
 /// HMAC state.
-#[unsafe(no_mangle)]
-pub extern "C" fn nattizhu_hmac_verify_nonnull(state: &[u8; 225], tag: &[u8]) -> bool
+pub fn verify(state: &[u8; 225], tag: &[u8]) -> bool
     ensures { VerifiesHmac state.now tag.now result }
 {
     let bits = 8 * state[0].saturating_sub(128) as u32;
@@ -95,7 +75,7 @@ fn write_tag<D: BlockDigest>(key: &[u8], text: &[u8], tag: &mut [u8]) -> bool
 }
 
 // Whether these bytes are the tag of a text that is there as a whole, all of them.
-fn verify_text<D: BlockDigest>(key: &[u8], text: &[u8], tag: &[u8]) -> bool
+fn is_tag<D: BlockDigest>(key: &[u8], text: &[u8], tag: &[u8]) -> bool
     ensures { IsTrue result ↔ (tag.now ≡ hmac (hash D.start D.step D.output) key.now text.now) }
 {
     mac_of::<D>(key, text).verify(tag)

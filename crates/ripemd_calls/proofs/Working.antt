@@ -1,7 +1,7 @@
 -- From what a definition says that a call does to what it does with some values.
 use Rattle.std.proofs.Common.{◌≡◌, ℕ, List, IsTrue, IsFalse, Bool, true, false, rules, ap, ◌∙◌}
 use Rattle.ripemd.specs.Published.{hexadecimal}
-use Rattle.ripemd_c.specs.Variants.{Writes, Refuses}
+use Rattle.ripemd_calls.specs.Variants.{Writes, Refuses}
 
 -- what fits is written
 pub written : {Fits : Type 0} {output old new wanted : List ℕ} {done : Bool} → Fits → hexadecimal output ≡ wanted

@@ -1,6 +1,6 @@
 use Rattle.std.proofs.Common.{ℕ, drop, rules, sym, ap, ◌∙◌}
 use Rattle.std.proofs.lemmas.List.{drop_at, drop-drop}
-use Rattle.ripemd_c.proofs.states.update_kept.Goals as goal
+use Rattle.ripemd_calls.proofs.states.update_kept.Goals as goal
 
 pub returns-clause-behind : goal.returns-clause-behind
 returns-clause-behind g c =

@@ -1,6 +1,6 @@
 use Rattle.std.proofs.Common.{◌∙◌}
-use Rattle.ripemd_c.proofs.KeptStates.{updates}
-use Rattle.ripemd_c.proofs.states.update_loaded.Goals as goal
+use Rattle.ripemd_calls.proofs.KeptStates.{updates}
+use Rattle.ripemd_calls.proofs.states.update_loaded.Goals as goal
 
 pub returns-in-Ok-clause-updates : goal.returns-in-Ok-clause-updates
 returns-in-Ok-clause-updates g c =

@@ -1,5 +1,5 @@
-use Rattle.ripemd_c.proofs.KeptStates.{appended}
-use Rattle.ripemd_c.proofs.states.update_saved.Goals as goal
+use Rattle.ripemd_calls.proofs.KeptStates.{appended}
+use Rattle.ripemd_calls.proofs.states.update_saved.Goals as goal
 
 pub returns-then-append_saved-clause-updates : goal.returns-then-append_saved-clause-updates
 returns-then-append_saved-clause-updates g c =

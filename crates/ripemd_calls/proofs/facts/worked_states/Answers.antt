@@ -7,10 +7,10 @@ use Rattle.ripemd.specs.States.{HashState, IsState, new_state, fed, output_and_c
 use Rattle.ripemd_block.specs.Laws.Saved.{word_bytes_output, length-output_and_count, length-core_and_tail, core_and_tail-split}
 use Rattle.ripemd_mac.specs.Hmac.{KeyedState, key_block, inner_message, outer_message, hmac, keyed_state, fed_text}
 use Rattle.ripemd_mac.specs.Worked.{saved_inner, saved_outer}
-use Rattle.ripemd_c.specs.KeptStates.{IsSavedState, IsSavedHmac}
-use Rattle.ripemd_c.specs.Worked.{forged, key}
-use Rattle.ripemd_c.proofs.Working.{written, refused, not_answered}
-use Rattle.ripemd_c.proofs.facts.worked_states.Goals as goal
+use Rattle.ripemd_calls.specs.KeptStates.{IsSavedState, IsSavedHmac}
+use Rattle.ripemd_calls.specs.Worked.{forged, key}
+use Rattle.ripemd_calls.proofs.Working.{written, refused, not_answered}
+use Rattle.ripemd_calls.proofs.facts.worked_states.Goals as goal
 
 -- the hash state
 abbrev after : HashState

@@ -9,7 +9,7 @@ use Rattle.ripemd.specs.States.{HashState, AreWords, IsState, new_state, fed, fi
 use Rattle.ripemd.specs.Saved.{IsSaved}
 use Rattle.ripemd_mac.specs.Hmac.{KeyedState, hmac, keyed_state, fed_text, tag_of}
 use Rattle.ripemd_mac.specs.Saved.{IsKeyedState, hmac_bytes}
-use Rattle.ripemd_c.specs.Variants.{AtVariant, ByVariant, Refuses, Writes, digest_size}
+use Rattle.ripemd_calls.specs.Variants.{AtVariant, ByVariant, Refuses, Writes, digest_size}
 
 -- ---- states
 

@@ -7,12 +7,11 @@ use Rattle.ripemd.specs.Standard.Hashing.{with_padding, blocks, hash, ripemd}
 use Rattle.ripemd.specs.States.{new_state}
 use Rattle.ripemd_mac.specs.Hmac.{key_block, inner_message, outer_message, hmac}
 use Rattle.ripemd_mac.specs.Pbkdf2.{U, F, pbkdf2}
-use Rattle.ripemd_batch.specs.Pbkdf2.{pbkdf2_each}
-use Rattle.ripemd_c.specs.Variants.{digest_size, variant_of}
-use Rattle.ripemd_c.specs.KeptStates.{InitsState, UpdatesState, FinalizesState}
-use Rattle.ripemd_c.specs.Worked.{Gives, abc}
-use Rattle.ripemd_c.proofs.Working.{written, refused, not_answered}
-use Rattle.ripemd_c.proofs.facts.worked_calls.Goals as goal
+use Rattle.ripemd_calls.specs.Variants.{digest_size, variant_of}
+use Rattle.ripemd_calls.specs.KeptStates.{InitsState, UpdatesState, FinalizesState}
+use Rattle.ripemd_calls.specs.Worked.{Gives, abc}
+use Rattle.ripemd_calls.proofs.Working.{written, refused, not_answered}
+use Rattle.ripemd_calls.proofs.facts.worked_calls.Goals as goal
 
 -- a piece that is "abc", after the start
 pieces : (bits : ℕ) (v : Parameters) {digest : List ℕ} (any first next : List ℕ) (begun fed : Bool) → variant_of bits ≡ Some v
@@ -51,38 +50,14 @@ returns-clause-tags c = record {
   no_variant = λ answer does. does;
 }
 
-pub returns-clause-lists : goal.returns-clause-lists
-unfolding registers_after lines_after compress with_padding blocks hash key_block inner_message outer_message hmac
-returns-clause-lists c = record {
-  records = λ new done does. written (refl, refl) refl does;
-  no_records = λ new done does. written (refl, refl) refl does;
-  empty_records = λ new done does. written (refl, refl) refl does;
-  few_bytes = λ new done does. refused done (λ fits. absurd (omega (arith, fits.1))) does;
-  more_bytes = λ new done does. refused done (λ fits. absurd (omega (arith, fits.1))) does;
-  little_room = λ new done does. refused done (λ fits. absurd (omega (arith, fits.0))) does;
-  list = λ new done does. written refl refl does;
-  no_messages = λ new done does. written refl refl does;
-  less_room = λ new done does. refused done (λ fits. absurd (omega (arith, fits))) does;
-  tags_of_records = λ new done does. written (refl, refl) refl does;
-  tags = λ new done does. written refl refl does;
-}
-
 pub returns-clause-keys : goal.returns-clause-keys
-unfolding registers_after lines_after compress with_padding blocks hash key_block inner_message outer_message hmac U F pbkdf2 pbkdf2_each
+unfolding registers_after lines_after compress with_padding blocks hash key_block inner_message outer_message hmac U F pbkdf2
 returns-clause-keys c = record {
   no_rounds = λ new done does. refused done (λ fits. absurd (fits.0 refl)) does;
-  no_rounds_of_none = λ new done does. refused done (λ fits. absurd (fits.0.0 refl)) does;
   one_round = λ new done does. written (search rules, omega arith) refl does;
   two_rounds = λ new done does. written (search rules, omega arith) refl does;
   longest = λ old new done size does. does.fits.1 (search rules, omega (arith, size));
   too_long = λ old new done size does. refused done (λ fits. absurd (omega (arith, size, fits.1))) does;
   no_bytes = λ new done does. written (search rules, omega arith) refl does;
-  list = λ new done does. written ((search rules, omega arith), refl, refl) refl does;
-  no_passwords = λ new done does. written ((search rules, omega arith), refl, refl) refl does;
-  longest_of_none = λ new done does. written ((search rules, omega arith), refl, refl) refl does;
-  too_long_of_none = λ new done does. refused done (λ fits. absurd (omega (arith, fits.0.1))) does;
-  other_room = λ new done does. refused done (λ fits. absurd (omega (arith, fits.2))) does;
-  one_salt = λ new done does. refused done (λ fits. absurd (omega (arith, fits.1))) does;
   blocks = λ new done does. written (search rules, omega arith) refl does;
-  blocks_of_list = λ new done does. written ((search rules, omega arith), refl, refl) refl does;
 }

@@ -1,0 +1,8 @@
+-- Keys derived from passwords.
+pub mod Pbkdf2
+-- The saved bytes of hash states and of HMAC states.
+pub mod KeptStates
+-- The variants by number, and what calls do at one.
+pub mod Variants
+-- Worked examples of these.
+pub mod Worked

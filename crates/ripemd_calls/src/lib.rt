@@ -1,0 +1,84 @@
+//! Calls of RIPEMD-128, RIPEMD-160, RIPEMD-256 and RIPEMD-320 (1996) whose variant is a number, the bits of its
+//! digests, or is known by a state: digests of messages, whole and in pieces, tags (HMAC, RFC 2104), and keys
+//! derived from passwords (PBKDF2, RFC 8018). The libraries for callers in other languages stand on them.
+#![tactic(auto)]
+
+ghost use Rattle.std.specs.Prelude.{◌≡◌, length};
+ghost use Rattle.ripemd.specs.Standard.Hashing.{hash};
+ghost use Rattle.ripemd_calls.specs.Variants.{AtVariant, Writes, WritesDigest, digest_size};
+
+/// A call of a generic function at the variant whose digests have so many bits, at its hasher or the HMAC over
+/// it. False if there is none. Whoever uses it has the names of the hashers in scope, and of `Hmac`.
+#[macro_export]
+macro_rules! by_variant {
+    ($bits:expr, $call:ident::<Hmac> $arguments:tt) => {
+        match $bits {
+            128 => $call::<Hmac<Ripemd128>> $arguments,
+            160 => $call::<Hmac<Ripemd160>> $arguments,
+            256 => $call::<Hmac<Ripemd256>> $arguments,
+            320 => $call::<Hmac<Ripemd320>> $arguments,
+            _ => false,
+        }
+    };
+    ($bits:expr, $call:ident $arguments:tt) => {
+        match $bits {
+            128 => $call::<Ripemd128> $arguments,
+            160 => $call::<Ripemd160> $arguments,
+            256 => $call::<Ripemd256> $arguments,
+            320 => $call::<Ripemd320> $arguments,
+            _ => false,
+        }
+    };
+}
+
+pub mod facts;
+pub mod hmac;
+pub mod pbkdf2;
+mod states;
+pub mod streams;
+
+use ripemd::{Digest, Ripemd128, Ripemd160, Ripemd256, Ripemd320};
+
+/// How many bytes the digests and the tags of the variant have; 0 if there is none.
+pub fn digest_size(variant: u32) -> usize
+    ensures { AtVariant variant (λ v. result ≡ digest_size v) (result ≡ 0) }
+{
+    match variant {
+        128 => 16,
+        160 => 20,
+        256 => 32,
+        320 => 40,
+        _ => 0,
+    }
+}
+
+/// Writes the digest of the message by the variant to `digest`. True exactly if there is such a
+/// variant and `digest` has the size of its digests; otherwise nothing is written.
+pub fn digest(variant: u32, message: &[u8], digest: &mut [u8]) -> bool
+    ensures { WritesDigest variant message.now digest.old digest.new result }
+{
+    by_variant!(variant, write_digest(message, digest))
+}
+
+// Writes a digest to its place, if that has its size.
+fn write_digest<D: Digest>(message: &[u8], digest: &mut [u8]) -> bool
+    ensures { Writes (length digest.old ≡ D.OUTPUT_SIZE) (hash D.start D.step D.output message.now)
+        digest.old digest.new result }
+{
+    if digest.len() != D::OUTPUT_SIZE {
+        return false;
+    }
+    digest.copy_from_slice(D::output_bytes(&D::digest(message)));
+    true
+}
+
+// Writes an output to its place, if that has its size.
+fn write(output: &[u8], place: &mut [u8]) -> bool
+    ensures { Writes (length place.old ≡ length output.now) output.now place.old place.new result }
+{
+    if place.len() != output.len() {
+        return false;
+    }
+    place.copy_from_slice(output);
+    true
+}
