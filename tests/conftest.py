@@ -72,6 +72,13 @@ def version():
     return re.search(r'^#define NATTIZHU_VERSION "(.*)"$', header, re.MULTILINE)[1]
 
 
+def pytest_terminal_summary(terminalreporter):
+    """Says which browsers and which Node.js there are."""
+    found = [run(tool, "--version", status=None).stdout.strip() for tool in ("chromium", "firefox-esr", "node")
+             if shutil.which(tool)]
+    terminalreporter.write_line(f"On this machine: {', '.join(found) or 'no browser'}.")
+
+
 @pytest.fixture(scope="session")
 def once(tmp_path_factory):
     """Does something in a folder once for all processes that run the tests (pytest-xdist), and returns the
@@ -118,6 +125,19 @@ def library(once):
 
     once("library", build)
     return BUILT
+
+
+@pytest.fixture(scope="session")
+def javascript(once):
+    """A folder with the package for JavaScript and the page, which build/crate and build/js make."""
+    for tool, package in [("node", "nodejs"), ("npm", "npm"), ("wasm-opt", "binaryen")]:
+        need(tool, package)
+
+    def build(folder):
+        run("build/crate", "ripemd_js", "wasm64-unknown-unknown")
+        run("build/js", folder)
+
+    return once("javascript", build)
 
 
 @pytest.fixture(scope="session")

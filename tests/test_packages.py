@@ -1,5 +1,5 @@
-"""Tries what `make dist` makes, and uses it in a fresh Debian that has a C compiler, pkg-config and python3, and no
-toolchain. Without root or debootstrap, the archive and the wheel are used on this machine."""
+"""Tries what `make dist` makes, and uses it in a fresh Debian that has a C compiler, pkg-config, python3 and nodejs,
+and no toolchain. Without root or debootstrap, the archive and the wheel are used on this machine."""
 import concurrent.futures
 import os
 import platform
@@ -7,7 +7,7 @@ import re
 import shutil
 
 import pytest
-from conftest import ABC, ROOT, need, need_arm64, programs, run, version
+from conftest import ABC, DATA, ROOT, need, need_arm64, programs, run, version
 
 ARCHIVE = f"nattizhu-{version()}-linux-x86_64"
 PAGES = {"x86_64": ["nattizhu.3", "ripemd_sum.1"], "aarch64": ["nattizhu.3"]}
@@ -24,7 +24,7 @@ def bootstrap(folder):
     if os.geteuid() != 0:
         pytest.skip("debootstrap needs root")
     need("debootstrap", "debootstrap")
-    made = run("debootstrap", "--variant=minbase", "--include=gcc,libc6-dev,pkg-config,python3,python3-venv",
+    made = run("debootstrap", "--variant=minbase", "--include=gcc,libc6-dev,nodejs,pkg-config,python3,python3-venv",
                platform.freedesktop_os_release()["VERSION_CODENAME"], folder, status=None)
     if made.returncode != 0:
         pytest.skip("there is no fresh Debian: " + (made.stdout + made.stderr).strip().rpartition("\n")[2])
@@ -42,7 +42,7 @@ def fixture_debian(request, library, program, once):
 
 
 @pytest.fixture(name="dist", scope="module")
-def fixture_dist(library, program, once):
+def fixture_dist(library, program, javascript, once):
     return once("dist", lambda folder: run("build/dist", folder))
 
 
@@ -50,7 +50,7 @@ def fixture_dist(library, program, once):
 def fixture_again(dist, once):
     """What build/dist makes of the same tree and of what is built, copied to another folder."""
     copy = """mkdir -p "$0" && { git ls-files -z --cached --others --exclude-standard &&
-      find .git crates/ripemd_c/out/{lib,glibc,aarch64}* crates/ripemd_sum/out/x86-64/ripemd_sum -type f -print0; } |
+      find .git crates/ripemd_{c/out/{lib,glibc,aarch64}*,js/out/wasm64*,sum/out/x86-64/ripemd_sum} -type f -print0; } |
       xargs -0 cp --parents -t "$0"; "$0/build/dist" "$0/dist" """
     return once("again", lambda folder: run("bash", "-c", copy, folder)) / "dist"
 
@@ -82,7 +82,8 @@ def test_same_bytes_from_another_folder(dist, again):
 
 def test_digests_of_the_files(dist):
     run("sha256sum", "--quiet", "-c", "SHA256SUMS", cwd=dist)
-    assert sorted(["SHA256SUMS", *(dist / "SHA256SUMS").read_text().split()[1::2]]) == sorted(os.listdir(dist))
+    files = [str(path.relative_to(dist)) for path in dist.rglob("*") if path.is_file()]
+    assert sorted(["SHA256SUMS", *(dist / "SHA256SUMS").read_text().split()[1::2]]) == sorted(files)
 
 
 def test_lintian(debs):
@@ -127,6 +128,8 @@ def fixture_shell(debian, dist, tmp_path_factory):
     """Runs a command in the fresh Debian, or here, beside the files of `dist` and the first programs of the pages."""
     root = tmp_path_factory.mktemp("here") if debian.exception() else debian.result()
     folder = shutil.copytree(dist, root / f"a folder/{os.getpid()}", dirs_exist_ok=True)
+    shutil.copytree(ROOT / "js/test", folder / "project")
+    shutil.copytree(DATA, folder / "data")
     (folder / "first.c").write_text(programs("docs/C.md", "c")[0][0])
     (folder / "first.py").write_text(programs("docs/PYTHON.md", "python")[0][0] + "print(hasher.hexdigest())\n")
     enter = ["chroot", root, "env", "-i", "-C", f"/a folder/{os.getpid()}", "PATH=/usr/sbin:/usr/bin:/sbin:/bin",
@@ -187,6 +190,14 @@ def test_first_program_with_the_wheel(shell, python):
 
 def test_build_that_the_wheel_takes(shell, python):
     assert shell(f"{python} -c 'import nattizhu._nattizhu as n; print(n._level)'") == newest() + "\n"
+
+
+def test_javascript_package(shell):
+    """Its tests, under Debian's Node.js."""
+    shell("command -v node", lacking="node (Debian's nodejs)")
+    shell("mkdir project/node_modules && tar -xf *.tgz -C project/node_modules --transform s/package/nattizhu/")
+    shell("""echo '{"type": "module"}' >project/package.json""")
+    assert "# fail 0\n# cancelled 0\n# skipped 0\n" in shell("cd project && NATTIZHU_DATA=../data node --test *.test.js")
 
 
 def test_debian_packages(debian, shell, debs):

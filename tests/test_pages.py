@@ -20,6 +20,7 @@ PROVED = {
 # What names the version beside nattizhu.h, from which everything else has it.
 VERSIONS = {
     "rust/Cargo.toml": r'^version = "(.*)"$',
+    "js/package.json": r'^  "version": "(.*)",$',
     "CHANGELOG.md": r"^## (.*)$",
     "debian/changelog": r"^nattizhu \((.*)-[0-9]*\) ",
 }

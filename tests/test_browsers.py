@@ -1,0 +1,399 @@
+"""Tries the page that hashes files, and the package on a page of its own, in the browsers that the machine has. The
+page is served from a folder; each request is recorded, and each violation of the page's policy."""
+import contextlib
+import functools
+import http.server
+import json
+import os
+import pathlib
+import re
+import shutil
+import threading
+import time
+
+import pytest
+from browsers import BROWSERS, lacks
+from conftest import ABC, lines, version
+
+VARIANTS = (128, 160, 256, 320)
+# The file `big`: 300 MiB whose pieces of 1 MiB begin with their number and are otherwise zeros, and "end". Its
+# digests are those of mhash 0.9.9.9 and of LibTomCrypt 1.18.2, as Debian 12 packages them; RIPEMD-160 is OpenSSL's,
+# too.
+MEBIBYTES = 300
+BIG = ["39adc82d71ce33e94c8448fccd9e9a1e", "776730696fe49628875a1afc68058386b66eaeab",
+       "ebf3859b2bf7302e243eebd4009157c543da2148392393ccae7ac9b795c04122",
+       "a6be7f789fb71e8b6d4b52153b813c1572540538613c0f05a49ae65790072a174710e282f6319873"]
+# Of no bytes, and of one byte that is zero.
+EMPTY, ONE = ([dict(lines(f"digests-{bits}.txt"))[length] for bits in VARIANTS] for length in "01")
+
+
+@pytest.fixture(name="page", scope="session")
+def fixture_page(javascript):
+    """The folder of the page."""
+    return javascript / f"nattizhu-{version()}-page"
+
+
+class Handler(http.server.SimpleHTTPRequestHandler):
+    """Serves a folder, and pages of a test. The policy of the page is sent a second time as a header, with a
+    place for reports."""
+    extensions_map = {".html": "text/html", ".css": "text/css", ".js": "text/javascript", ".wasm": "application/wasm"}
+
+    def log_message(self, *_):
+        pass
+
+    def do_GET(self):
+        self.server.requests.append(self.path)
+        if self.path not in self.server.texts:
+            super().do_GET()
+            return
+        self.send_response(200)
+        self.send_header("Content-Type", self.guess_type(self.path))
+        self.end_headers()
+        self.wfile.write(self.server.texts[self.path].encode())
+
+    def do_POST(self):
+        self.server.reports.append(json.loads(self.rfile.read(int(self.headers["Content-Length"]))))
+        self.send_response(204)
+        self.end_headers()
+
+    def end_headers(self):
+        if self.path.endswith(("/", ".html")):
+            self.send_header("Content-Security-Policy-Report-Only", f"{self.server.policy}; report-uri /reports")
+        super().end_headers()
+
+
+class Site(http.server.ThreadingHTTPServer):
+    """A server of the page's folder, with what it was asked for."""
+
+    def __init__(self, folder):
+        super().__init__(("127.0.0.1", 0), functools.partial(Handler, directory=folder))
+        self.address = f"http://127.0.0.1:{self.server_port}/"
+        self.requests, self.reports, self.texts = [], [], {}
+        self.policy = re.search('http-equiv="Content-Security-Policy" content="(.*?)"',
+                                (folder / "index.html").read_text("utf-8"))[1]
+        threading.Thread(target=self.serve_forever, args=(0.05,)).start()
+
+    def stop(self):
+        self.shutdown()
+        self.server_close()
+
+
+@pytest.fixture(name="site")
+def fixture_site(page):
+    site = Site(page)
+    yield site
+    if site.socket.fileno() >= 0:
+        site.stop()
+
+
+def start(name, folder, **options):
+    """A browser, or a skip that says what lacks."""
+    if lack := lacks(name):
+        pytest.skip(lack)
+    return BROWSERS[name](folder, **options)
+
+
+@pytest.fixture(name="browser", scope="module", params=BROWSERS)
+def fixture_browser(request, tmp_path_factory):
+    with start(request.param, tmp_path_factory.mktemp("browser") / "profile") as browser:
+        yield browser
+
+
+class Page:
+    """The page as a browser shows it, and what a user does with it."""
+
+    def __init__(self, browser, site):
+        self.browser, self.run, self.press = browser, browser.run, browser.press
+        browser.go(site.address)
+
+    def choose(self, *files):
+        self.browser.choose("#files", *files)
+
+    def expect(self, text):
+        """Writes the expected digests, and returns what the page says of them."""
+        return self.run("""const place = document.getElementById('expected');
+            place.value = args[0];
+            place.dispatchEvent(new Event('input'));
+            return document.getElementById('reading').textContent;""", text)
+
+    def ended(self, number):
+        """Waits until so many files are through. Returns for each its name, what is said, and the digests."""
+        return self.run("""for (;;) {
+            const cards = [...document.querySelectorAll('article')];
+            const texts = (card, what) => [...card.querySelectorAll(what)].map((found) => found.textContent);
+            if (cards.length === args[0] && cards.every((card) => card.querySelector('.work').hidden)) {
+              return cards.map((card) => [...texts(card, 'h3'), texts(card, '.outcome p'), texts(card, 'code')]);
+            }
+            await new Promise((resolve) => setTimeout(resolve, 20));
+          }""", number)
+
+    def verdicts(self, number):
+        return [said[1:] for _, said, _ in self.ended(number)]
+
+    def problem(self):
+        """Waits until the page says why it does not work."""
+        return self.run("""const place = document.getElementById('problem');
+            while (place.hidden) await new Promise((resolve) => setTimeout(resolve, 20));
+            return place.textContent;""")
+
+    def begun(self):
+        """Waits until a file is being read, and returns its place on the bar."""
+        return self.run("""for (;;) {
+            const bar = document.querySelector('.work:not([hidden]) progress');
+            if (bar?.value) return bar.value;
+            await new Promise((resolve) => setTimeout(resolve, 20));
+          }""")
+
+
+@pytest.fixture(name="shown")
+def fixture_shown(browser, site, page):
+    """The page, which asks for its own files alone and keeps to its policy."""
+    yield Page(browser, site)
+    assert set(site.requests) <= {"/", *(f"/{path.relative_to(page)}" for path in page.rglob("*"))}
+    assert site.reports == []
+
+
+@pytest.fixture(name="files", scope="session")
+def fixture_files(once):
+    """A folder of files."""
+
+    def write(folder):
+        folder.mkdir()
+        (folder / "empty").touch()
+        (folder / "one").write_bytes(b"\0")
+        (folder / "abc").write_text("abc")
+        with (folder / "big").open("wb") as file:
+            for number in range(MEBIBYTES):
+                file.seek(number << 20)
+                file.write(number.to_bytes(2, "big"))
+            file.seek(MEBIBYTES << 20)
+            file.write(b"end")
+
+    return once("files", write)
+
+
+def test_small_files(shown, files):
+    shown.choose(files / "one", files / "empty")
+    assert shown.ended(2) == [["one", ["read"], ONE], ["empty", ["read"], EMPTY]]
+    shown.choose(files / "one")
+    assert shown.ended(3)[2] == ["one", ["read"], ONE]
+
+
+def memory(parent):
+    """How many bytes a process and all below it hold."""
+    below = {}
+    for status in pathlib.Path("/proc").glob("[0-9]*/status"):
+        with contextlib.suppress(OSError):
+            words = dict(line.split(":", 1) for line in status.read_text().splitlines() if ":" in line)
+            below.setdefault(int(words["PPid"]), []).append(int(words["Pid"]))
+    family = [parent]
+    for pid in family:
+        family += below.get(pid, [])
+    total = 0
+    for pid in family:
+        with contextlib.suppress(OSError):
+            total += int(re.search("^Pss: +([0-9]+)", pathlib.Path(f"/proc/{pid}/smaps_rollup").read_text(), re.M)[1])
+    return total << 10
+
+
+def test_big_file(shown, files):
+    """The bar moves on, the browser's memory does not hold the file, and the digests are those of other
+    implementations."""
+    shown.choose(files / "one")
+    shown.ended(1)
+    before, most, places = memory(shown.browser.process.pid), 0, []
+    shown.choose(files / "big")
+    while not places or places[-1] < MEBIBYTES << 19:
+        places.append(shown.begun())
+        most = max(most, memory(shown.browser.process.pid))
+        time.sleep(0.1)
+    [name, said, digests] = shown.ended(2)[1]
+    assert (name, digests) == ("big", BIG)
+    assert re.fullmatch("read in [0-9.]+ s, [0-9]+ MB/s", said[0])
+    assert places == sorted(places) and len(set(places)) > 3
+    assert most - before < MEBIBYTES << 19
+
+
+WRONG = ABC.replace("8", "9")
+EXPECTED = [
+    # What is pasted, what is said of it, and of the files abc and one.
+    (f"  {ABC.upper()}\n", "1 digest: RIPEMD-160", ["✓ matches RIPEMD-160"], ["✗ does not match RIPEMD-160"]),
+    (WRONG, "1 digest: RIPEMD-160", ["✗ does not match RIPEMD-160"], ["✗ does not match RIPEMD-160"]),
+    (f"{WRONG}  folder/abc\n{ONE[1]} *folder\\one", "2 digests: RIPEMD-160",
+     ["✗ does not match RIPEMD-160"], ["✓ matches RIPEMD-160"]),
+    (f"RIPEMD160 (abc) = {ABC}\r\nRMD160 (one) = {ONE[1]}", "2 digests: RIPEMD-160",
+     ["✓ matches RIPEMD-160"], ["✓ matches RIPEMD-160"]),
+    (f"RIPEMD-160(other)= {ABC}", "1 digest: RIPEMD-160",
+     ["✓ matches RIPEMD-160 of other"], ["✗ does not match RIPEMD-160 of other"]),
+    (f"{ABC}  v1/abc\n{WRONG}  v2/abc", "2 digests: RIPEMD-160",
+     ["✓ matches RIPEMD-160 of v1/abc"], ["✗ does not match any of 2 digests by RIPEMD-160"]),
+    (f"{WRONG}\n{ABC}  other", "2 digests: RIPEMD-160",
+     ["✗ does not match RIPEMD-160; the line of other has this digest"], ["✗ does not match RIPEMD-160"]),
+    (f"{ABC}  b\n{WRONG}  c", "2 digests: RIPEMD-160",
+     ["✓ matches RIPEMD-160 of b"], ["✗ does not match any of 2 digests by RIPEMD-160"]),
+    ("\n".join([ABC, *ONE]), "5 digests: RIPEMD-160, RIPEMD-128, RIPEMD-256, RIPEMD-320",
+     ["✗ does not match RIPEMD-128", "✓ matches RIPEMD-160", "✗ does not match RIPEMD-256",
+      "✗ does not match RIPEMD-320"],
+     [f"✓ matches RIPEMD-{bits}" for bits in VARIANTS]),
+    (f"{ABC[1:]}\nhello", "line 1 is no digest: it has 39 digits, not 32, 40, 64 or 80; line 2 is no digest", [], []),
+    (f"SHA1 (abc) = {ABC}", "line 1 is no digest by RIPEMD but by SHA1", [], []),
+    (f"RIPEMD128 (abc) = {ABC}", "line 1 is no digest by RIPEMD-128: it has 40 digits", [], []),
+    ("", "", [], []),
+]
+
+
+def test_expected_after_and_before(shown, files):
+    shown.choose(files / "abc", files / "one")
+    shown.ended(2)
+    for text, said, abc, one in EXPECTED:
+        assert (shown.expect(text), shown.verdicts(2)) == (said, [abc, one])
+    shown.expect(f"{ABC}  abc")
+    shown.choose(files / "abc")
+    assert shown.verdicts(3)[2] == ["✓ matches RIPEMD-160"]
+
+
+def test_cancelled(shown, files):
+    """It is cancelled in the middle, and so is a file that waits; another one works."""
+    shown.choose(files / "big", files / "abc")
+    shown.begun()
+    shown.run("for (const button of document.querySelectorAll('article button')) button.click()")
+    assert shown.ended(2) == [["big", ["cancelled"], []], ["abc", ["cancelled"], []]]
+    begun = time.monotonic()
+    shown.choose(files / "one")
+    assert shown.ended(3)[2] == ["one", ["read"], ONE]
+    assert time.monotonic() - begun < 2
+
+
+def test_file_that_is_removed(shown, tmp_path, files):
+    """It is removed before its turn comes."""
+    (tmp_path / "gone").write_text("abc")
+    shown.choose(files / "big", tmp_path / "gone", files / "one")
+    shown.begun()
+    (tmp_path / "gone").unlink()
+    shown.run("document.querySelector('article button').click()")
+    _, gone, one = shown.ended(3)
+    assert gone[1][0].startswith("✗ could not be read: ") and gone[2] == []
+    assert one[2] == ONE
+
+
+def test_file_that_is_cut(shown, tmp_path, files):
+    """It is made shorter while it is read."""
+    shutil.copy(files / "big", tmp_path / "cut")
+    shown.choose(tmp_path / "cut", files / "one")
+    shown.begun()
+    os.truncate(tmp_path / "cut", 2)
+    cut, one = shown.ended(2)
+    assert cut[1][0].startswith("✗ could not be read: ") and cut[2] == []
+    assert one[2] == ONE
+
+
+def test_dropped(shown):
+    shown.run("""const dataTransfer = new DataTransfer();
+        dataTransfer.items.add(new File(['abc'], 'abc'));
+        dataTransfer.items.add(new File(['\\0'], 'one'));
+        for (const kind of ['dragover', 'drop']) {
+          document.body.dispatchEvent(new DragEvent(kind, { dataTransfer, bubbles: true, cancelable: true }));
+        }""")
+    (_, _, abc), (_, _, one) = shown.ended(2)
+    assert abc[1] == ABC and one == ONE
+
+
+def test_folder_dropped(shown, files):
+    """Chromium lets a driver drop what lies on the disk."""
+    if not isinstance(shown.browser, BROWSERS["chromium"]):
+        pytest.skip("Marionette cannot drop a folder")
+    data = {"items": [], "files": [str(files), str(files / "one")], "dragOperationsMask": 1}
+    for kind in ("dragEnter", "dragOver", "drop"):
+        event = {"type": kind, "x": 9, "y": 9, "data": data}
+        shown.browser.command("Cdp", cmd="Input.dispatchDragEvent", params=event)
+    folder, one = shown.ended(2)
+    assert folder == [files.name, ["✗ is a folder: choose the files in it"], []]
+    assert one[2] == ONE
+
+
+def test_without_network(shown, site, files):
+    shown.choose(files / "one")
+    shown.ended(1)
+    site.stop()
+    shown.choose(files / "abc")
+    assert shown.ended(2)[1][2][1] == ABC
+
+
+def test_policy(browser, site, page):
+    """Neither the page reaches another server nor a worker that it starts as its own."""
+    other = Site(page)
+    reach = f"fetch('{other.address}', {{ mode: 'no-cors' }}).then(() => 'reached', () => 'refused')"
+    site.texts["/worker.js"] = f"{reach}.then((failed) => postMessage({{ failed }}))"
+    try:
+        shown = Page(browser, site)
+        assert shown.problem() == "This page does not work: refused."
+        assert shown.run(f"return await {reach}") == "refused"
+        assert other.requests == []
+    finally:
+        other.stop()
+    end = time.monotonic() + 10
+    while len(site.reports) < 2 and time.monotonic() < end:
+        time.sleep(0.05)
+    assert [report["csp-report"]["blocked-uri"] for report in site.reports] == [other.address] * 2
+
+
+def test_keyboard(shown, files):
+    """Each control is reached by the tabulator, in order, and is seen to be."""
+    shown.choose(files / "abc", files / "big")
+    shown.begun()
+    focused = """const at = document.activeElement, outlined = at.id === 'files' ? at.nextElementSibling : at;
+        const { outlineStyle, outlineWidth } = getComputedStyle(outlined);
+        const name = at.id || at.ariaLabel || at.innerText.replace(/\\s+/g, ' ');
+        return [name, outlineStyle !== 'none' && outlineWidth !== '0px'];"""
+    names = ["files", "expected", *(f"Copy RIPEMD-{bits} of abc" for bits in VARIANTS), "Cancel big"]
+    shown.run("document.activeElement.blur()")
+    for name in names:
+        shown.press("Tab")
+        assert shown.run(focused) == [name, True]
+    shown.press("Enter")
+    assert shown.ended(2)[1] == ["big", ["cancelled"], []]
+    assert shown.run("return document.activeElement.textContent") == "big"
+    shown.press("Shift+Tab", "Space")
+    assert shown.run("""for (;;) {
+        const word = document.activeElement.firstChild.textContent;
+        if (word !== 'Copy') return word;
+        await new Promise((resolve) => setTimeout(resolve, 20));
+      }""") in ("Copied", "Selected")
+
+
+def test_narrow(browser, site):
+    """On 320 pixels nothing is cut off."""
+    site.texts["/frame.html"] = '<iframe src="/" width="320" height="600"></iframe>'
+    site.policy = "default-src 'self'"
+    browser.go(site.address + "frame.html")
+    assert browser.run("""const { contentWindow } = document.querySelector('iframe');
+        const { document: page } = contentWindow, data = new contentWindow.DataTransfer();
+        data.items.add(new contentWindow.File(['abc'], 'a'.repeat(200)));
+        page.body.dispatchEvent(new contentWindow.DragEvent('drop', { dataTransfer: data, bubbles: true }));
+        while (!page.querySelector('code')?.textContent) await new Promise((resolve) => setTimeout(resolve, 20));
+        return page.documentElement.scrollWidth;""") <= 320
+
+
+def test_package(browser, javascript, site, tmp_path):
+    """A page of another's, under the same policy, imports the package."""
+    shutil.unpack_archive(javascript / f"nattizhu-{version()}.tgz", tmp_path)
+    (tmp_path / "own.js").write_text("""import { ripemd160 } from './package/index.js';
+        document.title = Array.from(ripemd160('abc'), (byte) => byte.toString(16).padStart(2, '0')).join('');""")
+    (tmp_path / "index.html").write_text(
+        f'<!doctype html><meta http-equiv="Content-Security-Policy" content="{site.policy}">'
+        '<link rel="icon" href="data:,"><script type="module" src="own.js"></script>')
+    own = Site(tmp_path)
+    try:
+        browser.go(own.address)
+        assert browser.run("""while (!document.title) await new Promise((resolve) => setTimeout(resolve, 20));
+            return document.title;""") == ABC
+    finally:
+        own.stop()
+    assert own.reports == []
+
+
+@pytest.mark.parametrize("name", BROWSERS)
+def test_without_webassembly(site, tmp_path, name):
+    with start(name, tmp_path / "profile", wasm=False) as browser:
+        said = Page(browser, site).problem()
+    assert said == "This page needs WebAssembly, which this browser lacks or has switched off."

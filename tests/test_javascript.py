@@ -1,0 +1,170 @@
+"""Tries the package for JavaScript as npm installs it: its tests under Node.js, its types, the programs of
+docs/JAVASCRIPT.md, and its sizes. Nothing is downloaded."""
+import gzip
+import json
+import shutil
+
+import pytest
+from conftest import DATA, ROOT, need, programs, run, site, version
+
+TESTS = sorted(path.name for path in (ROOT / "js/test").glob("*.test.js"))
+PAGE = programs("docs/JAVASCRIPT.md", "js")
+# The program of the page that keeps a state in a file.
+PIECES = 1
+
+# Uses of all that the types have, and what they refuse.
+USES = """
+import { hmac, pbkdf2, pbkdf2Async, pieces, ripemd128, ripemd160, ripemd256, ripemd320, stream } from 'nattizhu';
+import type { Hash, HashFunction, Hasher, Hmac, Input, Source } from 'nattizhu';
+import { ripemd160 as alone } from 'nattizhu/ripemd160.js';
+import { load, type Nattizhu } from 'nattizhu/load.js';
+
+const text: Input = 'abc', bytes: Input = new Uint8Array(3);
+const hashes: Hasher[] = [ripemd128, ripemd256, ripemd320, ripemd160];
+for (const hash of hashes) {
+  const digest: Uint8Array = hash(text), digests: Uint8Array[] = [...hash.each(bytes, 3), ...hash.list([text, bytes])];
+  const pieces: Hash = hash.create().update(text).clone()._cloneInto();
+  pieces.digestInto(digest);
+  const size: number = hash.outputLen + hash.blockLen + pieces.outputLen + pieces.blockLen + digests.length;
+  hash.load(pieces.save()).update(String(size)).destroy();
+}
+const some: HashFunction = alone, mac: Hmac = hmac.create(some, text).update(bytes).clone();
+const good: boolean = mac.verify(hmac(ripemd160, text, bytes)) && hmac.verify(ripemd160, text, bytes, mac.digest());
+hmac.load(ripemd160, mac.save()).verify(hmac.each(ripemd160, text, bytes, 3)[0]!);
+hmac.list(ripemd160, text, new Set([text, bytes]));
+pbkdf2(ripemd160, text, bytes, { c: 5 });
+const signal: AbortSignal = new AbortController().signal;
+const progress = (done: number, total: number | undefined): void => {};
+async function uses(source: Source, module: WebAssembly.Module): Promise<Uint8Array> {
+  await stream(ripemd160.create(), source, { signal, progress });
+  await stream(mac, source);
+  for await (const piece of pieces(new Blob([]), { progress })) mac.update(piece);
+  const loaded: Nattizhu = await load(module);
+  await load('nattizhu.wasm'), load(new URL('https://example.org')), load(fetch('nattizhu.wasm')), load(bytes);
+  await loaded.pbkdf2Async(loaded.ripemd160, text, bytes, { c: 1, dkLen: 2 });
+  return pbkdf2Async(ripemd160, text, bytes, { c: 5, dkLen: 16, asyncTick: 1 });
+}
+// @ts-expect-error
+ripemd160(7);
+// @ts-expect-error
+ripemd160.create().digestInto('abc');
+// @ts-expect-error
+ripemd160.create().verify(bytes);
+// @ts-expect-error
+ripemd160.each(bytes);
+// @ts-expect-error
+ripemd160.load(text);
+// @ts-expect-error
+ripemd160.outputLen = 7;
+// @ts-expect-error
+hmac(text, text, bytes);
+// @ts-expect-error
+hmac.verify(ripemd160, text, bytes);
+// @ts-expect-error
+pbkdf2(ripemd160, text, bytes);
+// @ts-expect-error
+pbkdf2(ripemd160, text, bytes, { c: 5, rounds: 7 });
+// @ts-expect-error
+stream(ripemd160.create(), 7);
+// @ts-expect-error
+stream(ripemd160, []);
+// @ts-expect-error
+load();
+"""
+
+
+@pytest.fixture(scope="session", name="archive")
+def fixture_archive(javascript):
+    """The package."""
+    return javascript / f"nattizhu-{version()}.tgz"
+
+
+@pytest.fixture(scope="session", name="project")
+def fixture_project(archive, once):
+    """A project in which the package is installed and nothing else, with the package's tests."""
+
+    def install(folder):
+        shutil.copytree(ROOT / "js/test", folder)
+        (folder / "package.json").write_text('{"type": "module"}')
+        shutil.copy(archive, folder)
+        run("npm", "install", "--offline", "--no-audit", "--no-fund", f"./{archive.name}", cwd=folder,
+            env={"npm_config_cache": str(folder / "cache")})
+
+    return once("project", install)
+
+
+def test_same_bytes_each_time(archive, tmp_path):
+    run("build/js", tmp_path)
+    assert (tmp_path / archive.name).read_bytes() == archive.read_bytes()
+
+
+def test_installed_package(project):
+    package = json.loads((project / "node_modules/nattizhu/package.json").read_text())
+    assert (package["version"], package.get("dependencies")) == (version(), None)
+    files = {path.name for path in (project / "node_modules/nattizhu").iterdir()}
+    assert files == {"LICENSE-APACHE", "LICENSE-MIT", "README.md", "index.d.ts", "index.js", "load.d.ts", "load.js",
+                     "nattizhu.wasm", "package.json", "ripemd160.d.ts", "ripemd160.js", "ripemd160.wasm", "src"}
+
+
+@pytest.mark.parametrize("name", TESTS)
+def test_tests_of_the_package(project, name):
+    said = run("node", "--test", "--test-reporter=tap", name, cwd=project, timeout=300,
+               env={"NATTIZHU_DATA": str(DATA)}).stdout
+    assert "# fail 0\n" in said and "# skipped 0\n" in said
+    assert int(said.split("# pass ")[1].split()[0]) >= 2
+
+
+@pytest.mark.parametrize("resolution, module", [("node16", "node16"), ("node", "esnext")])
+def test_types(project, tmp_path, resolution, module):
+    need("tsc", "node-typescript")
+    (tmp_path / "node_modules").symlink_to(project / "node_modules")
+    (tmp_path / "package.json").write_text('{"type": "module"}')
+    (tmp_path / "uses.ts").write_text(USES)
+    options = {"strict": True, "noUncheckedIndexedAccess": True, "noEmit": True, "target": "es2021", "types": [],
+               "lib": ["es2021", "dom"], "module": module, "moduleResolution": resolution}
+    (tmp_path / "tsconfig.json").write_text(json.dumps({"compilerOptions": options, "files": ["uses.ts"]}))
+    run("tsc", cwd=tmp_path)
+
+
+@pytest.mark.parametrize("number", [number for number in range(len(PAGE)) if number != PIECES])
+def test_program_of_the_page(project, number):
+    text, printed = PAGE[number]
+    (project / f"program-{number}.js").write_text(text)
+    assert run("node", f"program-{number}.js", cwd=project).stdout == printed
+
+
+# What the program of the page does, in Python.
+IN_PYTHON = """import nattizhu, pathlib, sys
+kept = pathlib.Path(sys.argv[1])
+hasher = nattizhu.from_state("ripemd160", kept.read_bytes()) if kept.exists() else nattizhu.ripemd160()
+hasher.update(sys.stdin.buffer.read())
+kept.write_bytes(hasher.state())
+print(hasher.hexdigest())"""
+
+
+@pytest.mark.parametrize("first, second", [("JavaScript", "JavaScript"), ("C", "JavaScript"), ("JavaScript", "C"),
+                                           ("Python", "JavaScript"), ("JavaScript", "Python")])
+def test_state_of_one_process_taken_up_by_another(project, library, prefix, tmp_path, first, second):
+    """By the program of the page that keeps a state, and those in other languages."""
+    kept = tmp_path / "kept"
+    python = {"PYTHONPATH": str(site(prefix))} if "Python" in (first, second) else {}
+    (tmp_path / "pieces.c").write_text(programs("docs/C.md", "c")[1][0])
+    run("cc", "-o", tmp_path / "pieces", "-I", ROOT / "crates/ripemd_c", tmp_path / "pieces.c",
+        library / "libnattizhu.a")
+    text, printed = PAGE[PIECES]
+    (project / "pieces.js").write_text(text)
+    by = {"C": [tmp_path / "pieces"], "JavaScript": ["node", project / "pieces.js"], "Python": ["python3", "-c", IN_PYTHON]}
+    said = [run(*by[each], kept, input=piece, env=python).stdout for each, piece in [(first, "a"), (second, "bc")]]
+    assert "".join(said) == printed
+
+
+# What a bundle holds, and how many bytes it has at most, packed by brotli.
+@pytest.mark.parametrize("entry, most", [("nattizhu/ripemd160.js", 6000), ("nattizhu", 20480)])
+def test_size_of_a_bundle(project, entry, most, tmp_path):
+    need("esbuild", "esbuild")
+    bundle = run("esbuild", "--bundle", "--minify", "--format=esm", cwd=project, input=f"export * from '{entry}'").stdout
+    (tmp_path / "bundle.js").write_text(bundle)
+    packed = run("node", "-e", "process.stdout.write(String(require('zlib').brotliCompressSync("
+                 "require('fs').readFileSync('bundle.js')).length))", cwd=tmp_path).stdout
+    print(f"{entry}: {len(bundle)} bytes, {len(gzip.compress(bundle.encode(), 9))} by gzip, {packed} by brotli")
+    assert int(packed) <= most
