@@ -33,7 +33,7 @@ FUNCTIONS = $(shell sed -n 's/^function \([^ ]*\) .*/\1/p' tests/data/interface.
 SITE = $(shell python3 -c 'import sys; sys.version_info < (3, 11) or \
   print("lib/python%d.%d/site-packages" % sys.version_info[:2])' 2>/dev/null)
 
-.PHONY: all library wheel dist toolchain prefix check mutants gate fuzz bench install install-program install-library \
+.PHONY: all library wheel js dist toolchain prefix check mutants gate fuzz bench install install-program install-library \
   install-python uninstall clean
 
 # The libraries are proved first, where they have changed.
@@ -70,11 +70,16 @@ library: toolchain
 wheel: library
 	@build/wheel dist $(BUILT) $(TARGET)
 
+js: toolchain
+	@build/tell build/crate ripemd_js wasm64-unknown-unknown >/dev/null
+	@build/js dist
+
 dist:
 	@[ -z '$(CPU)$(TARGET)' ] || { echo 'make: packages are for each processor: leave CPU and TARGET out' >&2; exit 1; }
 	@$(MAKE) --no-print-directory all library
 	@! command -v aarch64-linux-gnu-gcc >/dev/null || \
 	  $(MAKE) --no-print-directory library TARGET=aarch64-unknown-linux-gnu
+	@build/tell build/crate ripemd_js wasm64-unknown-unknown >/dev/null
 	@build/dist dist
 
 # nattizhu.pc has the prefix in it.

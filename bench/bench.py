@@ -1,7 +1,7 @@
 #!/usr/bin/env python3
 """Prints the tables of docs/PERFORMANCE.md, as measured on this machine, for the default build and, where this one
 has AVX2, for x86-64-v3. What the machine lacks is left out: other programs and libraries, a C compiler,
-pip, cargo.
+pip, cargo, node.
 
     bench/bench.py
 """
@@ -145,6 +145,19 @@ def by_rust(folder):
                        cwd=folder / "bench/rust", env={**os.environ, "NATTIZHU_LIB_DIR": str(folder)}, check=True)
 
 
+def by_javascript(folder):
+    """The package for JavaScript in one process with others."""
+    package, project = folder / "package", folder / "project"
+    if (subprocess.run([ROOT / "build/crate", "ripemd_js", "wasm64-unknown-unknown"], stdout=sys.stderr, check=False).returncode
+            or subprocess.run([ROOT / "build/js", package], check=False).returncode):
+        return
+    subprocess.run(["npm", "install", "--offline", "--silent", "--prefix", project, *package.glob("*.tgz")],
+                   stdout=subprocess.DEVNULL, check=True)
+    said = subprocess.run(["node", "--version"], capture_output=True, text=True, check=True).stdout.strip()
+    title(f"From JavaScript, RIPEMD-160, Node.js {said}")
+    subprocess.run(["node", ROOT / "bench/javascript.mjs", project], env={**os.environ, "NODE_PATH": "/usr/share/nodejs"}, check=True)
+
+
 def main():
     loader = subprocess.run(["/lib64/ld-linux-x86-64.so.2", "--help"], capture_output=True, text=True, check=True).stdout
     levels = ["x86-64-v3", DEFAULT] if "x86-64-v3 (supported" in loader else [DEFAULT]
@@ -161,6 +174,7 @@ def main():
         if shutil.which("cc"):
             by_python(folder)
             by_rust(folder)
+        by_javascript(folder)
         by_program(levels, programs)
 
 
