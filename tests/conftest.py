@@ -128,16 +128,17 @@ def library(once):
 
 
 @pytest.fixture(scope="session")
-def javascript(once):
-    """A folder with the package for JavaScript and the page, which build/crate and build/js make."""
+def wasm(once):
+    """The library of which build/js makes the package for JavaScript."""
+    once("wasm", lambda _: run("build/crate", "ripemd_js", "wasm64-unknown-unknown"))
+
+
+@pytest.fixture(scope="session")
+def javascript(wasm, once):
+    """A folder with the package for JavaScript and the page."""
     for tool, package in [("node", "nodejs"), ("npm", "npm"), ("wasm-opt", "binaryen")]:
         need(tool, package)
-
-    def build(folder):
-        run("build/crate", "ripemd_js", "wasm64-unknown-unknown")
-        run("build/js", folder)
-
-    return once("javascript", build)
+    return once("javascript", lambda folder: run("build/js", folder))
 
 
 @pytest.fixture(scope="session")

@@ -42,7 +42,7 @@ def fixture_debian(request, library, program, once):
 
 
 @pytest.fixture(name="dist", scope="module")
-def fixture_dist(library, program, javascript, once):
+def fixture_dist(library, program, wasm, once):
     return once("dist", lambda folder: run("build/dist", folder))
 
 
@@ -194,6 +194,7 @@ def test_build_that_the_wheel_takes(shell, python):
 
 def test_javascript_package(shell):
     """Its tests, under Debian's Node.js."""
+    shell("ls *.tgz", lacking="package for JavaScript (Debian's nodejs, npm, binaryen)")
     shell("command -v node", lacking="node (Debian's nodejs)")
     shell("mkdir project/node_modules && tar -xf *.tgz -C project/node_modules --transform s/package/nattizhu/")
     shell("""echo '{"type": "module"}' >project/package.json""")
