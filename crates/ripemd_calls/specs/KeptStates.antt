@@ -1,4 +1,4 @@
--- Hash states and HMAC states as C has them, a mark and the bytes that they are saved as, and what the calls that
+-- Hash states and HMAC states as callers have them, a mark and the bytes that they are saved as, and what the calls that
 -- take them do.
 use Rattle.std.specs.Prelude.{◌≡◌, ◌↔◌, ℕ, ◌+◌, ◌-◌, ◌*◌, List, [], ◌++◌, length, replicate, drop, Bool, IsTrue, IsFalse, ⊤}
 use Rattle.std.specs.Prelude.{slice_index, slice_range}
@@ -26,7 +26,7 @@ saved_size v = digest_size v + 72
 abbrev pub saved_hmac_size : Parameters → ℕ
 saved_hmac_size v = 2 * saved_size v
 
--- C keeps a mark, the saved bytes, which are so many, and then any bytes
+-- callers keep a mark, the saved bytes, which are so many, and then any bytes
 abbrev pub saved_in : (size : ℕ) → List ℕ → List ℕ
 saved_in size bytes = slice_range bytes 1 (1 + size)
 

@@ -1,4 +1,4 @@
--- The variants as C names them, and what calls do at one of them.
+-- The variants as callers name them, and what calls do at one of them.
 use Rattle.std.specs.Prelude.{◌≡◌, ◌↔◌, ℕ, ◌*◌, ◌==◌, if◌then◌else◌, Option, Some, None, List, length, Bool, IsTrue, IsFalse}
 use Rattle.ripemd.specs.Standard.Compression.{Parameters, ripemd128, ripemd160, ripemd256, ripemd320}
 use Rattle.ripemd.specs.Standard.Hashing.{ripemd}

@@ -74,7 +74,7 @@ pub record WorkedKeys : Type 0 where
 
 -- ---- states
 
--- what C keeps of a RIPEMD-160 state, and of an HMAC state
+-- what callers keep of a RIPEMD-160 state, and of an HMAC state
 abbrev pub kept : List ℕ → List ℕ
 kept saved = 20 ∷ saved ++ replicate 20 0
 

@@ -1,4 +1,4 @@
-//! What is done to the states that C keeps, the same for hash states and HMAC states. Between the pieces of a
+//! What is done to the states that callers keep, the same for hash states and HMAC states. Between the pieces of a
 //! message the caller keeps a state as a mark and the bytes that it is saved as.
 
 ghost use Rattle.std.specs.Prelude.{◌≡◌, ◌↔◌, ℕ, ◌+◌, ◌-◌, ◌<◌, ◌≤◌, List, [], length, replicate, drop, slice_index, IsTrue, IsFalse};
@@ -15,7 +15,7 @@ use ripemd::{BlockHasher, Digest, ResumableFunction};
 use ripemd_mac::Hmac;
 use ripemd_mac::hmac::all_equal;
 
-/// A state that C keeps.
+/// A state that a caller keeps.
 pub(crate) trait Kept: Resumable {
     // The state before the first byte under this key; a hasher has one alone.
     ghost first: { List ℕ → Self };
