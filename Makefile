@@ -3,6 +3,8 @@
 #
 #   PREFIX=/usr/local  where `make install` copies to; DESTDIR goes in front
 #   LIBDIR=lib         the folder of the libraries below PREFIX
+#   MODULESDIR=PREFIX/LIBDIR/ossl-modules
+#                      where the provider for OpenSSL goes; OpenSSL looks in `pkg-config --variable=modulesdir libcrypto`
 #   CPU=x86-64-v3      builds the program, libnattizhu.a and the plain shared object for processors with AVX2,
 #                      not for every x86-64; give it to `make install` too
 #   TARGET=aarch64-unknown-linux-gnu
@@ -12,6 +14,7 @@
 
 PREFIX = /usr/local
 LIBDIR = lib
+MODULESDIR = $(PREFIX)/$(LIBDIR)/ossl-modules
 CPU =
 TARGET =
 SECONDS = 600
@@ -34,7 +37,7 @@ SITE = $(shell python3 -c 'import sys; sys.version_info < (3, 11) or \
   print("lib/python%d.%d/site-packages" % sys.version_info[:2])' 2>/dev/null)
 
 .PHONY: all library wheel js dist toolchain prefix check mutants gate fuzz bench install install-program install-library \
-  install-python uninstall clean
+  install-provider install-python uninstall clean
 
 # The libraries are proved first, where they have changed.
 all: toolchain
@@ -111,11 +114,16 @@ install-library: prefix
 	install -D -m 755 -t "$(LIBRARIES)" $(BUILT)/libnattizhu.so.0
 	$(if $(TARGET),,install -D -m 755 -t "$(LIBRARIES)/$(HWCAPS)" $(BUILT)/$(HWCAPS)/libnattizhu.so.0)
 	ln -sf libnattizhu.so.0 "$(LIBRARIES)/libnattizhu.so"
+	@[ ! -e $(BUILT)/ossl-modules/nattizhu.so ] || $(MAKE) --no-print-directory install-provider
 	install -D -m 644 -t "$(AT)/include" crates/ripemd_c/nattizhu.h
 	install -d "$(LIBRARIES)/pkgconfig" "$(PAGES)/man3"
 	$(call filled,crates/ripemd_c/nattizhu.pc.in,$(LIBRARIES)/pkgconfig/nattizhu.pc)
 	$(call filled,crates/ripemd_c/nattizhu.3,$(PAGES)/man3/nattizhu.3)
 	cd "$(PAGES)/man3" && for name in $(FUNCTIONS); do ln -sf nattizhu.3 $$name.3; done
+
+install-provider: prefix
+	install -D -m 755 -t "$(DESTDIR)$(MODULESDIR)" $(BUILT)/ossl-modules/nattizhu.so
+	install -D -m 644 -t "$(AT)/share/nattizhu" openssl/openssl.cnf
 
 install-python: prefix
 	@room=$$(mktemp -d); trap 'rm -rf "$$room"' EXIT; build/wheel "$$room"; \
@@ -133,9 +141,11 @@ uninstall: prefix
 	rm -f "$(AT)/bin/ripemd_sum" "$(PAGES)/man1/ripemd_sum.1" "$(AT)/include/nattizhu.h" \
 	  "$(LIBRARIES)/libnattizhu.a" "$(LIBRARIES)/libnattizhu_v3.a" "$(LIBRARIES)/libnattizhu.so" \
 	  "$(LIBRARIES)/libnattizhu.so.0" "$(LIBRARIES)/$(HWCAPS)/libnattizhu.so.0" \
-	  "$(LIBRARIES)/pkgconfig/nattizhu.pc" "$(PAGES)/man3/nattizhu.3"
+	  "$(LIBRARIES)/pkgconfig/nattizhu.pc" "$(PAGES)/man3/nattizhu.3" \
+	  "$(DESTDIR)$(MODULESDIR)/nattizhu.so" "$(AT)/share/nattizhu/openssl.cnf"
 	cd "$(PAGES)/man3" 2>/dev/null && rm -f $(FUNCTIONS:=.3) || :
 	cd "$(LIBRARIES)" 2>/dev/null && rmdir -p $(HWCAPS) 2>/dev/null || :
+	rmdir "$(AT)/share/nattizhu" 2>/dev/null || :
 	rm -rf "$(AT)"/lib/python3.*/site-packages/nattizhu "$(AT)"/lib/python3.*/site-packages/nattizhu-*.dist-info
 
 clean:

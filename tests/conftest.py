@@ -27,7 +27,7 @@ ABC = "8eb208f7e05d987a9b044a8e98c6b087f15a0bfc"
 # Commands run without what a caller of make or Python may have set.
 ENVIRONMENT = {name: value for name, value in os.environ.items()
                if not re.match("MAKE|MFLAGS|PYTHONPATH|PYTHONHOME|PYTEST|LIBNATTIZHU|NATTIZHU|PKG_CONFIG|"
-                               "RUST(?!UP)|LD_LIBRARY_PATH|GLIBC_TUNABLES|SOURCE_DATE_EPOCH", name)}
+                               "RUST(?!UP)|OPENSSL_|LD_LIBRARY_PATH|GLIBC_TUNABLES|SOURCE_DATE_EPOCH", name)}
 ENVIRONMENT["PYTHONDONTWRITEBYTECODE"] = "1"
 
 

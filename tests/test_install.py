@@ -90,6 +90,35 @@ def test_exported_names(prefix):
     assert names and all(name.startswith("nattizhu_") for name in names)
 
 
+@pytest.fixture(name="provider")
+def fixture_provider(prefix):
+    """What tells openssl where the provider is, and has it loaded."""
+    if not (prefix / "lib/ossl-modules/nattizhu.so").exists():
+        pytest.skip("there are no headers of OpenSSL 3 (Debian's libssl-dev)")
+    need("openssl", "openssl")
+    return {"OPENSSL_MODULES": prefix / "lib/ossl-modules", "OPENSSL_CONF": prefix / "share/nattizhu/openssl.cnf"}
+
+
+@pytest.mark.parametrize("processor", PROCESSORS)
+def test_provider_by_processor(prefix, provider, processor):
+    need("qemu-x86_64", "qemu-user")
+    ended = run("qemu-x86_64", "-cpu", processor, "-E", "LD_DEBUG=libs", shutil.which("openssl"), "dgst", "-ripemd160",
+                input="abc", env=provider)
+    assert ended.stdout == f"RIPEMD-160(stdin)= {ABC}\n"
+    assert f"calling init: {prefix}/lib/ossl-modules/../{PROCESSORS[processor]}libnattizhu.so.0\n" in ended.stderr
+
+
+def test_provider_in_another_folder(provider, tmp_path):
+    """As in OpenSSL's own: the loader looks for the library."""
+    words = [f"PREFIX={tmp_path}/prefix", f"MODULESDIR={tmp_path}/modules", "DESTDIR="]
+    run("make", "install-library", *words)
+    assert os.listdir(tmp_path / "modules") == ["nattizhu.so"]
+    env = {**provider, "OPENSSL_MODULES": tmp_path / "modules", "LD_LIBRARY_PATH": tmp_path / "prefix/lib"}
+    assert run("openssl", "dgst", "-ripemd160", input="abc", env=env).stdout == f"RIPEMD-160(stdin)= {ABC}\n"
+    run("make", "uninstall", *words)
+    assert os.listdir(tmp_path / "modules") == [] and not (tmp_path / "prefix/share/nattizhu").exists()
+
+
 def test_uninstall(prefix, tmp_path):
     shutil.copytree(prefix, tmp_path / "prefix", symlinks=True)
     run("make", "uninstall", f"PREFIX={tmp_path / 'prefix'}", "DESTDIR=")

@@ -1,0 +1,327 @@
+"""Tries the provider for OpenSSL: tests/evp.c, which calls it through EVP; the program openssl with the values of
+tests/data; Python's hashlib; the commands of docs/OPENSSL.md; and libraries that it cannot use."""
+import os
+import re
+import shutil
+
+import pytest
+from conftest import (ABC, ARM64, ARM64_COMPILER, DATA, ROOT, fences, lines, memcheck, need, programs, run, version)
+
+CRATE = ROOT / "crates/ripemd_c"
+SOURCE = ROOT / "openssl/provider.c"
+CNF = ROOT / "openssl/openssl.cnf"
+EVP = ROOT / "tests/evp.c"
+# The commands of the page, but for the one that is for other folders than that of the Debian package.
+PAGE = [(text, printed or "") for text, printed in programs("docs/OPENSSL.md", "sh") if "OPENSSL_MODULES" not in text]
+
+PACKAGES = {"cc": "gcc", "clang": "clang"}
+STRICT = ["-O2", "-Wall", "-Wextra", "-pedantic", "-Wconversion", "-Werror"]
+SHARED = ["-std=c99", "-fPIC", "-shared", "-Wl,-rpath,$ORIGIN/..", "-I", CRATE, SOURCE]
+# The least number of cases that each part of tests/evp.c has to try.
+PARTS = {"vectors": 160000, "choices": 8, "signatures": 12, "functions": 1400, "threads": 1100}
+
+# The messages of tests/data, by variant and length, with their digests.
+DIGESTS = {(bits, int(length)): digest for bits in ("128", "160", "256", "320")
+           for length, digest in lines(f"digests-{bits}.txt")}
+DIGESTS |= {(bits, int(length)): digest for bits, length, digest in lines("digests-long.txt")}
+# Keys, texts and tags, in hexadecimal.
+TAGS = [(bits, bytes(range(1, int(length) + 1)).hex(), bytes(range(150)).hex(), tag)
+        for bits, length, tag in lines("tags.txt")] + [tuple(words) for words in lines("rfc2286.txt")]
+
+
+def counted(length, start=0):
+    """So many bytes: 0, 1, 2 and so on."""
+    return bytes((start + at) % 256 for at in range(length))
+
+
+@pytest.fixture(name="modules", scope="session")
+def fixture_modules(library):
+    """The folder of the provider."""
+    if not (library / "ossl-modules/nattizhu.so").exists():
+        pytest.skip("there are no headers of OpenSSL 3 (Debian's libssl-dev)")
+    return library / "ossl-modules"
+
+
+def compiled(folder, compiler="cc", *flags):
+    """The program of tests/evp.c."""
+    run(compiler, "-std=c11", "-Wall", "-Wextra", "-Werror", *flags, EVP, "-o", folder / "evp", "-lcrypto", "-lpthread")
+    return folder / "evp"
+
+
+@pytest.fixture(name="evp", scope="session")
+def fixture_evp(modules, tmp_path_factory):
+    return compiled(tmp_path_factory.mktemp("evp"), "cc", "-O2")
+
+
+def assert_tried(least, *command, by=run):
+    printed = by(*command).stdout
+    good, tried = map(int, re.search(r"^evp: (\d+) of (\d+) cases as expected$", printed, re.MULTILINE).groups())
+    assert good == tried >= least, f"tests/evp.c has to try at least {least} cases, and tried {tried}"
+    return printed
+
+
+@pytest.fixture(name="openssl")
+def fixture_openssl(modules):
+    """Runs the program openssl, whose modules are ours, with the provider and the default one."""
+    need("openssl", "openssl")
+
+    def runs(command, *words, providers=("nattizhu", "default"), env=None, **options):
+        chosen = [word for name in providers for word in ("-provider", name)]
+        return run("openssl", command, *chosen, *words, env={"OPENSSL_MODULES": modules, **(env or {})}, **options)
+
+    return runs
+
+
+# ---- the object
+
+@pytest.mark.parametrize("compiler, standard", [("cc", "c99"), ("cc", "c17"), ("clang", "c99"), ("clang", "c17")])
+def test_no_warning(modules, compiler, standard):
+    need(compiler, PACKAGES[compiler])
+    run(compiler, f"-std={standard}", *STRICT, "-I", CRATE, "-S", "-o", "-", SOURCE)
+
+
+def test_exported_functions_and_needed_libraries(modules):
+    need("objdump", "binutils")
+    names = [line.split()[-1] for line in run("nm", "-D", "--defined-only", modules / "nattizhu.so").stdout.splitlines()]
+    assert names == ["OSSL_provider_init"]
+    printed = run("objdump", "-p", modules / "nattizhu.so").stdout
+    assert set(re.findall("NEEDED +(.*)", printed)) <= {"libnattizhu.so.0", "libcrypto.so.3", "libc.so.6"}
+    assert set(re.findall(r"\bOPENSSL_[0-9.]+", printed)) == {"OPENSSL_3.0.0"}
+    assert "libnattizhu.so.0" in printed and re.findall("(?:RUNPATH|RPATH) +(.*)", printed) == ["$ORIGIN/.."]
+
+
+def test_no_global_state(modules, tmp_path):
+    run("cc", "-std=c99", "-O2", "-fPIC", "-I", CRATE, "-c", "-o", tmp_path / "provider.o", SOURCE)
+    printed = run("size", "-A", tmp_path / "provider.o").stdout
+    assert re.findall(r"^\.t?(?:data|bss) +(\d+)", printed, re.MULTILINE) == ["0", "0"]
+
+
+# ---- through EVP
+
+@pytest.mark.parametrize("part", PARTS)
+def test_evp(modules, evp, part):
+    printed = assert_tried(PARTS[part], evp, modules, DATA, part)
+    assert part != "functions" or printed.startswith(f"Nattizhu, {version()}, {version()}, 1\n")
+
+
+@pytest.mark.parametrize("compiler, package", [("cc", "libgcc-12-dev"), ("clang", "libclang-rt-14-dev")], ids=PACKAGES)
+def test_evp_with_sanitizers(modules, library, tmp_path, compiler, package):
+    need(compiler, PACKAGES[compiler])
+    flags = ["-O1", "-g", "-fsanitize=address,undefined", "-fno-sanitize-recover=undefined"]
+    if run(compiler, *flags, "-x", "c", "-", "-o", tmp_path / "program", input="int main(void) { return 0; }",
+           status=None).returncode:
+        pytest.skip(f"{compiler} has no sanitizers (Debian's {package})")
+    folder = tmp_path / "ossl-modules"
+    folder.mkdir()
+    (tmp_path / "libnattizhu.so.0").symlink_to(library / "libnattizhu.so.0")
+    run(compiler, *flags, *SHARED, "-o", folder / "nattizhu.so", library / "libnattizhu.so.0", "-lcrypto")
+    program = compiled(tmp_path, compiler, *flags)
+    for part in PARTS:
+        assert_tried(PARTS[part], program, folder, DATA, part)
+    assert_tried(200, program, folder, DATA, "contexts", 100)
+
+
+# The loader compares the beginning of $ORIGIN by words, beyond its end.
+SUPPRESSED = """{
+  loader
+  Memcheck:Addr8
+  fun:strncmp
+  fun:is_dst
+}
+"""
+
+
+def test_loaded_1000_times_under_valgrind(modules, evp, tmp_path):
+    (tmp_path / "suppressed").write_text(SUPPRESSED)
+    assert_tried(1000, f"--suppressions={tmp_path}/suppressed", "--leak-check=full", evp, modules, DATA, "contexts", 500,
+                 by=memcheck)
+
+
+def test_functions_under_valgrind(modules, evp, tmp_path):
+    (tmp_path / "suppressed").write_text(SUPPRESSED)
+    assert_tried(1400, f"--suppressions={tmp_path}/suppressed", "--leak-check=full", evp, modules, DATA, "functions",
+                 by=memcheck)
+
+
+def test_arm64(arm64, tmp_path):
+    if not (arm64 / "ossl-modules/nattizhu.so").exists():
+        pytest.skip("there are no headers of OpenSSL 3 for ARM64 (Debian's libssl-dev:arm64)")
+    program = compiled(tmp_path, ARM64_COMPILER)
+    for part in PARTS:
+        assert_tried(PARTS[part], "qemu-aarch64", program, arm64 / "ossl-modules", DATA, part)
+
+
+# ---- by the program openssl
+
+@pytest.mark.parametrize("providers", [["nattizhu"], ["nattizhu", "base"], ["nattizhu", "default"]], ids=" ".join)
+@pytest.mark.parametrize("bits", ["128", "160", "256", "320"])
+def test_digests(openssl, tmp_path, bits, providers):
+    wanted = {length: digest for (variant, length), digest in DIGESTS.items() if variant == bits}
+    for length in wanted:
+        (tmp_path / str(length)).write_bytes(counted(length))
+    printed = openssl("dgst", "-propquery", "provider=nattizhu", f"-ripemd{bits}", "-r", *wanted, providers=providers,
+                      cwd=tmp_path).stdout
+    assert len(wanted) > 200
+    assert {int(name): digest for digest, name in re.findall(r"^(\w+) \*(\d+)$", printed, re.MULTILINE)} == wanted
+
+
+@pytest.mark.parametrize("bits", ["128", "160", "256", "320"])
+def test_tags(openssl, bits):
+    tried = [(key, text, tag) for variant, key, text, tag in TAGS if variant == bits]
+    assert len(tried) >= 7
+    for key, text, tag in tried:
+        printed = openssl("mac", "-propquery", "?provider=nattizhu", "-digest", f"RIPEMD-{bits}", "-macopt", f"hexkey:{key}",
+                          "HMAC", text=False, input=bytes.fromhex(text)).stdout
+        assert printed.decode().strip().lower() == tag
+
+
+@pytest.mark.parametrize("bits", ["128", "160", "256", "320"])
+def test_keys(openssl, bits):
+    tried = [words for variant, *words in lines("keys.txt") if variant == bits]
+    assert len(tried) >= 10
+    for password, salt, rounds, key in tried:
+        printed = openssl("kdf", "-propquery", "?provider=nattizhu", "-keylen", len(key) // 2,
+                          "-kdfopt", f"digest:RIPEMD-{bits}", "-kdfopt", f"hexpass:{counted(int(password), 1).hex()}",
+                          "-kdfopt", f"hexsalt:{counted(int(salt)).hex()}", "-kdfopt", f"iter:{rounds}", "PBKDF2").stdout
+        assert printed.strip().replace(":", "").lower() == key
+
+
+def test_signatures(openssl, tmp_path):
+    (tmp_path / "text").write_text("abc")
+    run("openssl", "genpkey", "-quiet", "-algorithm", "RSA", "-out", "key", cwd=tmp_path, status=None)
+    run("openssl", "pkey", "-in", "key", "-pubout", "-out", "public", cwd=tmp_path)
+    ours, theirs = {"providers": ["nattizhu", "default"]}, {"providers": ["default"]}
+    for name, options in [("ours", ours), ("theirs", theirs)]:
+        openssl("dgst", "-propquery", "?provider=nattizhu", "-ripemd160", "-sign", "key", "-out", name, "text",
+                cwd=tmp_path, **options)
+    for name, options in [("ours", theirs), ("theirs", ours)]:
+        printed = openssl("dgst", "-propquery", "?provider=nattizhu", "-ripemd160", "-verify", "public", "-signature", name,
+                          "text", cwd=tmp_path, **options).stdout
+        assert printed == "Verified OK\n"
+    refused = openssl("dgst", "-ripemd320", "-sign", "key", "-out", "none", "text", cwd=tmp_path, status=1)
+    assert "digest not allowed" in refused.stderr
+
+
+# ---- by openssl.cnf
+
+PYTHON = """import hashlib, sys
+print([hashlib.new(f"ripemd{bits}", b"abc").hexdigest() for bits in (128, 160, 256, 320)], hashlib.sha256().name,
+      "nattizhu.so" in open("/proc/self/maps").read())
+"""
+# The digests of "abc" that the authors published.
+PUBLISHED = ["c14a12199c66e4ba84636b0f69144c77", ABC,
+             "afbd6e228b9d8cbbcef5ca2d03e6dba10ac0bc7dcbe4680e1e42d2e975459b65",
+             "de4c01b3054f8930a79d09ae738e92301e5a17085beffdc1b8d116713e74f82fa942d64cdbc4682d"]
+
+
+@pytest.fixture(name="configurations", scope="session")
+def fixture_configurations(tmp_path_factory):
+    """Configurations that load the provider: the piece itself, and the system's that includes it, also with its
+    sections of providers switched on."""
+    folder = tmp_path_factory.mktemp("configurations")
+    need("openssl", "openssl")
+    system = run("openssl", "version", "-d").stdout.split('"')[1] + "/openssl.cnf"
+    if not os.path.exists(system):
+        pytest.skip(f"there is no {system}")
+    with open(system, encoding="utf-8") as file:
+        text = file.read()
+    switched = re.sub(r"^# *(providers = provider_sect|\[provider_sect\]|default = default_sect|\[default_sect\]|activate = 1)$",
+                      r"\1", text, flags=re.MULTILINE)
+    (folder / "included").write_text(f"{text}\n.include {CNF}\n")
+    (folder / "switched").write_text(f"{switched}\n.include {CNF}\n")
+    return {"itself": CNF, "included": folder / "included", "switched": folder / "switched"}
+
+
+@pytest.mark.parametrize("name", ["itself", "included", "switched"])
+@pytest.mark.parametrize("python", ["python3", "/usr/bin/python3"])
+def test_hashlib(modules, configurations, python, name):
+    need(python, "python3")
+    linked = run(python, "-c", "import ssl; print(ssl.OPENSSL_VERSION)", status=None).stdout
+    if not linked.startswith("OpenSSL 3"):
+        pytest.skip(f"{python} has no OpenSSL 3")
+    env = {"OPENSSL_MODULES": modules, "OPENSSL_CONF": configurations[name]}
+    assert run(python, "-c", PYTHON, env=env).stdout == f"{PUBLISHED} sha256 True\n"
+
+
+@pytest.mark.parametrize("name", ["itself", "included", "switched"])
+def test_configuration(modules, configurations, name):
+    """The provider is preferred and the default one stays; and nothing loads it by itself."""
+    env = {"OPENSSL_MODULES": modules, "OPENSSL_CONF": configurations[name]}
+    assert re.findall(r"^  (\w+)$", run("openssl", "list", "-providers", env=env).stdout, re.MULTILINE) == ["default", "nattizhu"]
+    traced = run("openssl", "dgst", "-ripemd160", input="abc", env={**env, "LD_DEBUG": "bindings"})
+    assert traced.stdout == f"RIPEMD-160(stdin)= {ABC}\n"
+    assert "nattizhu.so [0] to" in traced.stderr and "`nattizhu_final'" in traced.stderr
+    assert "SHA2-256(stdin)= ba7816bf" in run("openssl", "dgst", "-sha256", input="abc", env=env).stdout
+    assert "nattizhu" not in run("openssl", "list", "-providers", env={"OPENSSL_MODULES": modules}).stdout
+
+
+def test_configuration_of_the_page():
+    assert [text for language, text in fences("docs/OPENSSL.md") if language == "ini"] == [
+        re.sub("^#.*\n", "", CNF.read_text("utf-8"), flags=re.MULTILINE)]
+
+
+@pytest.mark.parametrize("text, printed", PAGE, ids=[f"commands {at}" for at in range(1, len(PAGE) + 1)])
+def test_page(modules, configurations, tmp_path, text, printed):
+    """The commands, with places of their own for those of the package and of the system's configuration."""
+    system = tmp_path / "openssl.cnf"
+    shutil.copy(configurations["included"], system)
+    system.write_text(system.read_text().replace(f".include {CNF}\n", ""))
+    text = text.replace("/usr/share/nattizhu/openssl.cnf", str(CNF)).replace("/etc/ssl/openssl.cnf", str(system))
+    ended = run("bash", "-e", "-c", text, env={"OPENSSL_MODULES": modules, "OPENSSL_CONF": system}, cwd=tmp_path)
+    assert ended.stdout.rstrip() == printed.rstrip()
+
+
+# ---- libraries that it cannot use
+
+@pytest.fixture(name="over")
+def fixture_over(modules, tmp_path):
+    """Loads a copy of the provider over a library in place of ours, or over none, and returns what openssl says."""
+    need("openssl", "openssl")
+    (tmp_path / "ossl-modules").mkdir()
+    shutil.copy(modules / "nattizhu.so", tmp_path / "ossl-modules")
+
+    def over(source, status=1):
+        if source is not None:
+            run("cc", "-x", "c", "-", "-shared", "-fPIC", "-Wl,-soname,libnattizhu.so.0", "-o", tmp_path / "libnattizhu.so.0",
+                input=source)
+        ended = run("openssl", "list", "-providers", "-verbose", "-provider", "nattizhu", status=status,
+                    env={"OPENSSL_MODULES": tmp_path / "ossl-modules"})
+        return ended.stdout + ended.stderr
+
+    return over
+
+
+STUB = """#include <stddef.h>
+const char *nattizhu_version(void) { return "9.8.7"; }
+size_t nattizhu_state_size(void) { return %d; }
+int nattizhu_init, nattizhu_update, nattizhu_final, nattizhu_digest;
+"""
+
+
+def test_missing_library(over):
+    assert "libnattizhu.so.0: cannot open shared object file" in over(None)
+
+
+def test_library_with_other_states(over):
+    said = over(STUB % 114)
+    assert "init fail" in said and f"libnattizhu is 9.8.7, and this provider for {version()}" in said
+    assert ":openssl/provider.c:" in said
+
+
+def test_library_without_a_function(over):
+    assert "undefined symbol: nattizhu_digest" in over((STUB % 113).replace(", nattizhu_digest", ""))
+
+
+def test_later_library_with_the_same_states(over):
+    """It has the same functions by its SONAME, and openssl names both versions."""
+    said = over(STUB % 113, status=0)
+    assert f"version: {version()}\n" in said and "build info: 9.8.7\n" in said
+
+
+@pytest.mark.parametrize("source", [None, STUB % 114], ids=["none", "other"])
+def test_configuration_without_the_library(over, configurations, tmp_path, source):
+    """OpenSSL goes on with its own."""
+    over(source)
+    env = {"OPENSSL_MODULES": tmp_path / "ossl-modules", "OPENSSL_CONF": configurations["included"]}
+    assert "SHA2-256(stdin)= ba7816bf" in run("openssl", "dgst", "-sha256", input="abc", env=env).stdout
+    assert run("openssl", "dgst", "-ripemd160", input="abc", env=env).stdout == f"RIPEMD-160(stdin)= {ABC}\n"
