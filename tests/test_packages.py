@@ -1,6 +1,7 @@
-"""Tries what `make dist` makes, and uses it in a fresh Debian that has a C compiler, pkg-config, python3 and nodejs,
-and no toolchain. Without root or debootstrap, the archive and the wheel are used on this machine."""
+"""Tries what `make dist` makes, and uses it in a fresh Debian that has a C compiler, pkg-config, openssl, python3
+and nodejs, and no toolchain. Without root or debootstrap, the archive and the wheel are used on this machine."""
 import concurrent.futures
+import contextlib
 import os
 import platform
 import re
@@ -8,6 +9,7 @@ import shutil
 
 import pytest
 from conftest import ABC, DATA, ROOT, need, need_arm64, programs, run, version
+from test_openssl import PAGE
 
 ARCHIVE = f"nattizhu-{version()}-linux-x86_64"
 PAGES = {"x86_64": ["nattizhu.3", "ripemd_sum.1"], "aarch64": ["nattizhu.3"]}
@@ -24,7 +26,7 @@ def bootstrap(folder):
     if os.geteuid() != 0:
         pytest.skip("debootstrap needs root")
     need("debootstrap", "debootstrap")
-    made = run("debootstrap", "--variant=minbase", "--include=gcc,libc6-dev,nodejs,pkg-config,python3,python3-venv",
+    made = run("debootstrap", "--variant=minbase", "--include=gcc,libc6-dev,nodejs,openssl,pkg-config,python3,python3-venv",
                platform.freedesktop_os_release()["VERSION_CODENAME"], folder, status=None)
     if made.returncode != 0:
         pytest.skip("there is no fresh Debian: " + (made.stdout + made.stderr).strip().rpartition("\n")[2])
@@ -104,7 +106,7 @@ def test_libraries_of_two_architectures_together(debs, tmp_path):
 
 def test_names_of_programs_libraries_and_pages(files, machine):
     names = {path.name for path in files if ".so" in path.name or path.parent.name == "bin"}
-    assert names | {"_nattizhu.abi3.so"} == {name for of, name, _ in OLDEST if of == machine}
+    assert names | {"_nattizhu.abi3.so", "nattizhu.so"} == {name for of, name, _ in OLDEST if of == machine}
     assert sorted(path.name for path in files if path.parts[-3] == "man") == PAGES[machine]
 
 
@@ -175,6 +177,13 @@ def test_shared_library_of_the_archive(shell, build):
     uses_shared_library(shell, build, f"{ARCHIVE}/lib", flags, f'LD_LIBRARY_PATH="$PWD/{ARCHIVE}/lib"')
 
 
+def test_provider_of_the_archive(shell):
+    shell(f"test -e {ARCHIVE}/lib/ossl-modules/nattizhu.so", lacking="provider for OpenSSL (Debian's libssl-dev)")
+    shell("command -v openssl", lacking="openssl (Debian's openssl)")
+    environment = f'OPENSSL_MODULES="$PWD/{ARCHIVE}/lib/ossl-modules" OPENSSL_CONF="$PWD/{ARCHIVE}/share/nattizhu/openssl.cnf"'
+    assert shell(f"printf abc | {environment} openssl dgst -ripemd160") == f"RIPEMD-160(stdin)= {ABC}\n"
+
+
 @pytest.fixture(name="python", scope="module")
 def fixture_python(shell):
     """The interpreter of a fresh environment with the wheel and nothing else."""
@@ -201,17 +210,36 @@ def test_javascript_package(shell):
     assert "# fail 0\n# cancelled 0\n# skipped 0\n" in shell("cd project && NATTIZHU_DATA=../data node --test *.test.js")
 
 
-def test_debian_packages(debian, shell, debs):
-    """Installed, used, and removed, after which nothing is left but what apt and dpkg note about themselves."""
-    debian.result()
+@contextlib.contextmanager
+def installed(shell, debs):
+    """Installs packages, and removes them, after which nothing is left but what apt and dpkg note about themselves."""
     files = "find / -xdev -regextype awk -regex '/(a folder|tmp|proc|var/(cache|lib/(apt|dpkg)|log))' -prune -o -print"
     before = sorted(shell(files).split("\n"))
-    shell("apt-get -y install ./*_amd64.deb")
+    shell("apt-get -y install " + " ".join(f"./{deb.name}" for deb in debs))
     try:
+        yield
+    finally:
+        shell("apt-get -y purge " + " ".join(deb.name.split("_")[0] for deb in debs))
+    assert sorted(shell(files).split("\n")) == before
+
+
+def test_debian_packages(debian, shell, debs):
+    debian.result()
+    with installed(shell, [deb for deb in debs if deb.name.endswith("_amd64.deb")]):
         assert shell("printf abc | ripemd_sum") == ABC + "\n"
         for build in sorted({"x86-64", newest()}):
             uses_shared_library(shell, build, "lib/x86_64-linux-gnu", "$(pkg-config --cflags --libs nattizhu)")
         assert shell("python3 first.py") == ABC + "\n"
-    finally:
-        shell("apt-get -y purge " + " ".join({deb.name.split("_")[0] for deb in debs}))
-    assert sorted(shell(files).split("\n")) == before
+
+
+def test_page_of_the_provider(debian, shell, debs):
+    """The commands of docs/OPENSSL.md, with the package alone, which nothing loads by itself."""
+    debian.result()
+    needed = [deb for deb in debs if re.match("(libnattizhu0|openssl-provider-nattizhu)_.*_amd64", deb.name)]
+    assert len(needed) == 2
+    before = shell("cat /etc/ssl/openssl.cnf")
+    with installed(shell, needed):
+        assert "nattizhu" not in shell("openssl list -providers")
+        for text, printed in PAGE:
+            assert shell(text).rstrip() == printed.rstrip()
+        assert shell("cat /etc/ssl/openssl.cnf") == before
