@@ -522,9 +522,10 @@ static struct notes try_functions(const struct functions *f, size_t size) {
   static const size_t SIZES[] = {0, 1, 2, 4, 8, 16};
   const size_t rooms[] = {0, 1, size - 1, size, size + 1, (size_t)-1};
   const OSSL_PARAM none[] = {OSSL_PARAM_END};
-  unsigned char message[100] = {1};
+  unsigned char message[127]; // such that the last bytes of a context are no zeros
   struct notes notes = {{0}, 0};
   size_t before = blocks, asked = requests;
+  count_up(message, sizeof message, 1);
 
   // Contexts: one block of memory each, which is zeros when it is freed.
   largest = 0;

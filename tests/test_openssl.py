@@ -96,6 +96,22 @@ def test_no_global_state(modules, tmp_path):
     assert re.findall(r"^\.t?(?:data|bss) +(\d+)", printed, re.MULTILINE) == ["0", "0"]
 
 
+def test_without_headers(library, tmp_path):
+    """One line says so, and the rest is built and installed."""
+    compiler = tmp_path / "bin/cc"
+    compiler.parent.mkdir()
+    compiler.write_text(f'#!/bin/sh\ncase "$*" in *openssl*) exit 1; esac\nexec {shutil.which("cc")} "$@"\n')
+    compiler.chmod(0o755)
+    (tmp_path / "out/ossl-modules").mkdir(parents=True)
+    (tmp_path / "out/ossl-modules/nattizhu.so").touch()
+    said = run("build/shared", tmp_path / "out", "x86-64", env={"PATH": f"{compiler.parent}:{os.environ['PATH']}"}).stderr
+    lacking = [line for line in said.splitlines() if "OpenSSL" in line]
+    assert len(lacking) == 1 and "libssl-dev" in lacking[0]
+    run("make", "install-library", f"BUILT={tmp_path}/out", f"PREFIX={tmp_path}/prefix", "DESTDIR=")
+    assert (tmp_path / "prefix/lib/libnattizhu.so.0").exists()
+    assert not [path for path in (tmp_path / "prefix").rglob("*") if path.name in ("nattizhu.so", "openssl.cnf")]
+
+
 # ---- through EVP
 
 @pytest.mark.parametrize("part", PARTS)
