@@ -1,7 +1,7 @@
 #!/usr/bin/env python3
 """Prints the tables of docs/PERFORMANCE.md, as measured on this machine, for the default build and, where this one
 has AVX2, for x86-64-v3. What the machine lacks is left out: other programs and libraries, a C compiler,
-pip, cargo, node.
+OpenSSL's headers, pip, cargo, node.
 
     bench/bench.py
 """
@@ -19,6 +19,7 @@ ROOT = pathlib.Path(__file__).resolve().parent.parent
 MIB = 256
 RUNS = 7
 DEFAULT = "x86-64"
+ROUNDS = 400000
 
 # What hashes its standard input: ours as built for a level, for each variant, and others by RIPEMD-160 alone.
 OURS = {"the library": "ripemd_bench", "ripemd_sum": "ripemd_sum"}
@@ -122,6 +123,41 @@ def by_c(levels, folder):
     subprocess.run([folder / "linked", *(f"{level}={libraries[level]}" for level in levels)], check=True)
 
 
+def user_time(command, environment):
+    """Seconds of a run, and what it printed."""
+    before = os.times().children_user
+    said = subprocess.run(command, env={**os.environ, **environment}, capture_output=True, text=True, check=True).stdout
+    return os.times().children_user - before, said
+
+
+def by_openssl(levels, folder):
+    """The provider beside OpenSSL's own, by the program openssl: the best of runs in turn."""
+    if not (folder / "ossl-modules/nattizhu.so").exists() or not shutil.which("openssl"):
+        print("bench.py: there is no provider, or no openssl: no figures through OpenSSL", file=sys.stderr)
+        return
+    version = " ".join(subprocess.run(["openssl", "version"], capture_output=True, text=True, check=True).stdout.split()[:2])
+    # The loader takes the build for x86-64-v3 unless it is told that there is no AVX2.
+    rows = [(f"nattizhu, built for {level}", "nattizhu", "glibc.cpu.hwcaps=-AVX2" if level == DEFAULT else "")
+            for level in levels] + [(version, "default", "")]
+    speeds, rounds = {}, {}
+    for _ in range(RUNS):
+        for name, provider, tunables in rows:
+            environment = {"OPENSSL_MODULES": str(folder / "ossl-modules"), "GLIBC_TUNABLES": tunables}
+            words = ["-provider", "nattizhu", "-provider", "default", "-propquery", f"provider={provider}"]
+            _, said = user_time(["openssl", "speed", *words, "-mr", "-seconds", "1", "-evp", "ripemd160"], environment)
+            sizes = re.search(r"^\+H:(.*)$", said, re.MULTILINE)[1].split(":")
+            speeds.setdefault(name, []).append([float(speed) / 1e6 for speed in said.split("+F:")[1].split(":")[2:]])
+            words[-1] = f"?{words[-1]}"  # HMAC and PBKDF2 are of the default one
+            time, _ = user_time(["openssl", "kdf", *words, "-keylen", "20", "-kdfopt", "digest:RIPEMD-160", "-kdfopt", "pass:password",
+                                 "-kdfopt", "salt:saltsalt", "-kdfopt", f"iter:{ROUNDS}", "PBKDF2"], environment)
+            rounds.setdefault(name, []).append(ROUNDS / time / 1000)
+    best = {name: [*map(max, zip(*speeds[name])), max(rounds[name])] for name in speeds}
+    title("Through OpenSSL, RIPEMD-160: messages by `openssl speed`, MB/s, and PBKDF2 by `openssl kdf`, thousands of rounds a second")
+    table(["", *(f"{int(size):,} bytes" for size in sizes), "PBKDF2"],
+          *([name, *(f"{figure:.4g}" + (f" ({figure / other:.2f})" if provider == "nattizhu" else "")
+                     for figure, other in zip(best[name], best[version]))] for name, provider, _ in rows))
+
+
 def by_python(folder):
     if subprocess.run([ROOT / "build/wheel", folder / "wheel", folder], stdout=subprocess.DEVNULL, check=False).returncode:
         return
@@ -172,6 +208,7 @@ def main():
             by_c(levels, folder)
         by_rattle(levels, programs)
         if shutil.which("cc"):
+            by_openssl(levels, folder)
             by_python(folder)
             by_rust(folder)
         by_javascript(folder)

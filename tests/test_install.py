@@ -110,7 +110,7 @@ def test_provider_by_processor(prefix, provider, processor):
 
 def test_provider_in_another_folder(provider, tmp_path):
     """As in OpenSSL's own: the loader looks for the library."""
-    words = [f"PREFIX={tmp_path}/prefix", f"MODULESDIR={tmp_path}/modules", "DESTDIR="]
+    words = [f"DESTDIR={tmp_path}", "PREFIX=/prefix", "MODULESDIR=/modules"]
     run("make", "install-library", *words)
     assert os.listdir(tmp_path / "modules") == ["nattizhu.so"]
     env = {**provider, "OPENSSL_MODULES": tmp_path / "modules", "LD_LIBRARY_PATH": tmp_path / "prefix/lib"}

@@ -72,6 +72,24 @@ def fixture_openssl(modules):
     return runs
 
 
+@pytest.fixture(name="over")
+def fixture_over(modules, tmp_path):
+    """Loads a copy of the provider over a library in place of ours, or over none, and returns what openssl says."""
+    need("openssl", "openssl")
+    (tmp_path / "ossl-modules").mkdir()
+    shutil.copy(modules / "nattizhu.so", tmp_path / "ossl-modules")
+
+    def over(source, status=1):
+        if source is not None:
+            run("cc", "-x", "c", "-", "-shared", "-fPIC", "-Wl,-soname,libnattizhu.so.0", "-o", tmp_path / "libnattizhu.so.0",
+                input=source)
+        ended = run("openssl", "list", "-providers", "-verbose", "-provider", "nattizhu", status=status,
+                    env={"OPENSSL_MODULES": tmp_path / "ossl-modules"})
+        return ended.stdout + ended.stderr
+
+    return over
+
+
 # ---- the object
 
 @pytest.mark.parametrize("compiler, standard", [("cc", "c99"), ("cc", "c17"), ("clang", "c99"), ("clang", "c17")])
@@ -259,16 +277,30 @@ def test_hashlib(modules, configurations, python, name):
     assert run(python, "-c", PYTHON, env=env).stdout == f"{PUBLISHED} sha256 True\n"
 
 
+# A library by whose digests one sees that the provider was asked: all are zeros.
+ZEROS = """#include <string.h>
+const char *nattizhu_version(void) { return ""; }
+size_t nattizhu_state_size(void) { return 113; }
+_Bool nattizhu_init(int bits, unsigned char *state) { return state[0] = bits / 8; }
+_Bool nattizhu_update(void *state, void *bytes, size_t length) { return 1; }
+_Bool nattizhu_final(void *state, void *digest, size_t length) { return memset(digest, 0, length); }
+_Bool nattizhu_digest(void) { return 0; }
+"""
+
+
 @pytest.mark.parametrize("name", ["itself", "included", "switched"])
-def test_configuration(modules, configurations, name):
+def test_configuration(over, configurations, tmp_path, name):
     """The provider is preferred and the default one stays; and nothing loads it by itself."""
-    env = {"OPENSSL_MODULES": modules, "OPENSSL_CONF": configurations[name]}
+    over(ZEROS, status=0)
+    env = {"OPENSSL_MODULES": tmp_path / "ossl-modules"}
+    assert run("openssl", "dgst", "-ripemd160", input="abc", env=env).stdout == f"RIPEMD-160(stdin)= {ABC}\n"
+    env["OPENSSL_CONF"] = configurations[name]
     assert re.findall(r"^  (\w+)$", run("openssl", "list", "-providers", env=env).stdout, re.MULTILINE) == ["default", "nattizhu"]
-    traced = run("openssl", "dgst", "-ripemd160", input="abc", env={**env, "LD_DEBUG": "bindings"})
-    assert traced.stdout == f"RIPEMD-160(stdin)= {ABC}\n"
-    assert "nattizhu.so [0] to" in traced.stderr and "`nattizhu_final'" in traced.stderr
+    for words in ["-ripemd160"], ["-propquery", "provider=nattizhu", "-ripemd160"]:
+        assert run("openssl", "dgst", *words, input="abc", env=env).stdout == f"RIPEMD-160(stdin)= {'00' * 20}\n"
+    theirs = run("openssl", "dgst", "-propquery", "provider=default", "-ripemd160", input="abc", env=env).stdout
+    assert theirs == f"RIPEMD-160(stdin)= {ABC}\n"
     assert "SHA2-256(stdin)= ba7816bf" in run("openssl", "dgst", "-sha256", input="abc", env=env).stdout
-    assert "nattizhu" not in run("openssl", "list", "-providers", env={"OPENSSL_MODULES": modules}).stdout
 
 
 def test_configuration_of_the_page():
@@ -288,24 +320,6 @@ def test_page(modules, configurations, tmp_path, text, printed):
 
 
 # ---- libraries that it cannot use
-
-@pytest.fixture(name="over")
-def fixture_over(modules, tmp_path):
-    """Loads a copy of the provider over a library in place of ours, or over none, and returns what openssl says."""
-    need("openssl", "openssl")
-    (tmp_path / "ossl-modules").mkdir()
-    shutil.copy(modules / "nattizhu.so", tmp_path / "ossl-modules")
-
-    def over(source, status=1):
-        if source is not None:
-            run("cc", "-x", "c", "-", "-shared", "-fPIC", "-Wl,-soname,libnattizhu.so.0", "-o", tmp_path / "libnattizhu.so.0",
-                input=source)
-        ended = run("openssl", "list", "-providers", "-verbose", "-provider", "nattizhu", status=status,
-                    env={"OPENSSL_MODULES": tmp_path / "ossl-modules"})
-        return ended.stdout + ended.stderr
-
-    return over
-
 
 STUB = """#include <stddef.h>
 const char *nattizhu_version(void) { return "9.8.7"; }
