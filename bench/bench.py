@@ -10,6 +10,7 @@ import os
 import pathlib
 import platform
 import re
+import resource
 import shutil
 import subprocess
 import sys
@@ -125,9 +126,9 @@ def by_c(levels, folder):
 
 def user_time(command, environment):
     """Seconds of a run, and what it printed."""
-    before = os.times().children_user
+    before = resource.getrusage(resource.RUSAGE_CHILDREN).ru_utime
     said = subprocess.run(command, env={**os.environ, **environment}, capture_output=True, text=True, check=True).stdout
-    return os.times().children_user - before, said
+    return resource.getrusage(resource.RUSAGE_CHILDREN).ru_utime - before, said
 
 
 def by_openssl(levels, folder):
@@ -152,7 +153,7 @@ def by_openssl(levels, folder):
                                  "-kdfopt", "salt:saltsalt", "-kdfopt", f"iter:{ROUNDS}", "PBKDF2"], environment)
             rounds.setdefault(name, []).append(ROUNDS / time / 1000)
     best = {name: [*map(max, zip(*speeds[name])), max(rounds[name])] for name in speeds}
-    title("Through OpenSSL, RIPEMD-160: messages by `openssl speed`, MB/s, and PBKDF2 by `openssl kdf`, thousands of rounds a second")
+    title("Through OpenSSL, RIPEMD-160: messages, MB/s; PBKDF2, thousands of rounds a second")
     table(["", *(f"{int(size):,} bytes" for size in sizes), "PBKDF2"],
           *([name, *(f"{figure:.4g}" + (f" ({figure / other:.2f})" if provider == "nattizhu" else "")
                      for figure, other in zip(best[name], best[version]))] for name, provider, _ in rows))
