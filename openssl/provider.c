@@ -1,6 +1,6 @@
-/* A provider of OpenSSL 3 over libnattizhu: the hash functions RIPEMD-128, -160, -256 and -320. OpenSSL
- * itself makes HMAC, PBKDF2 and signatures of them. What each function has to do is in OpenSSL's pages
- * provider(7), provider-base(7) and provider-digest(7). */
+/* A provider of OpenSSL 3 over libnattizhu: the hash functions RIPEMD-128, -160, -256 and -320.
+ * OpenSSL itself makes HMAC, PBKDF2 and signatures of them. What each function has to do is in
+ * OpenSSL's pages provider(7), provider-base(7) and provider-digest(7). */
 #include <openssl/core_dispatch.h>
 #include <openssl/core_names.h>
 #include <openssl/crypto.h>
@@ -10,7 +10,8 @@
 
 #include "nattizhu.h"
 
-/* ---- Digests. A context is a nattizhu_state, and zeros before init. */
+/* ---- Digests. A context is a nattizhu_state, whose first byte is the size of its digests. Before
+ * init it is zeros, which are no state. */
 
 static OSSL_FUNC_digest_newctx_fn new_context;
 static void *new_context(void *provider) {
@@ -59,7 +60,8 @@ static int get_params(OSSL_PARAM params[], size_t size) {
   return 1;
 }
 
-#define FUNCTION(kind, function) {OSSL_FUNC_DIGEST_##kind, (void (*)(void))(function)}
+#define FUNCTION(kind, function)                                                                   \
+  { OSSL_FUNC_DIGEST_##kind, (void (*)(void))(function) }
 
 /* The functions of a variant. */
 #define VARIANT(bits)                                                                              \
@@ -110,8 +112,7 @@ static const OSSL_PARAM *provider_gettable_params(void *provider) {
       OSSL_PARAM_DEFN(OSSL_PROV_PARAM_NAME, OSSL_PARAM_UTF8_PTR, NULL, 0),
       OSSL_PARAM_DEFN(OSSL_PROV_PARAM_VERSION, OSSL_PARAM_UTF8_PTR, NULL, 0),
       OSSL_PARAM_DEFN(OSSL_PROV_PARAM_BUILDINFO, OSSL_PARAM_UTF8_PTR, NULL, 0),
-      OSSL_PARAM_DEFN(OSSL_PROV_PARAM_STATUS, OSSL_PARAM_INTEGER, NULL, 0),
-      OSSL_PARAM_END};
+      OSSL_PARAM_DEFN(OSSL_PROV_PARAM_STATUS, OSSL_PARAM_INTEGER, NULL, 0), OSSL_PARAM_END};
   (void)provider;
   return gettable;
 }
@@ -129,7 +130,7 @@ static int provider_get_params(void *provider, OSSL_PARAM params[]) {
          (!status || OSSL_PARAM_set_int(status, 1));
 }
 
-/* The names of RIPEMD-160 are those that OpenSSL gives it; RIPEMD-320 has no number. */
+/* The names of RIPEMD-160 are those that OpenSSL gives it; RIPEMD-320 has no OID. */
 static OSSL_FUNC_provider_query_operation_fn query_operation;
 static const OSSL_ALGORITHM *query_operation(void *provider, int operation, int *no_cache) {
   static const char ours[] = "provider=nattizhu";

@@ -1,6 +1,7 @@
-// Tries the provider as a program has it through OpenSSL: EVP_MD, EVP_MAC, EVP_KDF, EVP_PKEY, and the functions
-// that the provider hands to OpenSSL.
-//   evp FOLDER DATA PART [TIMES]   the folder of nattizhu.so; that of digests-*.txt, tags.txt, keys.txt and
+// Tries the provider as a program has it through OpenSSL: EVP_MD, EVP_MAC, EVP_KDF, EVP_PKEY, and
+// the functions that the provider hands to OpenSSL.
+//   evp FOLDER DATA PART [TIMES]   the folder of nattizhu.so; that of digests-*.txt, tags.txt,
+//   keys.txt and
 //                                  rfc2286.txt, which others published or gave; a part of the cases
 #include <openssl/core_dispatch.h>
 #include <openssl/core_names.h>
@@ -122,25 +123,28 @@ static const struct variant *variant_of(int bits) {
 static bool is(EVP_MD_CTX *context, const unsigned char *wanted, size_t size) {
   unsigned char digest[EVP_MAX_MD_SIZE];
   unsigned length = 0;
-  return EVP_DigestFinal_ex(context, digest, &length) && length == size && !memcmp(digest, wanted, size);
+  return EVP_DigestFinal_ex(context, digest, &length) && length == size &&
+         !memcmp(digest, wanted, size);
 }
 
-static void try_digest(const EVP_MD *md, const unsigned char *message, size_t length, const unsigned char *wanted,
-                       size_t size) {
+static void try_digest(const EVP_MD *md, const unsigned char *message, size_t length,
+                       const unsigned char *wanted, size_t size) {
   static const size_t PIECES[] = {1, 3, 63, 64, 65, 4096};
   unsigned char digest[EVP_MAX_MD_SIZE];
   unsigned got = 0;
-  check(EVP_Digest(message, length, digest, &got, md, NULL) && got == size && !memcmp(digest, wanted, size),
+  check(EVP_Digest(message, length, digest, &got, md, NULL) && got == size &&
+            !memcmp(digest, wanted, size),
         "EVP_Digest", length);
   EVP_MD_CTX *context = EVP_MD_CTX_new(), *copy = EVP_MD_CTX_new();
   for (size_t p = 0; p < sizeof PIECES / sizeof PIECES[0]; p++) {
     bool right = EVP_DigestInit_ex(context, md, NULL) && EVP_DigestUpdate(context, NULL, 0);
     for (size_t at = 0; at < length; at += PIECES[p])
-      right = right && EVP_DigestUpdate(context, message + at, length - at < PIECES[p] ? length - at : PIECES[p]);
+      right = right && EVP_DigestUpdate(context, message + at,
+                                        length - at < PIECES[p] ? length - at : PIECES[p]);
     check(right && is(context, wanted, size), "pieces", length);
   }
-  // The copy, over what the last round left, goes on as the original would; and the original, with other bytes
-  // after the copy, is another message.
+  // The copy, over what the last round left, goes on as the original would; and the original, with
+  // other bytes after the copy, is another message.
   for (size_t at = 0; at <= length; at += length > 200 ? 1009 : 7) {
     check(EVP_DigestInit_ex(context, md, NULL) && EVP_DigestUpdate(context, message, at) &&
               EVP_MD_CTX_copy_ex(copy, context) && EVP_DigestUpdate(context, "other", 5) &&
@@ -199,20 +203,25 @@ static void try_vectors(OSSL_LIB_CTX *library, bool all_names) {
 
 // ---- HMAC and PBKDF2, which OpenSSL makes of our digests
 
-static void try_tag(EVP_MAC *hmac, const struct variant *v, const unsigned char *key, size_t key_length,
-                    const unsigned char *text, size_t length, const unsigned char *wanted) {
-  OSSL_PARAM params[] = {OSSL_PARAM_construct_utf8_string(OSSL_MAC_PARAM_DIGEST, (char *)v->names[0], 0),
-                         OSSL_PARAM_construct_utf8_string(OSSL_MAC_PARAM_PROPERTIES, OURS, 0),
-                         OSSL_PARAM_construct_end()};
+static void try_tag(EVP_MAC *hmac, const struct variant *v, const unsigned char *key,
+                    size_t key_length, const unsigned char *text, size_t length,
+                    const unsigned char *wanted) {
+  OSSL_PARAM params[] = {
+      OSSL_PARAM_construct_utf8_string(OSSL_MAC_PARAM_DIGEST, (char *)v->names[0], 0),
+      OSSL_PARAM_construct_utf8_string(OSSL_MAC_PARAM_PROPERTIES, OURS, 0),
+      OSSL_PARAM_construct_end()};
   unsigned char tag[EVP_MAX_MD_SIZE];
   size_t got = 0, half = length / 2;
   EVP_MAC_CTX *context = EVP_MAC_CTX_new(hmac), *copy = NULL;
   check(EVP_MAC_init(context, key, key_length, params) && EVP_MAC_update(context, text, half) &&
-            (copy = EVP_MAC_CTX_dup(context)) && EVP_MAC_update(context, text + half, length - half) &&
-            EVP_MAC_final(context, tag, &got, sizeof tag) && got == v->size && !memcmp(tag, wanted, got),
+            (copy = EVP_MAC_CTX_dup(context)) &&
+            EVP_MAC_update(context, text + half, length - half) &&
+            EVP_MAC_final(context, tag, &got, sizeof tag) && got == v->size &&
+            !memcmp(tag, wanted, got),
         "EVP_MAC", key_length);
-  check(EVP_MAC_update(copy, text + half, length - half) && EVP_MAC_final(copy, tag, &got, sizeof tag) &&
-            got == v->size && !memcmp(tag, wanted, got),
+  check(EVP_MAC_update(copy, text + half, length - half) &&
+            EVP_MAC_final(copy, tag, &got, sizeof tag) && got == v->size &&
+            !memcmp(tag, wanted, got),
         "EVP_MAC_CTX_dup", key_length);
   EVP_MAC_CTX_free(context);
   EVP_MAC_CTX_free(copy);
@@ -256,14 +265,16 @@ static void try_keys(OSSL_LIB_CTX *library) {
     count_up(password, password_length, 1);
     count_up(salt, salt_length, 0);
     OSSL_PARAM params[] = {
-        OSSL_PARAM_construct_utf8_string(OSSL_KDF_PARAM_DIGEST, (char *)variant_of(bits)->names[0], 0),
+        OSSL_PARAM_construct_utf8_string(OSSL_KDF_PARAM_DIGEST, (char *)variant_of(bits)->names[0],
+                                         0),
         OSSL_PARAM_construct_utf8_string(OSSL_KDF_PARAM_PROPERTIES, OURS, 0),
         OSSL_PARAM_construct_octet_string(OSSL_KDF_PARAM_PASSWORD, password, password_length),
         OSSL_PARAM_construct_octet_string(OSSL_KDF_PARAM_SALT, salt, salt_length),
         OSSL_PARAM_construct_uint(OSSL_KDF_PARAM_ITER, &rounds),
         OSSL_PARAM_construct_end()};
     EVP_KDF_CTX *context = EVP_KDF_CTX_new(pbkdf2);
-    check(EVP_KDF_derive(context, key, length, params) && !memcmp(key, wanted, length), "EVP_KDF", length);
+    check(EVP_KDF_derive(context, key, length, params) && !memcmp(key, wanted, length), "EVP_KDF",
+          length);
     EVP_KDF_CTX_free(context);
   }
   EVP_KDF_free(pbkdf2);
@@ -286,9 +297,11 @@ static void vectors(void) {
 
 // ---- which provider answers
 
-static bool answers(OSSL_LIB_CTX *library, const char *name, const char *properties, const char *wanted) {
+static bool answers(OSSL_LIB_CTX *library, const char *name, const char *properties,
+                    const char *wanted) {
   EVP_MD *md = EVP_MD_fetch(library, name, properties);
-  const bool right = md ? wanted && !strcmp(OSSL_PROVIDER_get0_name(EVP_MD_get0_provider(md)), wanted) : !wanted;
+  const bool right =
+      md ? wanted && !strcmp(OSSL_PROVIDER_get0_name(EVP_MD_get0_provider(md)), wanted) : !wanted;
   EVP_MD_free(md);
   ERR_clear_error();
   return right;
@@ -300,11 +313,13 @@ static void choices(void) {
   check(answers(l.library, "RIPEMD-160", OURS, "nattizhu"), "ours is asked for", 0);
   check(answers(l.library, "RIPEMD-160", "?" OURS, "nattizhu"), "ours is preferred", 0);
   check(answers(l.library, "RIPEMD-160", "provider=default", "default"), "theirs is asked for", 0);
-  check(answers(l.library, "RIPEMD-160", "provider=legacy", "legacy"), "that of legacy is asked for", 0);
+  check(answers(l.library, "RIPEMD-160", "provider=legacy", "legacy"),
+        "that of legacy is asked for", 0);
   check(answers(l.library, "RIPEMD-320", NULL, "nattizhu"), "there is one alone", 0);
   check(answers(l.library, "RIPEMD-320", "provider=default", NULL), "there is none", 0);
   check(answers(l.library, "SHA256", OURS, NULL), "we have none", 0);
-  check(EVP_set_default_properties(l.library, "?" OURS) && answers(l.library, "RIPEMD-160", NULL, "nattizhu") &&
+  check(EVP_set_default_properties(l.library, "?" OURS) &&
+            answers(l.library, "RIPEMD-160", NULL, "nattizhu") &&
             answers(l.library, "SHA256", NULL, "default"),
         "ours is preferred by default", 0);
   unload(l);
@@ -312,26 +327,30 @@ static void choices(void) {
 
 // ---- signatures
 
-static bool sign(struct loaded l, EVP_PKEY *key, const char *provider, const char *padding, unsigned char *signature,
-                 size_t *length, bool verify, const char *message) {
-  OSSL_PARAM params[] = {OSSL_PARAM_construct_utf8_string(OSSL_SIGNATURE_PARAM_DIGEST, "RIPEMD-160", 0),
-                         OSSL_PARAM_construct_utf8_string(OSSL_SIGNATURE_PARAM_PROPERTIES, (char *)provider, 0),
-                         OSSL_PARAM_construct_utf8_string(OSSL_SIGNATURE_PARAM_PAD_MODE, (char *)padding, 0),
-                         OSSL_PARAM_construct_end()};
+static bool sign(struct loaded l, EVP_PKEY *key, const char *provider, const char *padding,
+                 unsigned char *signature, size_t *length, bool verify, const char *message) {
+  OSSL_PARAM params[] = {
+      OSSL_PARAM_construct_utf8_string(OSSL_SIGNATURE_PARAM_DIGEST, "RIPEMD-160", 0),
+      OSSL_PARAM_construct_utf8_string(OSSL_SIGNATURE_PARAM_PROPERTIES, (char *)provider, 0),
+      OSSL_PARAM_construct_utf8_string(OSSL_SIGNATURE_PARAM_PAD_MODE, (char *)padding, 0),
+      OSSL_PARAM_construct_end()};
   const unsigned char *text = (const unsigned char *)message;
   EVP_MD_CTX *context = EVP_MD_CTX_new();
   const bool right =
-      verify ? EVP_DigestVerifyInit_ex(context, NULL, "RIPEMD-160", l.library, NULL, key, params) == 1 &&
-                   EVP_DigestVerify(context, signature, *length, text, strlen(message)) == 1
-             : EVP_DigestSignInit_ex(context, NULL, "RIPEMD-160", l.library, NULL, key, params) == 1 &&
-                   EVP_DigestSign(context, signature, length, text, strlen(message)) == 1;
+      verify
+          ? EVP_DigestVerifyInit_ex(context, NULL, "RIPEMD-160", l.library, NULL, key, params) ==
+                    1 &&
+                EVP_DigestVerify(context, signature, *length, text, strlen(message)) == 1
+          : EVP_DigestSignInit_ex(context, NULL, "RIPEMD-160", l.library, NULL, key, params) == 1 &&
+                EVP_DigestSign(context, signature, length, text, strlen(message)) == 1;
   EVP_MD_CTX_free(context);
   return right;
 }
 
 static void signatures(void) {
   static names WITH = {"nattizhu", "default"}, WITHOUT = {"default"};
-  static const char *const PADDINGS[] = {OSSL_PKEY_RSA_PAD_MODE_PKCSV15, OSSL_PKEY_RSA_PAD_MODE_PSS};
+  static const char *const PADDINGS[] = {OSSL_PKEY_RSA_PAD_MODE_PKCSV15,
+                                         OSSL_PKEY_RSA_PAD_MODE_PSS};
   static const char THEIRS[] = "provider=default";
   unsigned char ours[256], theirs[256], *der = NULL;
   struct loaded with = load(WITH), without = load(WITHOUT);
@@ -344,8 +363,10 @@ static void signatures(void) {
     check(sign(with, key, OURS, PADDINGS[p], ours, &n, false, "abc") &&
               sign(without, same, THEIRS, PADDINGS[p], theirs, &m, false, "abc"),
           "signatures", p);
-    check(sign(without, same, THEIRS, PADDINGS[p], ours, &n, true, "abc"), "ours, checked by theirs", p);
-    check(sign(with, key, OURS, PADDINGS[p], theirs, &m, true, "abc"), "theirs, checked by ours", p);
+    check(sign(without, same, THEIRS, PADDINGS[p], ours, &n, true, "abc"),
+          "ours, checked by theirs", p);
+    check(sign(with, key, OURS, PADDINGS[p], theirs, &m, true, "abc"), "theirs, checked by ours",
+          p);
     check(!sign(with, key, OURS, PADDINGS[p], theirs, &m, true, "abd"), "another text", p);
     check(p || (n == m && !memcmp(ours, theirs, n)), "the same signatures", p);
     check(!sign(without, same, OURS, PADDINGS[p], theirs, &m, false, "abc"), "without ours", p);
@@ -414,8 +435,8 @@ static struct functions functions_of(OSSL_PROVIDER *provider, const char *names)
   return f;
 }
 
-// Memory of OpenSSL, with the size in front of it: how much of it there is, whether the next request fails, and
-// whether all that was freed since then was zeros.
+// Memory of OpenSSL, with the size in front of it: how much of it there is, whether the next
+// request fails, and whether all that was freed since then was zeros.
 enum { HEAD = 16 };
 static size_t requests, blocks, largest;
 static bool refuse, wiped;
@@ -469,7 +490,8 @@ static void note(struct notes *notes, long long what) {
   notes->all[notes->count++] = what;
 }
 
-static void note_final(struct notes *notes, const struct functions *f, void *context, size_t size, size_t room) {
+static void note_final(struct notes *notes, const struct functions *f, void *context, size_t size,
+                       size_t room) {
   unsigned char digest[EVP_MAX_MD_SIZE];
   size_t length = 1000 + size, from = sizeof digest, to = 0;
   memset(digest, 0xa5, sizeof digest);
@@ -485,8 +507,8 @@ static void note_final(struct notes *notes, const struct functions *f, void *con
 }
 
 // A question for a value of this type and size.
-static void note_param(struct notes *notes, const struct functions *f, const char *name, unsigned type, size_t data_size,
-                       bool none, long long less) {
+static void note_param(struct notes *notes, const struct functions *f, const char *name,
+                       unsigned type, size_t data_size, bool none, long long less) {
   union {
     unsigned char bytes[64];
     unsigned char u8;
@@ -595,7 +617,8 @@ static void functions(void) {
     check(found.count == expected.count, "as many answers as OpenSSL's own", found.count);
     for (size_t i = 0; i < expected.count; i++)
       check(found.all[i] == expected.all[i], "an answer of OpenSSL's own", i);
-    check(all_among(ours.gettable_params(NULL), theirs.gettable_params(NULL)) && ours.gettable_params(NULL)[1].key,
+    check(all_among(ours.gettable_params(NULL), theirs.gettable_params(NULL)) &&
+              ours.gettable_params(NULL)[1].key,
           "gettable parameters", 0);
 
     // A context that was not begun, where OpenSSL's own write what is no digest.
@@ -603,7 +626,8 @@ static void functions(void) {
     unsigned n;
     void *context = ours.newctx(NULL);
     size_t length = 7, before = requests;
-    check(!ours.update(context, digest, 1) && !ours.final(context, digest, &length, sizeof digest) && length == 7,
+    check(!ours.update(context, digest, 1) &&
+              !ours.final(context, digest, &length, sizeof digest) && length == 7,
           "a context before init", 0);
     ours.freectx(context);
 
@@ -613,35 +637,38 @@ static void functions(void) {
     EVP_MD_free(md);
     before = requests;
     memset(digest, 7, sizeof digest);
-    check(!ours.digest(NULL, (const unsigned char *)"abc", 3, digest, &length, v->size - 1) && length == 7 &&
-              digest[0] == 7,
+    check(!ours.digest(NULL, (const unsigned char *)"abc", 3, digest, &length, v->size - 1) &&
+              length == 7 && digest[0] == 7,
           "one call, without room", 0);
     for (size_t room = v->size; room < v->size + 2; room++)
-      check(ours.digest(NULL, (const unsigned char *)"abc", 3, digest, &length, room) && length == v->size &&
-                !memcmp(digest, wanted, v->size) && digest[v->size] == 7,
+      check(ours.digest(NULL, (const unsigned char *)"abc", 3, digest, &length, room) &&
+                length == v->size && !memcmp(digest, wanted, v->size) && digest[v->size] == 7,
             "one call", room);
     EVP_MD *again = EVP_MD_fetch(l.library, v->names[0], OURS);
     EVP_Digest("", 0, wanted, &n, again, NULL);
     EVP_MD_free(again);
     before = requests;
-    check(ours.digest(NULL, NULL, 0, digest, &length, v->size) && !memcmp(digest, wanted, v->size) &&
-              requests == before,
+    check(ours.digest(NULL, NULL, 0, digest, &length, v->size) &&
+              !memcmp(digest, wanted, v->size) && requests == before,
           "one call, without bytes", 0);
   }
 
   // The provider's own parameters.
   const char *name = "", *version = "", *build = "";
   int status = 7, no_cache = 7;
-  OSSL_PARAM params[] = {OSSL_PARAM_construct_utf8_ptr(OSSL_PROV_PARAM_NAME, (char **)&name, 0),
-                         OSSL_PARAM_construct_utf8_ptr(OSSL_PROV_PARAM_VERSION, (char **)&version, 0),
-                         OSSL_PARAM_construct_utf8_ptr(OSSL_PROV_PARAM_BUILDINFO, (char **)&build, 0),
-                         OSSL_PARAM_construct_int(OSSL_PROV_PARAM_STATUS, &status), OSSL_PARAM_construct_end()};
+  OSSL_PARAM params[] = {
+      OSSL_PARAM_construct_utf8_ptr(OSSL_PROV_PARAM_NAME, (char **)&name, 0),
+      OSSL_PARAM_construct_utf8_ptr(OSSL_PROV_PARAM_VERSION, (char **)&version, 0),
+      OSSL_PARAM_construct_utf8_ptr(OSSL_PROV_PARAM_BUILDINFO, (char **)&build, 0),
+      OSSL_PARAM_construct_int(OSSL_PROV_PARAM_STATUS, &status), OSSL_PARAM_construct_end()};
   check(OSSL_PROVIDER_get_params(l.providers[1], params), "parameters of the provider", 0);
   printf("%s, %s, %s, %d\n", name, version, build, status);
   params[0] = OSSL_PARAM_construct_int(OSSL_PROV_PARAM_NAME, &status);
   check(!OSSL_PROVIDER_get_params(l.providers[1], params), "a name as a number", 0);
-  check(all_among(OSSL_PROVIDER_gettable_params(l.providers[0]), OSSL_PROVIDER_gettable_params(l.providers[1])) &&
-            all_among(OSSL_PROVIDER_gettable_params(l.providers[1]), OSSL_PROVIDER_gettable_params(l.providers[0])),
+  check(all_among(OSSL_PROVIDER_gettable_params(l.providers[0]),
+                  OSSL_PROVIDER_gettable_params(l.providers[1])) &&
+            all_among(OSSL_PROVIDER_gettable_params(l.providers[1]),
+                      OSSL_PROVIDER_gettable_params(l.providers[0])),
         "gettable parameters of the provider", 0);
   for (int operation = 0; operation <= OSSL_OP__HIGHEST; operation++)
     check((OSSL_PROVIDER_query_operation(l.providers[1], operation, &no_cache) != NULL) ==

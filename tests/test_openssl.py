@@ -232,8 +232,10 @@ def test_signatures(openssl, tmp_path):
         printed = openssl("dgst", "-propquery", "?provider=nattizhu", "-ripemd160", "-verify", "public", "-signature", name,
                           "text", cwd=tmp_path, **options).stdout
         assert printed == "Verified OK\n"
-    refused = openssl("dgst", "-ripemd320", "-sign", "key", "-out", "none", "text", cwd=tmp_path, status=1)
-    assert "digest not allowed" in refused.stderr
+    for padding in "pkcs1", "pss":
+        refused = openssl("dgst", "-ripemd320", "-sign", "key", "-sigopt", f"rsa_padding_mode:{padding}", "-out", "none",
+                          "text", cwd=tmp_path, status=1)
+        assert "digest not allowed" in refused.stderr
 
 
 # ---- by openssl.cnf
