@@ -96,7 +96,7 @@ def test_lintian(debs):
 def test_libraries_of_two_architectures_together(debs, tmp_path):
     """What their packages have under the same name is the same, so that dpkg installs both."""
     for deb in debs:
-        if deb.name.startswith("libnattizhu"):
+        if deb.name.startswith(("libnattizhu", "openssl-provider")):
             run("dpkg-deb", "-x", deb, tmp_path / deb.stem.rpartition("_")[2])
     if not (tmp_path / "arm64").exists():
         pytest.skip("there are no packages for arm64 (Debian's gcc-aarch64-linux-gnu, libpython3-dev:arm64)")
