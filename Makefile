@@ -94,7 +94,8 @@ install: prefix all library
 	@if command -v cc >/dev/null; then \
 	  $(MAKE) --no-print-directory install-library install-python; \
 	else \
-	  echo 'make: there is no C compiler (cc): libnattizhu, nattizhu.h and the package for Python are left out'; \
+	  echo 'make: there is no C compiler (cc): libnattizhu, nattizhu.h, the provider for OpenSSL and the package for' \
+	    'Python are left out'; \
 	fi
 
 # $(call filled,FILE,PLACE): copies a file with the version and places in it

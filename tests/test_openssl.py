@@ -350,10 +350,11 @@ def test_later_library_with_the_same_states(over):
     assert f"version: {version()}\n" in said and "build info: 9.8.7\n" in said
 
 
+@pytest.mark.parametrize("name", ["itself", "included", "switched"])
 @pytest.mark.parametrize("source", [None, STUB % 114], ids=["none", "other"])
-def test_configuration_without_the_library(over, configurations, tmp_path, source):
+def test_configuration_without_the_library(over, configurations, tmp_path, source, name):
     """OpenSSL goes on with its own."""
     over(source)
-    env = {"OPENSSL_MODULES": tmp_path / "ossl-modules", "OPENSSL_CONF": configurations["included"]}
+    env = {"OPENSSL_MODULES": tmp_path / "ossl-modules", "OPENSSL_CONF": configurations[name]}
     assert "SHA2-256(stdin)= ba7816bf" in run("openssl", "dgst", "-sha256", input="abc", env=env).stdout
     assert run("openssl", "dgst", "-ripemd160", input="abc", env=env).stdout == f"RIPEMD-160(stdin)= {ABC}\n"
