@@ -1,0 +1,5 @@
+pub mod Places
+pub mod Names
+pub mod Bodies
+pub mod Sayings
+pub mod Written

@@ -1,0 +1,91 @@
+-- What a line is read as is what it is a line of, and the other way round.
+use Rattle.std.proofs.Common.{◌≡◌, ℕ, Bool, true, false, List, [], ◌∷◌, ◌++◌, Option, Some, None, refl, sym, ap, subst, ◌∙◌, eqb, inl, inr}
+use Rattle.std.specs.Prelude.{option_map, IfSome}
+use Rattle.std.proofs.lemmas.Bool.Decides.{eqb_tells}
+use Rattle.std.proofs.lemmas.Option.{same_Some, none-some, option_and_then_some}
+use Rattle.ripemd_files.specs.declared.line.Variant.{Variant}
+use Rattle.ripemd_files.specs.declared.line.Layout.{Layout}
+use Rattle.ripemd_files.specs.declared.line.Line.{Line}
+use Rattle.ripemd_files.specs.Lines.{is_blank, IsBlank, mark_of, IsLine, Says}
+use Rattle.ripemd_files.specs.Reading.{skip_blanks, strip_mark, found_at, digest_at, name_at, Said, said_by, said_of}
+use Rattle.ripemd_files.proofs.Names.{name_at-said, name_at-spelled}
+use Rattle.ripemd_files.proofs.Bodies.{skip_blanks-sound, skip_blanks-front, starts-form, found_at-sound, found_at-form, digest_at-sound, digest_at-digest}
+
+strip_mark-sound : (bytes : List ℕ) → bytes ≡ mark_of (strip_mark bytes).0 ++ (strip_mark bytes).1
+strip_mark-sound [] = refl
+strip_mark-sound (x ∷ rest) =
+    elim (eqb_tells x 92) [
+      | inl is ↦ rw is.1 refl
+      | inr other ↦ rw other.0 refl
+    ]
+
+-- what a line says, it is a line of
+pub IsLine-said : (layout : Layout) (line : List ℕ) (said : Said) → said_by layout line ≡ Some said → IsLine layout line said.variant said.digest said.name
+unfolding said_by
+IsLine-said layout line said e =
+    let marked = strip_mark (skip_blanks line) in
+    let indent = skip_blanks-sound line in
+    option_and_then_some _ (found_at layout marked.1) said e (λ found is_found e2.
+    option_and_then_some _ (digest_at found.variant found.digits) said e2 (λ digest is_digest e3.
+    option_and_then_some _ (name_at marked.0 found.text) said e3 (λ name is_name e4.
+    let spelled = name_at-said marked.0 found.text name is_name in
+    subst (λ (s : Said). IsLine layout line s.variant s.digest s.name) (same_Some _ _ e4)
+    record {
+      indent = indent.0;
+      marked = marked.0;
+      body = marked.1;
+      digits = found.digits;
+      text = found.text;
+      is_indent = indent.1;
+      whole = indent.2 ∙ ap (λ (back : List ℕ). indent.0 ++ back) (strip_mark-sound (skip_blanks line));
+      form = found_at-sound layout marked.1 found is_found;
+      is_digest = digest_at-sound found.variant found.digits digest is_digest;
+      spelled = spelled.0;
+      no_zero = spelled.1;
+    })))
+
+-- behind the blanks stand the mark and the body
+marked-front : (indent : List ℕ) (marked : Bool) (x : ℕ) (rest : List ℕ) → IsBlank indent → is_blank x ≡ false → eqb x 92 ≡ false
+    → strip_mark (skip_blanks (indent ++ (mark_of marked ++ (x ∷ rest)))) ≡ (marked, x ∷ rest)
+marked-front indent true x rest blank other no_mark = rw (skip_blanks-front indent 92 (x ∷ rest) blank refl) refl
+marked-front indent false x rest blank other no_mark = rw (skip_blanks-front indent x rest blank other, no_mark) refl
+
+-- what it is a line of, it says
+pub said_by-line : (layout : Layout) (line : List ℕ) (variant : Variant) (digest name : List ℕ) → IsLine layout line variant digest name
+    → said_by layout line ≡ Some (record { variant = variant; digest = digest; name = name })
+unfolding said_by
+said_by-line layout line variant digest name h =
+    let first = starts-form layout h.body variant h.digits digest h.text h.form h.is_digest in
+    let marked : strip_mark (skip_blanks line) ≡ (h.marked, h.body) =
+    ap (λ (l : List ℕ). strip_mark (skip_blanks l)) (h.whole ∙ ap (λ (body : List ℕ). h.indent ++ (mark_of h.marked ++ body)) first.2)
+    ∙ marked-front h.indent h.marked first.0 first.1 h.is_indent first.3 first.4
+    ∙ ap (λ (body : List ℕ). (h.marked, body)) (sym first.2) in
+    let found = found_at-form layout h.body variant h.digits digest h.text h.form h.is_digest in
+    rw (marked, found, digest_at-digest variant h.digits digest h.is_digest, name_at-spelled h.marked h.text name h.spelled h.no_zero) refl
+
+-- what says nothing is no line
+pub no_line : (layout : Layout) (line : List ℕ) → said_by layout line ≡ None → (variant : Variant) (digest name : List ℕ) → ¬ IsLine layout line variant digest name
+no_line layout line none variant digest name h = none-some _ (sym none ∙ said_by-line layout line variant digest name h)
+
+-- a line says one thing
+pub one_line : (layout : Layout) (line : List ℕ) (variant other : Variant) (digest other_digest name other_name : List ℕ)
+    → IsLine layout line variant digest name → IsLine layout line other other_digest other_name → (variant ≡ other) × (digest ≡ other_digest) × (name ≡ other_name)
+one_line layout line variant other digest other_digest name other_name h k =
+    let same = same_Some _ _ (sym (said_by-line layout line variant digest name h) ∙ said_by-line layout line other other_digest other_name k) in
+    (ap (λ (s : Said). s.variant) same, ap (λ (s : Said). s.digest) same, ap (λ (s : Said). s.name) same)
+
+-- ---- what the code finds
+
+-- if what was found is what the line says, the line is one of it
+pub found_is_line : (layout : Layout) (line : List ℕ) (found : Option Line) → option_map said_of found ≡ said_by layout line
+    → IfSome found (λ l. IsLine layout line l.variant l.digest.items l.name.items)
+found_is_line layout line (Some l) e = IsLine-said layout line (said_of l) (sym e)
+found_is_line layout line None e = tt
+
+-- and what it is a line of was found
+pub line_is_found : (layout : Layout) (line : List ℕ) (found : Option Line) (variant : Variant) (digest name : List ℕ) → option_map said_of found ≡ said_by layout line
+    → IsLine layout line variant digest name → Says found variant digest name
+line_is_found layout line (Some l) variant digest name e h =
+    let same = same_Some _ _ (e ∙ said_by-line layout line variant digest name h) in
+    (ap (λ (s : Said). s.variant) same, ap (λ (s : Said). s.digest) same, ap (λ (s : Said). s.name) same)
+line_is_found layout line None variant digest name e h = absurd (none-some _ (e ∙ said_by-line layout line variant digest name h))

@@ -1,0 +1,6 @@
+-- What a line is: what has to be trusted.
+pub mod Lines
+-- Lines that coreutils wrote, and lines that it refused.
+pub mod Worked
+-- How the code reads a line.
+pub mod Reading

@@ -1,0 +1,14 @@
+//! The lines that `md5sum`, `sha256sum` and their kin print and check, for RIPEMD-128, RIPEMD-160,
+//! RIPEMD-256 and RIPEMD-320: a digest and the name of a file.
+#![tactic(auto)]
+
+pub mod facts;
+pub mod line;
+pub mod reading;
+#[cfg(test)]
+mod tests;
+pub mod writing;
+
+pub use line::{Ending, Form, Layout, Line, Variant};
+pub use reading::parse_line;
+pub use writing::write_line;

@@ -1,0 +1,302 @@
+//! Lines that are read.
+
+ghost use Rattle.std.specs.Prelude.{◌≡◌, ℕ, List, false, IfOk, IfSome, option_map};
+ghost use Rattle.ripemd_files.specs.declared.line.Variant.{Variant};
+ghost use Rattle.ripemd_files.specs.declared.line.Form.{Form};
+ghost use Rattle.ripemd_files.specs.declared.line.Ending.{Ending};
+ghost use Rattle.ripemd_files.specs.Lines.{is_blank, IsLine, Says, RoundTrips, line_of};
+ghost use Rattle.ripemd_files.specs.Reading.{strip, skip_blanks, split_blank, split_close, variant_of, strip_bits, strip_tag, text_at, untagged_at, skip_space, tagged_at, found_at, digest_at, meant_by, unescaped, name_at, strip_mark, said_by, found_of, said_of};
+
+use crate::line::{Layout, Line, Variant};
+use hex::FromHexError;
+use std::alloc::{AllocError, Global};
+
+// What a line says, in parts: the digits of the digest, and the text of the name.
+#[derive(Clone, Copy)]
+struct Parts<'a> {
+    variant: Variant,
+    digits: &'a [u8],
+    text: &'a [u8],
+}
+
+// Whether a byte is a space or a tab.
+fn is_blank_byte(byte: u8) -> bool
+    ensures { result ≡ is_blank byte }
+{
+    byte == b' ' || byte == b'\t'
+}
+
+// What stands behind the blanks at the front.
+fn without_blanks(text: &[u8]) -> &[u8]
+    ensures { result.now ≡ skip_blanks text.now }
+{
+    for (place, byte) in text.iter().enumerate() {
+        if !is_blank_byte(*byte) {
+            return &text[place..];
+        }
+    }
+    &[]
+}
+
+// What stands behind a prefix.
+fn behind<'a>(prefix: &[u8], text: &'a [u8]) -> Option<&'a [u8]>
+    ensures { option_map (λ x. x.now) result ≡ strip prefix.now text.now }
+{
+    text.strip_prefix(prefix)
+}
+
+// What stands before and behind the first blank.
+fn around_blank(text: &[u8]) -> Option<(&[u8], &[u8])>
+    ensures { option_map (λ x. (x.0.now, x.1.now)) result ≡ split_blank text.now }
+{
+    for (place, byte) in text.iter().enumerate() {
+        if is_blank_byte(*byte) {
+            return Some((&text[..place], &text[place + 1..]));
+        }
+    }
+    None
+}
+
+// What stands before and behind the last closing parenthesis.
+fn around_close(text: &[u8]) -> Option<(&[u8], &[u8])>
+    ensures { option_map (λ x. (x.0.now, x.1.now)) result ≡ split_close text.now }
+{
+    for place in (0..text.len()).rev() {
+        if text[place] == b')' {
+            return Some((&text[..place], &text[place + 1..]));
+        }
+    }
+    None
+}
+
+// The variant whose digest has so many digits.
+fn variant_by_digits(count: usize) -> Option<Variant>
+    ensures { result ≡ variant_of count }
+{
+    match count {
+        32 => Some(Variant::R128),
+        40 => Some(Variant::R160),
+        64 => Some(Variant::R256),
+        80 => Some(Variant::R320),
+        _ => None,
+    }
+}
+
+// The variant by its length in bits at the end of a tag, and what stands behind.
+fn behind_bits(text: &[u8]) -> Option<(Variant, &[u8])>
+    ensures { option_map (λ x. (x.0, x.1.now)) result ≡ strip_bits text.now }
+{
+    if let Some(rest) = behind(b"128", text) {
+        Some((Variant::R128, rest))
+    } else if let Some(rest) = behind(b"160", text) {
+        Some((Variant::R160, rest))
+    } else if let Some(rest) = behind(b"256", text) {
+        Some((Variant::R256, rest))
+    } else {
+        let rest = behind(b"320", text)?;
+        Some((Variant::R320, rest))
+    }
+}
+
+// The variant of a tag, and what stands behind it.
+#[tactic(auto, unfolding(crate::specs::Reading::strip_tag))]
+fn behind_tag(text: &[u8]) -> Option<(Variant, &[u8])>
+    ensures { option_map (λ x. (x.0, x.1.now)) result ≡ strip_tag text.now }
+{
+    if let Some(rest) = behind(b"RMD", text) {
+        behind_bits(rest)
+    } else if let Some(rest) = behind(b"RIPEMD-", text) {
+        behind_bits(rest)
+    } else {
+        behind_bits(behind(b"RIPEMD", text)?)
+    }
+}
+
+// The text of a name behind a blank, unless it is empty.
+fn behind_separator(layout: Layout, text: &[u8]) -> Option<&[u8]>
+    ensures { option_map (λ x. x.now) result ≡ text_at layout text.now }
+{
+    match layout {
+        Layout::Standard => match text {
+            [b' ' | b'*', name @ ..] if !name.is_empty() => Some(name),
+            _ => None,
+        },
+        Layout::Reversed => match text {
+            [] => None,
+            _ => Some(text),
+        },
+    }
+}
+
+// The parts of an untagged line.
+#[tactic(auto, unfolding(crate::specs::Reading::untagged_at))]
+fn untagged_parts(layout: Layout, body: &[u8]) -> Option<Parts<'_>>
+    ensures { option_map found_of result ≡ untagged_at layout body.now }
+{
+    let (digits, rest) = around_blank(body)?;
+    let variant = variant_by_digits(digits.len())?;
+    let text = behind_separator(layout, rest)?;
+    Some(Parts {
+        variant,
+        digits,
+        text,
+    })
+}
+
+// What stands behind one space, if it stands there.
+fn without_space(text: &[u8]) -> &[u8]
+    ensures { result.now ≡ skip_space text.now }
+{
+    match text {
+        [b' ', rest @ ..] => rest,
+        _ => text,
+    }
+}
+
+// The parts of a tagged line, from what stands behind its tag.
+#[tactic(auto, unfolding(crate::specs::Reading::tagged_at))]
+fn tagged_parts(variant: Variant, text: &[u8]) -> Option<Parts<'_>>
+    ensures { option_map found_of result ≡ tagged_at variant text.now }
+{
+    let inner = behind(b"(", without_space(text))?;
+    let (text, rest) = around_close(inner)?;
+    let digits = behind(b"=", without_blanks(rest))?;
+    Some(Parts {
+        variant,
+        digits: without_blanks(digits),
+        text,
+    })
+}
+
+// The parts of a line in either form.
+#[tactic(auto, unfolding(crate::specs::Reading::found_at))]
+fn either_parts(layout: Layout, body: &[u8]) -> Option<Parts<'_>>
+    ensures { option_map found_of result ≡ found_at layout body.now }
+{
+    match behind_tag(body) {
+        Some((variant, rest)) => tagged_parts(variant, rest),
+        None => untagged_parts(layout, body),
+    }
+}
+
+// The bytes of a digest.
+#[tactic(auto, unfolding(crate::specs::Reading::digest_at))]
+fn decode_digest(
+    alloc: Global,
+    variant: Variant,
+    digits: &[u8],
+) -> Result<Option<Vec<u8>>, AllocError>
+    ensures { IfOk result (λ found. option_map (λ v. v.items) found ≡ digest_at variant digits.now) }
+{
+    if digits.len() != 2 * variant.digest_size() {
+        return Ok(None);
+    }
+    match hex::decode(alloc, digits) {
+        Ok(digest) => Ok(Some(digest)),
+        Err(FromHexError::OutOfMemory) => Err(AllocError),
+        Err(_) => Ok(None),
+    }
+}
+
+// The byte that a letter behind a backslash stands for.
+fn meaning(letter: u8) -> Option<u8>
+    ensures { result ≡ meant_by letter }
+{
+    match letter {
+        b'\\' => Some(b'\\'),
+        b'n' => Some(b'\n'),
+        b'r' => Some(b'\r'),
+        _ => None,
+    }
+}
+
+// The name that an escaped text spells.
+#[tactic(auto, unfolding(crate::specs::Reading::unescaped))]
+fn unescape(alloc: Global, text: &[u8]) -> Result<Option<Vec<u8>>, AllocError>
+    ensures { IfOk result (λ found. option_map (λ v. v.items) found ≡ unescaped false text.now) }
+{
+    let mut name = Vec::with_capacity(alloc, text.len())?;
+    let mut escaping = false;
+    for &byte in text {
+        if escaping {
+            match meaning(byte) {
+                Some(meant) => name.push(meant)?,
+                None => return Ok(None),
+            }
+            escaping = false;
+        } else if byte == b'\\' {
+            escaping = true;
+        } else {
+            name.push(byte)?;
+        }
+    }
+    Ok(if escaping { None } else { Some(name) })
+}
+
+// The name of a file by its text, unless it has a zero.
+#[tactic(auto, unfolding(crate::specs::Reading::name_at))]
+fn read_name(alloc: Global, marked: bool, text: &[u8]) -> Result<Option<Vec<u8>>, AllocError>
+    ensures { IfOk result (λ found. option_map (λ v. v.items) found ≡ name_at marked text.now) }
+{
+    let spelled = if marked {
+        unescape(alloc, text)?
+    } else {
+        Some(Vec::from_slice(alloc, text)?)
+    };
+    match spelled {
+        Some(name) if !name.contains(&0) => Ok(Some(name)),
+        _ => Ok(None),
+    }
+}
+
+// Whether a line is marked as escaped, and what stands behind the mark.
+fn without_mark(text: &[u8]) -> (bool, &[u8])
+    ensures { (result.0, result.1.now) ≡ strip_mark text.now }
+{
+    match text {
+        [b'\\', rest @ ..] => (true, rest),
+        _ => (false, text),
+    }
+}
+
+// What a line says.
+#[tactic(auto, unfolding(crate::specs::Reading::said_by))]
+fn read_line(alloc: Global, layout: Layout, line: &[u8]) -> Result<Option<Line>, AllocError>
+    ensures { IfOk result (λ found. option_map said_of found ≡ said_by layout line.now) }
+{
+    let (marked, body) = without_mark(without_blanks(line));
+    let Some(parts) = either_parts(layout, body) else {
+        return Ok(None);
+    };
+    let Some(digest) = decode_digest(alloc, parts.variant, parts.digits)? else {
+        return Ok(None);
+    };
+    let Some(name) = read_name(alloc, marked, parts.text)? else {
+        return Ok(None);
+    };
+    Ok(Some(Line {
+        variant: parts.variant,
+        digest,
+        name,
+    }))
+}
+
+/// What a line says, given without its end: its variant, its digest and the name of its file;
+/// `None` if it is no line of a digest and a name.
+///
+/// It takes the lines that [`write_line`](crate::write_line) writes, and what `sha256sum --check`
+/// takes beside them: blanks in front, digits of either case, a tab for the first of the two
+/// spaces, and tagged lines as OpenSSL writes them. The length of an untagged digest tells the
+/// variant.
+pub fn parse_line(alloc: Global, layout: Layout, line: &[u8]) -> Result<Option<Line>, AllocError>
+    // What is found, it is a line of.
+    ensures found { IfOk result (λ found. IfSome found (λ l. IsLine layout line.now l.variant l.digest.items l.name.items)) }
+    // What it is a line of is found, and nothing else.
+    ensures only { (variant : Variant) (digest name : List ℕ) → IsLine layout line.now variant digest name
+        → IfOk result (λ found. Says found variant digest name) }
+    // What was written is found.
+    ensures written { (ending : Ending) (form : Form) (variant : Variant) (digest name : List ℕ) → RoundTrips layout form variant digest name
+        → line.now ≡ line_of ending form variant digest name → IfOk result (λ found. Says found variant digest name) }
+{
+    read_line(alloc, layout, line)
+}

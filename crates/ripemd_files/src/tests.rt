@@ -1,0 +1,54 @@
+// That lines are written and read where memory is left, which no clause says. The digest is that of
+// the empty message, by the authors.
+use crate::{Ending, Form, Layout, Line, Variant, parse_line, write_line};
+use std::alloc::{AllocError, Global};
+use std::test::Fail;
+
+const DIGEST: [u8; 20] = [
+    0x9c, 0x11, 0x85, 0xa5, 0xc5, 0xe9, 0xfc, 0x54, 0x61, 0x28, 0x08, 0x97, 0x7e, 0xe8, 0xf5, 0x48,
+    0xb2, 0x25, 0x8d, 0x31,
+];
+
+fn expected(alloc: Global, name: &[u8]) -> Result<Option<Line>, AllocError> {
+    Ok(Some(Line {
+        variant: Variant::R160,
+        digest: Vec::from_slice(alloc, &DIGEST)?,
+        name: Vec::from_slice(alloc, name)?,
+    }))
+}
+
+#[test]
+fn a_line_is_read(rt: HostRuntime) -> Result<(), Fail> {
+    let alloc = rt.alloc();
+    let line = b"\\9c1185a5c5e9fc54612808977ee8f548b2258d31  a\\\\b";
+    let found = parse_line(alloc, Layout::Standard, line)?;
+    assert_eq!(rt; found, expected(alloc, b"a\\b")?);
+    let line = b"RIPEMD-160(a)= 9c1185a5c5e9fc54612808977ee8f548b2258d31";
+    let found = parse_line(alloc, Layout::Standard, line)?;
+    assert_eq!(rt; found, expected(alloc, b"a")?);
+    let line = b"9c1185a5c5e9fc54612808977ee8f548b2258d31 a";
+    assert_eq!(rt; parse_line(alloc, Layout::Standard, line)?, None);
+    let found = parse_line(alloc, Layout::Reversed, line)?;
+    assert_eq!(rt; found, expected(alloc, b"a")?);
+    Ok(())
+}
+
+#[test]
+fn a_line_is_written(rt: HostRuntime) -> Result<(), Fail> {
+    let alloc = rt.alloc();
+    let ending = Ending::Newline;
+    let line = write_line(alloc, ending, Form::Text, Variant::R160, &DIGEST, b"a\\b")?;
+    let written = b"\\9c1185a5c5e9fc54612808977ee8f548b2258d31  a\\\\b\n";
+    assert_eq!(rt; line.as_slice(), written.as_slice());
+    let line = write_line(
+        alloc,
+        Ending::Zero,
+        Form::Tagged,
+        Variant::R160,
+        &DIGEST,
+        b"a\n",
+    )?;
+    let written = b"RMD160 (a\n) = 9c1185a5c5e9fc54612808977ee8f548b2258d31\0";
+    assert_eq!(rt; line.as_slice(), written.as_slice());
+    Ok(())
+}
