@@ -101,12 +101,13 @@ split_close-sound (x ∷ bytes) before rest e = go (split_close-sound bytes) (sp
         let parts = some_pair_parts [] before bytes rest (ap (λ (p : List ℕ × List ℕ). parts_of p.0 p.1) here.1) in
         rw (← parts.0, ← parts.1, eqb-true x 41 here.0) refl
 
--- a byte that is a digit is no blank, no parenthesis, no backslash and no R
+-- a byte that is a digit is no blank, no parenthesis, no backslash, no R and no #
 pub record IsPlain (x : ℕ) : Type 0 where
   pub no_blank : is_blank x ≡ false
   pub no_close : eqb x 41 ≡ false
   pub no_mark : eqb x 92 ≡ false
   pub no_tag : eqb x 82 ≡ false
+  pub no_comment : eqb x 35 ≡ false
 
 differs : (x y : ℕ) → is_hex_digit x ≡ true → is_hex_digit y ≡ false → eqb x y ≡ false
 differs x y is other = ne_eqb x y (λ same. cc (sym other ∙ ap is_hex_digit (sym same) ∙ is))
@@ -117,6 +118,7 @@ plain_digit x is = record {
   no_close = differs x 41 is refl;
   no_mark = differs x 92 is refl;
   no_tag = differs x 82 is refl;
+  no_comment = differs x 35 is refl;
 }
 
 -- digits, one after the other
@@ -449,19 +451,19 @@ found_at-form layout body variant digits digest text (inr form) is =
 
 -- ---- the mark
 
--- what a body starts with is no blank and no mark
+-- what a body starts with is no blank, no mark and no comment
 pub starts-form : (layout : Layout) (body : List ℕ) (variant : Variant) (digits digest text : List ℕ)
-    → IsUntagged layout body digits text ⊎ IsTagged body variant digits text → IsDigest variant digits digest → (x : ℕ) × (rest : List ℕ) × (body ≡ x ∷ rest) × (is_blank x ≡ false) × (eqb x 92 ≡ false)
+    → IsUntagged layout body digits text ⊎ IsTagged body variant digits text → IsDigest variant digits digest → (x : ℕ) × (rest : List ℕ) × (body ≡ x ∷ rest) × (is_blank x ≡ false) × (eqb x 92 ≡ false) × (eqb x 35 ≡ false)
 starts-form layout body variant digits digest text (inl form) is =
     let first = starts variant digits digest is in
-    (first.0, first.1 ++ (form.separator ++ text), form.whole ∙ ap (λ (front : List ℕ). front ++ (form.separator ++ text)) first.2, first.3.no_blank, first.3.no_mark)
+    (first.0, first.1 ++ (form.separator ++ text), form.whole ∙ ap (λ (front : List ℕ). front ++ (form.separator ++ text)) first.2, first.3.no_blank, first.3.no_mark, first.3.no_comment)
 starts-form layout body variant digits digest text (inr form) is =
     let back = form.space ++ (codes "(" ++ (text ++ (codes ")" ++ (form.before ++ (codes "=" ++ (form.after ++ digits)))))) in
     let whole = λ (front : List ℕ) (e : form.tag ≡ front). form.whole ∙ ap (λ (front : List ℕ). front ++ back) e in
     elim form.is_tag [
-      | inl e ↦ (82, _, whole (tag_of variant) e, refl, refl)
+      | inl e ↦ (82, _, whole (tag_of variant) e, refl, refl, refl)
       | inr e ↦ elim e [
-        | inl e ↦ (82, _, whole (codes "RIPEMD-" ++ bits_of variant) e, refl, refl)
-        | inr e ↦ (82, _, whole (codes "RIPEMD" ++ bits_of variant) e, refl, refl)
+        | inl e ↦ (82, _, whole (codes "RIPEMD-" ++ bits_of variant) e, refl, refl, refl)
+        | inr e ↦ (82, _, whole (codes "RIPEMD" ++ bits_of variant) e, refl, refl, refl)
       ]
     ]

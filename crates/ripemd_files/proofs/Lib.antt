@@ -3,3 +3,4 @@ pub mod Names
 pub mod Bodies
 pub mod Sayings
 pub mod Written
+pub mod Ends

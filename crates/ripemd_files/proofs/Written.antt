@@ -13,7 +13,7 @@ use Rattle.ripemd_files.specs.declared.line.Layout.TheVariants.{Standard, Revers
 use Rattle.ripemd_files.specs.Lines.{tag_of, escape_of, escaped, Spells, text_of, body_of, line_of, is_marked, IsDigest, IsUntagged, IsTagged, IsLine, IsReadable, RoundTrips}
 use Rattle.ripemd_files.proofs.Names.{Spells-escaped}
 
-IsDigest-written : (layout : Layout) (form : Form) (variant : Variant) (digest name : List ℕ) → RoundTrips layout form variant digest name
+pub IsDigest-written : (layout : Layout) (form : Form) (variant : Variant) (digest name : List ℕ) → RoundTrips layout form variant digest name
     → IsDigest variant (encode_lower digest) digest
 IsDigest-written layout form variant digest name can = record {
   twice = length-encode_with lower_digits digest ∙ ap (λ (n : ℕ). 2 * n) can.size;

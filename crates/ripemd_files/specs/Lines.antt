@@ -88,6 +88,10 @@ abbrev pub end_of : Ending → List ℕ
 end_of Newline = codes "\n"
 end_of Zero = 0 ∷ []
 
+-- a byte that ends a line, or stands before its end
+abbrev pub is_end : ℕ → Bool
+is_end byte = (byte == 0) || (byte == 10) || (byte == 13)
+
 -- ---- lines that are read
 
 -- a space or a tab

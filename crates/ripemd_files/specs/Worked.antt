@@ -1,6 +1,6 @@
--- Lines of files that contain "abc". sha256sum 9.1 of coreutils wrote, took or refused each of them
--- with its own digest and tag in place of these; OpenSSL's tags are those of `openssl dgst`. The
--- digests are the authors'.
+-- Lines of files that contain "abc". sha256sum of coreutils writes, takes and refuses the same, but for
+-- those of the last record, with its digest and tag in place of these (tests/test_lines.py compares
+-- them). The digests are the authors'.
 use Rattle.std.specs.Prelude.{◌≡◌, ℕ, List, [], ◌∷◌, ◌++◌, codes}
 use Rattle.ripemd_files.specs.declared.line.Variant.{Variant}
 use Rattle.ripemd_files.specs.declared.line.Variant.TheVariants.{R128, R160, R256, R320}

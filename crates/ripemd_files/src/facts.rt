@@ -1,10 +1,13 @@
 //! What is proved of the definitions themselves: that they give worked cases, and laws. The
 //! functions do nothing; their contracts are the facts.
 
-ghost use Rattle.std.specs.Prelude.{◌≡◌, ℕ, List};
+ghost use Rattle.std.specs.Prelude.{◌≡◌, ◌≢◌, ◌==◌, ℕ, List, ◌∷◌, false};
+ghost use Rattle.std.specs.List.{list_any};
 ghost use Rattle.ripemd_files.specs.declared.line.Variant.{Variant};
 ghost use Rattle.ripemd_files.specs.declared.line.Layout.{Layout};
-ghost use Rattle.ripemd_files.specs.Lines.{IsLine};
+ghost use Rattle.ripemd_files.specs.declared.line.Form.{Form};
+ghost use Rattle.ripemd_files.specs.declared.line.Ending.TheVariants.{Newline, Zero};
+ghost use Rattle.ripemd_files.specs.Lines.{IsLine, RoundTrips, line_of, is_end};
 ghost use Rattle.ripemd_files.specs.Worked.{WrittenLines, EscapedLines, UntaggedLines, MarkedLines, TaggedLines, ReversedLines, RefusedLines, RefusedTags, Zeros};
 
 /// Lines as coreutils writes them.
@@ -33,4 +36,17 @@ pub fn one_meaning()
     ensures { (layout : Layout) (line : List ℕ) (variant other_variant : Variant) (digest other_digest name other_name : List ℕ)
         → IsLine layout line variant digest name → IsLine layout line other_variant other_digest other_name
         → (variant ≡ other_variant) × (digest ≡ other_digest) × (name ≡ other_name) }
+{}
+
+/// Where a written line ends, and how no line begins, so that lists can be split into lines.
+pub fn line_ends()
+    // Before the newline stands no newline, no carriage return and no zero.
+    ensures newline { (layout : Layout) (form : Form) (variant : Variant) (digest name : List ℕ) → RoundTrips layout form variant digest name
+        → list_any is_end (line_of Newline form variant digest name) ≡ false }
+    // Before the zero stands none.
+    ensures zero { (layout : Layout) (form : Form) (variant : Variant) (digest name : List ℕ) → RoundTrips layout form variant digest name
+        → list_any (λ byte. byte == 0) (line_of Zero form variant digest name) ≡ false }
+    // A line is not empty, and begins with no `#`.
+    ensures first { (layout : Layout) (line : List ℕ) (variant : Variant) (digest name : List ℕ) → IsLine layout line variant digest name
+        → (byte : ℕ) × (rest : List ℕ) × (line ≡ byte ∷ rest) × (byte ≢ 35) }
 {}

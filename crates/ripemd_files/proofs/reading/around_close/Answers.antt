@@ -1,4 +1,4 @@
-use Rattle.std.proofs.Common.{◌≡◌, ◌-◌, ◌+◌, ◌<◌, length, drop, take, Some, None, refl, sym, ◌∙◌, ap, arith, List, ℕ}
+use Rattle.std.proofs.Common.{◌≡◌, ◌-◌, ◌+◌, ◌<◌, length, drop, None, refl, arith}
 use Rattle.std.proofs.Math.Seq.{drop-length}
 use Rattle.ripemd_files.specs.Reading.{split_close}
 use Rattle.ripemd_files.proofs.Places.{split_close-found, split_close-other}
