@@ -1,6 +1,6 @@
 const encoder = new TextEncoder();
 const NONE = new Uint8Array(0);
-const PLAIN = [Uint8Array.prototype, globalThis.Buffer?.prototype];
+const PLAIN = Uint8Array.prototype, BUFFER = globalThis.Buffer?.prototype;
 
 /**
  * The same bytes, after the checks of @noble/hashes; none, where the array has lost its buffer. Those of another class
@@ -12,7 +12,8 @@ export function abytes(bytes, length) {
   if (length !== undefined && bytes.length !== length)
     throw new Error(`Uint8Array expected of length ${length}, got length=${bytes.length}`);
   if (!bytes.length) return NONE;
-  return PLAIN.includes(Object.getPrototypeOf(bytes)) ? bytes
+  const prototype = Object.getPrototypeOf(bytes);
+  return prototype === PLAIN || prototype === BUFFER ? bytes
     : new Uint8Array(bytes.buffer, bytes.byteOffset, bytes.length);
 }
 

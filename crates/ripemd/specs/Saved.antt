@@ -1,6 +1,5 @@
 -- States that are saved as bytes (this repository's own).
-use Rattle.std.specs.Prelude.{◌≡◌, ℕ, ◌+◌, ◌≤◌, List, ◌++◌, length}
-use Rattle.ripemd_block.specs.Standard.Words.{block_size}
+use Rattle.std.specs.Prelude.{◌≡◌, ℕ, List, ◌++◌}
 use Rattle.ripemd_block.specs.States.{IsTail, tail_bytes}
 
 -- a state that can occur, and the bytes that it is saved as
@@ -22,9 +21,3 @@ pub record IsTailAppended (old piece new : List ℕ) : Type 0 where
   pub before : tail_bytes tail ≡ old
   pub after : tail_bytes (tail ++ piece) ≡ new
   pub still_valid : IsTail (tail ++ piece)
-
--- a piece that ends the block of the tail, whatever state is saved as these bytes: none is, or its tail and the
--- piece are a block or more
-abbrev pub EndsBlock : {S : Type 0} → (S → Type 0) → (S → List ℕ) → (S → List ℕ) → List ℕ → List ℕ → Type 0
-EndsBlock {S} is_valid state_bytes tail_of old piece =
-    (state : S) → is_valid state → state_bytes state ≡ old → block_size ≤ length (tail_of state) + length piece

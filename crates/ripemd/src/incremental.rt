@@ -4,11 +4,11 @@
 ghost use Rattle.std.specs.Prelude.{◌≡◌, ◌≢◌, ℕ, List, [], ◌++◌, IfOk, IfErr, IsTrue, IsFalse, ⊤};
 ghost use Rattle.ripemd_block.specs.Standard.Hashing.{hash};
 ghost use Rattle.ripemd_block.specs.States.{IsHashState, core_and_tail, initial_state, fed, finish};
-ghost use Rattle.ripemd.specs.Saved.{EndsBlock, IsAppended};
+ghost use Rattle.ripemd.specs.Saved.{IsAppended};
 
 use crate::digest::{Digest, OutputSizeUser, SerializableState};
 use crate::hashers::BlockHasher;
-use crate::state::{DeserializeStateError, append_saved};
+use crate::state::{DeserializeStateError, update_saved};
 use ripemd_block::block_api::{ByteArray, ListBlockFunction, ResumableFunction};
 
 /// A hasher or an HMAC: it takes a message in pieces, and gives its digest or its tag at the end. How
@@ -62,33 +62,28 @@ pub trait Resumable: Incremental {
     // The bytes that a state is saved as.
     ghost state_bytes: { Self → List ℕ };
 
-    // The bytes of the message after its whole blocks.
-    ghost tail_of: { Self → List ℕ };
-
     /// Saves the state.
     fn save(&self) -> Self::Saved
         ensures bytes { Self.Saved.bytes result ≡ state_bytes self.now }
         ensures valid { is_valid self.now };
 
-    /// Makes the state that was saved as these bytes.
+    /// Makes the state that was saved as these bytes, which are all the bytes of the array.
     ///
     /// # Errors
     ///
     /// `DeserializeStateError` if no state is saved as these bytes.
-    fn load(saved: &Self::Saved) -> Result<Self, DeserializeStateError>
-        ensures ok { IfOk result (λ loaded. state_bytes loaded ≡ Self.Saved.bytes saved.now) }
+    fn load_from(bytes: &[u8]) -> Result<Self, DeserializeStateError>
+        ensures ok { IfOk result (λ loaded. state_bytes loaded ≡ bytes.now) }
         ensures valid { IfOk result is_valid }
         ensures err { IfErr result
-            (λ _. (s : Self) → is_valid s → state_bytes s ≢ Self.Saved.bytes saved.now) };
+            (λ _. (s : Self) → is_valid s → state_bytes s ≢ bytes.now) };
 
-    /// Appends bytes to the message of a saved state within its saved bytes, which takes only its tail.
-    /// False, and nothing is written, exactly if it cannot: if the bytes end a block, or no state is
-    /// saved as these.
-    fn append_saved(saved: &mut [u8], bytes: &[u8]) -> bool
+    /// Appends bytes to the message of a saved state: makes its saved bytes those of the state after them.
+    /// False, and nothing is written, exactly if no state is saved as these.
+    fn update_saved(saved: &mut [u8], bytes: &[u8]) -> bool
         ensures appended { IsTrue result
             → IsAppended is_valid state_bytes Self.fed saved.old bytes.now saved.new }
-        ensures refused { IsFalse result
-            → EndsBlock is_valid state_bytes tail_of saved.old bytes.now }
+        ensures refused { IsFalse result → (s : Self) → is_valid s → state_bytes s ≢ saved.old }
         ensures unchanged { IsFalse result → saved.new ≡ saved.old };
 
     // States that are saved as the same bytes are the same.
@@ -133,18 +128,16 @@ impl<F: ResumableFunction> Resumable for BlockHasher<F> {
 
     ghost state_bytes = { core_and_tail F.output };
 
-    ghost tail_of = { λ h. h.tail };
-
     fn save(&self) -> F::SavedHasher {
         self.serialize()
     }
 
-    fn load(saved: &F::SavedHasher) -> Result<BlockHasher<F>, DeserializeStateError> {
-        BlockHasher::deserialize(saved)
+    fn load_from(bytes: &[u8]) -> Result<BlockHasher<F>, DeserializeStateError> {
+        BlockHasher::load_slice(bytes)
     }
 
-    fn append_saved(saved: &mut [u8], bytes: &[u8]) -> bool {
-        append_saved::<F>(saved, bytes)
+    fn update_saved(saved: &mut [u8], bytes: &[u8]) -> bool {
+        update_saved::<F>(saved, bytes)
     }
 
     ghost use Rattle.ripemd_block.specs.Laws.Saved.{core_and_tail_injective};

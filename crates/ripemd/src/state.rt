@@ -5,11 +5,13 @@ ghost use Rattle.std.specs.List.{All};
 ghost use Rattle.std.specs.Int.{to_le_bytes, w64};
 ghost use Rattle.ripemd_block.specs.Standard.Words.{block_size};
 ghost use Rattle.ripemd_block.specs.States.{HashState, IsHashState, IsTail, core_and_tail, fed, tail_bytes};
-ghost use Rattle.ripemd.specs.Saved.{EndsBlock, IsAppended, IsTailAppended};
+ghost use Rattle.ripemd.specs.Saved.{IsAppended, IsTailAppended};
 
 use crate::hashers::BlockHasher;
 pub use ripemd_block::block_api::DeserializeStateError;
-use ripemd_block::block_api::{BlockCore, ByteArray, ResumableFunction, SerializableState};
+use ripemd_block::block_api::{
+    BlockCore, ByteArray, ResumableFunction, SerializableState, write_short,
+};
 use ripemd_block::buffer::Buffer;
 
 impl<F: ResumableFunction> SerializableState for BlockHasher<F> {
@@ -21,7 +23,8 @@ impl<F: ResumableFunction> SerializableState for BlockHasher<F> {
 
     fn serialize(&self) -> F::SavedHasher {
         let core = self.core.serialize();
-        let tail = save_tail(self.buffer.get_data());
+        let mut tail = [0; 64];
+        save_tail(self.buffer.get_data(), &mut tail);
         F::SavedHasher::from_slices(core.as_bytes(), &tail).unwrap()
     }
 
@@ -51,19 +54,21 @@ impl<F: ResumableFunction> SerializableState for BlockHasher<F> {
     ghost same_saved = { F.SavedHasher.same_array };
 }
 
-// The length of a tail, its bytes, and zero bytes to the end of the array.
-fn save_tail(tail: &[u8]) -> [u8; 64]
-    requires { length tail.now < block_size }
-    ensures { result ≡ tail_bytes tail.now }
+// Writes the length of a tail, its bytes, and zero bytes to the end.
+#[inline(always)]
+fn save_tail(tail: &[u8], saved: &mut [u8])
+    requires short { length tail.now < block_size }
+    requires size { length saved.old ≡ block_size }
+    ensures { saved.new ≡ tail_bytes tail.now }
 {
-    let mut saved = [0; 64];
+    saved.fill(0);
     let (len, rest) = saved.split_at_mut(1);
     len[0] = tail.len() as u8;
-    rest[..tail.len()].copy_from_slice(tail);
-    saved
+    write_short(rest, tail);
 }
 
 // The tail that was saved as these bytes; `None` if there is none.
+#[inline(always)]
 fn load_tail(saved: &[u8]) -> Option<Buffer>
     requires { length saved.now ≡ block_size }
     ensures some { IfSome result (λ tail. tail_bytes tail ≡ saved.now) }
@@ -81,14 +86,24 @@ fn load_tail(saved: &[u8]) -> Option<Buffer>
     Buffer::try_new(tail)
 }
 
-/// Appends bytes to the message of a saved hasher within its saved bytes, which takes only its tail.
-/// False, and nothing is written, exactly if it cannot: if the bytes end a block, or no hasher is saved
-/// as these.
-pub fn append_saved<F: ResumableFunction>(saved: &mut [u8], bytes: &[u8]) -> bool
+/// Appends bytes to the message of a saved hasher: makes its saved bytes those of the hasher after them.
+/// False, and nothing is written, exactly if no hasher is saved as these.
+pub fn update_saved<F: ResumableFunction>(saved: &mut [u8], bytes: &[u8]) -> bool
     ensures appended { IsTrue result → IsAppended (IsHashState F.are_words) (core_and_tail F.output)
         (fed F.step) saved.old bytes.now saved.new }
-    ensures refused { IsFalse result → EndsBlock (IsHashState F.are_words) (core_and_tail F.output)
-        (λ (h : HashState). h.tail) saved.old bytes.now }
+    ensures refused { IsFalse result → (h : HashState) → IsHashState F.are_words h
+        → core_and_tail F.output h ≢ saved.old }
+    ensures unchanged { IsFalse result → saved.new ≡ saved.old }
+{
+    append_saved::<F>(saved, bytes) || absorb_saved::<F>(saved, bytes)
+}
+
+// The same of bytes that end no block, which takes only the tail. Where it answers false, `absorb_saved` has
+// to be asked.
+#[inline(always)]
+fn append_saved<F: ResumableFunction>(saved: &mut [u8], bytes: &[u8]) -> bool
+    ensures appended { IsTrue result → IsAppended (IsHashState F.are_words) (core_and_tail F.output)
+        (fed F.step) saved.old bytes.now saved.new }
     ensures unchanged { IsFalse result → saved.new ≡ saved.old }
 {
     if saved.len() != <F::SavedHasher as ByteArray>::LEN {
@@ -101,12 +116,39 @@ pub fn append_saved<F: ResumableFunction>(saved: &mut [u8], bytes: &[u8]) -> boo
     }
 }
 
-// The same of a saved tail.
+// The same of any bytes. Not inlined, so that short pieces take none of its stack.
+#[inline(never)]
+#[tactic(auto, unfolding(ripemd_block::specs::States::fed))]
+fn absorb_saved<F: ResumableFunction>(saved: &mut [u8], bytes: &[u8]) -> bool
+    ensures appended { IsTrue result → IsAppended (IsHashState F.are_words) (core_and_tail F.output)
+        (fed F.step) saved.old bytes.now saved.new }
+    ensures refused { IsFalse result → (h : HashState) → IsHashState F.are_words h
+        → core_and_tail F.output h ≢ saved.old }
+    ensures unchanged { IsFalse result → saved.new ≡ saved.old }
+{
+    if saved.len() != <F::SavedHasher as ByteArray>::LEN {
+        return false;
+    }
+    let (front, back) = saved.split_at_mut(<F::SavedCore as ByteArray>::LEN);
+    let Ok(loaded) = BlockCore::<F>::load_slice(front) else {
+        return false;
+    };
+    let mut core = loaded;
+    let Some(tail) = load_tail(back) else {
+        return false;
+    };
+    let mut buffer = tail;
+    buffer.absorb(&mut core, bytes);
+    let after = core.serialize();
+    front.copy_from_slice(after.as_bytes());
+    save_tail(buffer.get_data(), back);
+    true
+}
+
+// The same of a saved tail, if they end no block.
 fn append_tail(saved: &mut [u8], bytes: &[u8]) -> bool
     requires { length saved.old ≡ block_size }
     ensures appended { IsTrue result → IsTailAppended saved.old bytes.now saved.new }
-    ensures refused { IsFalse result
-        → EndsBlock IsTail tail_bytes (λ (tail : List ℕ). tail) saved.old bytes.now }
     ensures unchanged { IsFalse result → saved.new ≡ saved.old }
 {
     let len = saved[0] as usize;
@@ -119,22 +161,9 @@ fn append_tail(saved: &mut [u8], bytes: &[u8]) -> bool
     }
     bytes_in_range(front);
     bytes_in_range(bytes);
-    write(room, bytes);
+    write_short(room, bytes);
     front[0] = (len + bytes.len()) as u8;
     true
-}
-
-// Writes bytes to the front. One byte alone takes no call of `memmove`.
-#[inline(always)]
-fn write(room: &mut [u8], bytes: &[u8])
-    requires { length bytes.now ≤ length room.old }
-    ensures { room.new ≡ bytes.now ++ drop (length bytes.now) room.old }
-{
-    if bytes.len() == 1 {
-        room[0] = bytes[0];
-    } else {
-        room[..bytes.len()].copy_from_slice(bytes);
-    }
 }
 
 // Proof only: bytes are below 256.

@@ -6,6 +6,7 @@ ghost use Rattle.ripemd_block.specs.Standard.Hashing.{length_place, with_padding
 ghost use Rattle.ripemd_batch.specs.Lanes.{padded_after};
 
 use ripemd::padding::whole_blocks;
+use ripemd_block::block_api::write_short;
 use std::marker::Model;
 
 /// The blocks of a message with its padding: the whole ones, and the last one or two. Contracts see
@@ -98,7 +99,7 @@ fn write_marked(tail: &[u8], block: &mut [u8; 64])
     ensures { block.new ≡ tail.now ++ 0x80 ∷ replicate (63 - length tail.now) 0 }
 {
     let len = tail.len();
-    block[..len].copy_from_slice(tail);
+    write_short(block, tail);
     block[len] = 0x80;
 }
 

@@ -7,3 +7,4 @@ pub mod Reading
 pub mod Stepping
 pub mod Tables
 pub mod TwoLanes
+pub mod Writing

@@ -1,6 +1,6 @@
 //! Arrays of bytes, whatever their length, and words as bytes.
 
-ghost use Rattle.std.specs.Prelude.{◌≡◌, ℕ, ◌+◌, ◌*◌, ◌^◌, ◌<◌, ◌↔◌, List, ◌++◌, length, replicate, IfSome, IsSome};
+ghost use Rattle.std.specs.Prelude.{◌≡◌, ℕ, ◌+◌, ◌*◌, ◌^◌, ◌<◌, ◌≤◌, ◌↔◌, List, ◌++◌, length, drop, replicate, IfSome, IsSome};
 ghost use Rattle.std.specs.List.{All, flat_map};
 ghost use Rattle.ripemd_block.specs.Standard.Words.{word_bytes, eight_bytes};
 
@@ -76,6 +76,47 @@ impl<const N: usize> ByteArray for [u8; N] {
     fn joined(arrays: &[[u8; N]]) -> &[u8] {
         arrays.as_flattened()
     }
+}
+
+/// Writes at most 64 bytes to the front of a place that has room for them. It calls no `memcpy`, which takes
+/// longer than so few bytes.
+#[inline(always)]
+pub fn write_short(place: &mut [u8], bytes: &[u8])
+    requires few { length bytes.now ≤ 64 }
+    requires room { length bytes.now ≤ length place.old }
+    ensures { place.new ≡ bytes.now ++ drop (length bytes.now) place.old }
+{
+    let len = bytes.len();
+    if len >= 32 {
+        write_ends::<32>(place, bytes);
+    } else if len >= 16 {
+        write_ends::<16>(place, bytes);
+    } else if len >= 8 {
+        write_ends::<8>(place, bytes);
+    } else if len >= 4 {
+        write_ends::<4>(place, bytes);
+    } else if len >= 2 {
+        write_ends::<2>(place, bytes);
+    } else if len == 1 {
+        place[0] = bytes[0];
+    }
+}
+
+// The same of `N` to `2 * N` bytes: the first `N` and the last, which may overlap. By way of arrays of its
+// own, so that the compiler does not ask whether the place and the bytes overlap.
+#[inline(always)]
+fn write_ends<const N: usize>(place: &mut [u8], bytes: &[u8])
+    requires few { (N ≤ length bytes.now) × (length bytes.now ≤ 2 * N) }
+    requires room { length bytes.now ≤ length place.old }
+    ensures { place.new ≡ bytes.now ++ drop (length bytes.now) place.old }
+{
+    let len = bytes.len();
+    let mut first = [0; N];
+    let mut last = [0; N];
+    first.copy_from_slice(&bytes[..N]);
+    last.copy_from_slice(&bytes[len - N..]);
+    place[..N].copy_from_slice(&first);
+    place[len - N..len].copy_from_slice(&last);
 }
 
 // Writes some bytes and then others.

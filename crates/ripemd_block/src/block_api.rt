@@ -1,7 +1,7 @@
 //! The block cores, which take in the whole blocks of a message and leave its tail to a
 //! [`Buffer`](crate::buffer::Buffer), their traits, and block functions.
 
-pub use crate::arrays::ByteArray;
+pub use crate::arrays::{ByteArray, write_short};
 pub use crate::block_core::{BlockCore, digest_message, walk, walk_message};
 pub use crate::traits::{
     AlgorithmName, BlockFunction, BlockSizeUser, BufferKindUser, DeserializeStateError, Eager,

@@ -1,14 +1,14 @@
 //! The block core: a state of a block function, and the count of the blocks that it took in.
 
-ghost use Rattle.std.specs.Prelude.{◌≡◌, ◌+◌, ◌*◌, ◌%◌, ◌^◌, List, [], ◌∷◌, length, ⊤};
-ghost use Rattle.std.specs.Option.{option_to_list};
+ghost use Rattle.std.specs.Prelude.{◌≡◌, ◌+◌, ◌*◌, ◌%◌, ◌^◌, ◌<◌, List, [], length, ⊤};
+ghost use Rattle.ripemd_block.specs.Standard.Words.{block_size};
 ghost use Rattle.ripemd_block.specs.Standard.Hashing.{with_padding, blocks, walk, hash};
 ghost use Rattle.ripemd_block.specs.States.{HashState, IsWithoutTail, output_and_count};
 ghost use Rattle.ripemd_block.specs.States.{initial_state, after_blocks, with_tail, finish};
 
 use crate::arrays::{ByteArray, read_count};
 use crate::buffer::Buffer;
-use crate::padding::{Padded, last_blocks, whole_blocks};
+use crate::padding::{marked_block, whole_blocks, write_length};
 use crate::traits::{
     AlgorithmName, BlockFunction, BlockSizeUser, BufferKindUser, DeserializeStateError, Eager,
     FixedOutputCore, HashMarker, HashMeaning, ListBlockFunction, OutputSizeUser, Reset,
@@ -17,6 +17,7 @@ use crate::traits::{
 use std::alloc::AllocError;
 use std::fmt;
 use std::marker::Model;
+use std::slice::from_ref;
 
 /// The block core of a block function: it takes in the whole blocks of a message, and leaves its
 /// tail to a [`Buffer`]. It has a state, and the count of the blocks so far, modulo 2^64. Contracts
@@ -150,17 +151,17 @@ impl<F: ListBlockFunction> FixedOutputCore for BlockCore<F> {
     ghost digest_of = { λ core tail. finish F.step F.output (with_tail core tail) };
 
     fn finalize_fixed_core(&mut self, buffer: &mut Buffer, out: &mut F::Digest) {
-        let tail_len = buffer.get_pos() as u64;
+        let tail = buffer.get_data();
         let bit_len = self
             .block_count
             .wrapping_mul(512)
-            .wrapping_add(8 * tail_len);
-        let padded = buffer.len64_padding_le(bit_len);
+            .wrapping_add(8 * tail.len() as u64);
         let mut state = self.state;
-        walk_last::<F>(&mut state, &padded);
+        walk_tail::<F>(&mut state, tail, bit_len);
         *out = F::output(state);
         // Proof only: its contract gives the size of the digest.
         out.as_bytes();
+        *buffer = Buffer::default();
     }
 }
 
@@ -178,18 +179,20 @@ pub fn walk<F: ListBlockFunction>(state: F::State, blocks: &[[u8; 64]]) -> F::St
     last
 }
 
-// Takes the last blocks of a message into a state.
-fn walk_last<F: ListBlockFunction>(state: &mut F::State, last: &Padded)
-    requires { F.is_state state.old }
-    ensures value { state.new
-        ≡ walk F.step_of state.old (last.now.first ∷ option_to_list last.now.second) }
+// Takes the one or two last blocks into a state of a message that has this tail and so many bits.
+fn walk_tail<F: ListBlockFunction>(state: &mut F::State, tail: &[u8], bit_len: u64)
+    requires valid { F.is_state state.old }
+    requires short { length tail.now < block_size }
+    ensures value { state.new ≡ walk F.step_of state.old (blocks (with_padding tail.now bit_len)) }
     ensures valid { F.is_state state.new }
 {
-    let first = last.first;
-    F::walk_on(state, &[first]);
-    if let Some(second) = last.second {
-        F::walk_on(state, &[second]);
+    let mut last = marked_block(tail);
+    if tail.len() >= 56 {
+        F::walk_on(state, from_ref(&last));
+        last = [0; 64];
     }
+    write_length(&mut last, bit_len);
+    F::walk_on(state, from_ref(&last));
 }
 
 /// The digest of a whole message.
@@ -216,7 +219,7 @@ pub fn walk_message<F: ListBlockFunction>(first: F::State, before: u64, message:
     let (whole, tail) = whole_blocks(message);
     let bit_len = before.wrapping_add(message.len() as u64).wrapping_mul(8);
     let mut state = walk::<F>(first, whole);
-    walk_last::<F>(&mut state, &last_blocks(tail, bit_len));
+    walk_tail::<F>(&mut state, tail, bit_len);
     state
 }
 

@@ -7,6 +7,7 @@ ghost use Rattle.ripemd_block.specs.Standard.Hashing.{length_place, with_padding
 ghost use Rattle.ripemd_block.specs.Standard.Hashing.{blocks, partial_block};
 ghost use Rattle.ripemd_block.specs.States.{IsTail};
 
+use crate::arrays::write_short;
 pub use crate::padding::Padded;
 use crate::padding::{last_blocks, whole_blocks};
 use crate::traits::UpdateCore;
@@ -50,7 +51,7 @@ impl Buffer {
         }
         bytes_in_range(bytes);
         let mut all = [0; 64];
-        all[..len].copy_from_slice(bytes);
+        write_short(&mut all, bytes);
         Some(Buffer { bytes: all, len })
     }
 
@@ -142,5 +143,5 @@ fn put_behind(block: &mut [u8; 64], len: usize, bytes: &[u8])
     ensures { block.new
         ≡ take len block.old ++ bytes.now ++ drop (len + length bytes.now) block.old }
 {
-    block[len..len + bytes.len()].copy_from_slice(bytes);
+    write_short(&mut block[len..], bytes);
 }

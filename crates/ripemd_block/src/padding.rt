@@ -9,6 +9,8 @@ ghost use Rattle.ripemd_block.specs.Standard.Hashing.{length_place, with_padding
 ghost use Rattle.ripemd_block.specs.Standard.Hashing.{padded_message, blocks, partial_block};
 ghost use Rattle.ripemd_block.specs.States.{IsTail};
 
+use crate::arrays::write_short;
+
 /// The last block or the last two blocks of a padded message.
 #[derive(Clone, Copy, PartialEq, Eq, Debug)]
 pub struct Padded {
@@ -82,20 +84,20 @@ pub(crate) fn last_blocks(tail: &[u8], bit_len: u64) -> Padded
 }
 
 // The tail, the byte 0x80, and zero bytes to the end of the block.
-fn marked_block(tail: &[u8]) -> [u8; 64]
+pub(crate) fn marked_block(tail: &[u8]) -> [u8; 64]
     requires { length tail.now < block_size }
     ensures block { result ≡ tail.now ++ 0x80 ∷ replicate (63 - length tail.now) 0 }
     ensures valid { IsTail tail.now }
 {
     let len = tail.len();
     let mut block = [0; 64];
-    block[..len].copy_from_slice(tail);
+    write_short(&mut block, tail);
     block[len] = 0x80;
     block
 }
 
 // Writes the length of a message in place of the last 8 bytes of a block.
-fn write_length(block: &mut [u8; 64], bit_len: u64)
+pub(crate) fn write_length(block: &mut [u8; 64], bit_len: u64)
     ensures { block.new ≡ take length_place block.old ++ eight_bytes bit_len }
 {
     block[56..].copy_from_slice(&bit_len.to_le_bytes());

@@ -30,12 +30,20 @@ module _ {S : Type 0} {is_valid : S → Type 0} {state_bytes : S → List ℕ}
           refused = not_refused;
         }
 
--- the state after a piece that was appended in the saved bytes
-pub appended : {S : Type 0} {is_valid : S → Type 0} {state_bytes : S → List ℕ}
+-- the state after a piece, where the saved bytes were those of a state
+pub updated : {S : Type 0} {is_valid : S → Type 0} {state_bytes : S → List ℕ}
     (injective : (s t : S) → is_valid s → is_valid t → state_bytes s ≡ state_bytes t → s ≡ t)
     {fed : S → List ℕ → S} (twice : (s : S) (x y : List ℕ) → fed (fed s x) y ≡ fed s (x ++ y)) {old piece new : List ℕ}
-    (done : Bool) → IsTrue done → IsAppended is_valid state_bytes fed old piece new
+    (done : Bool) → (IsTrue done → IsAppended is_valid state_bytes fed old piece new)
+    → (IsFalse done → (s : S) → is_valid s → ¬ (state_bytes s ≡ old))
     → Updates (IsSaved is_valid state_bytes) fed old piece new done
-appended injective twice {piece = piece} true done added =
+updated injective twice {piece = piece} true appended refused =
+    let added = appended (search rules) in
     updates injective added.before.valid added.before.saved twice piece refl added.after.valid (sym added.after.saved)
-appended injective twice false done added = absurd (search (rules, done))
+updated injective twice false appended refused =
+    let none = refused (search rules) in
+    record {
+      state = λ s is. absurd (none s is.valid is.saved);
+      message = λ start message is. absurd (none _ is.valid is.saved);
+      refused = (λ end s is. none s is.valid is.saved, λ end. search rules);
+    }

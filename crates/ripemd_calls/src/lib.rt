@@ -8,27 +8,42 @@ ghost use Rattle.ripemd.specs.Standard.Hashing.{hash};
 ghost use Rattle.ripemd_calls.specs.Variants.{AtVariant, Writes, WritesDigest, digest_size};
 
 /// A call of a generic function at the variant whose digests have so many bits, at its hasher or the HMAC over
-/// it. False if there is none. Whoever uses it has the names of the hashers in scope, and of `Hmac`.
+/// it. False if there is none. Whoever uses it has the names of the hashers in scope, and of `Hmac`. Of all four
+/// in one `match` the compiler would make a table of jumps, which some processors do not predict.
 #[macro_export]
 macro_rules! by_variant {
-    ($bits:expr, $call:ident::<Hmac> $arguments:tt) => {
-        match $bits {
-            128 => $call::<Hmac<Ripemd128>> $arguments,
-            160 => $call::<Hmac<Ripemd160>> $arguments,
-            256 => $call::<Hmac<Ripemd256>> $arguments,
-            320 => $call::<Hmac<Ripemd320>> $arguments,
-            _ => false,
+    ($bits:expr, $call:ident::<Hmac> $arguments:tt) => {{
+        let bits: u32 = $bits;
+        if bits < 256 {
+            match bits {
+                128 => $call::<Hmac<Ripemd128>> $arguments,
+                160 => $call::<Hmac<Ripemd160>> $arguments,
+                _ => false,
+            }
+        } else {
+            match bits {
+                256 => $call::<Hmac<Ripemd256>> $arguments,
+                320 => $call::<Hmac<Ripemd320>> $arguments,
+                _ => false,
+            }
         }
-    };
-    ($bits:expr, $call:ident $arguments:tt) => {
-        match $bits {
-            128 => $call::<Ripemd128> $arguments,
-            160 => $call::<Ripemd160> $arguments,
-            256 => $call::<Ripemd256> $arguments,
-            320 => $call::<Ripemd320> $arguments,
-            _ => false,
+    }};
+    ($bits:expr, $call:ident $arguments:tt) => {{
+        let bits: u32 = $bits;
+        if bits < 256 {
+            match bits {
+                128 => $call::<Ripemd128> $arguments,
+                160 => $call::<Ripemd160> $arguments,
+                _ => false,
+            }
+        } else {
+            match bits {
+                256 => $call::<Ripemd256> $arguments,
+                320 => $call::<Ripemd320> $arguments,
+                _ => false,
+            }
         }
-    };
+    }};
 }
 
 pub mod facts;

@@ -84,34 +84,12 @@ pub(crate) fn update_kept<S: Resumable>(state: &mut [u8], bytes: &[u8]) -> bool
 }
 
 // Appends bytes to a saved state.
+#[inline(always)]
 fn update_saved<S: Resumable>(saved: &mut [u8], bytes: &[u8]) -> bool
-    requires { length saved.old ≡ S.Saved.LEN }
     ensures updates { Updates (IsSaved S.is_valid S.state_bytes) S.fed saved.old bytes.now saved.new result }
     ensures unchanged { IsFalse result → saved.new ≡ saved.old }
 {
-    S::append_saved(saved, bytes) || update_loaded::<S>(saved, bytes)
-}
-
-// The same by a loaded state. Not inlined, so that short pieces take none of its stack.
-#[inline(never)]
-fn update_loaded<S: Resumable>(saved: &mut [u8], bytes: &[u8]) -> bool
-    requires { length saved.old ≡ S.Saved.LEN }
-    ensures updates { Updates (IsSaved S.is_valid S.state_bytes) S.fed saved.old bytes.now saved.new result }
-    ensures unchanged { IsFalse result → saved.new ≡ saved.old }
-{
-    let Some(array) = S::Saved::from_slice(saved) else {
-        return false;
-    };
-    match S::load(&array) {
-        Ok(loaded) => {
-            let mut next = loaded;
-            next.update(bytes);
-            let after = next.save();
-            saved.copy_from_slice(after.as_bytes());
-            true
-        }
-        Err(_) => false,
-    }
+    S::update_saved(saved, bytes)
 }
 
 // Writes the digest or the tag of a kept state to its place, if that has its size. False too if no state
@@ -123,10 +101,7 @@ pub(crate) fn final_kept<S: Resumable>(state: &[u8], output: &mut [u8]) -> bool
         (λ out. Writes (length output.old ≡ S.Hash.OUTPUT_SIZE) out output.old output.new result)
         (Refuses output.old output.new result) }
 {
-    let Some(array) = S::Saved::from_slice(&state[1..1 + <S::Saved as ByteArray>::LEN]) else {
-        return false;
-    };
-    match S::load(&array) {
+    match S::load_from(&state[1..1 + <S::Saved as ByteArray>::LEN]) {
         Ok(loaded) => write(S::Hash::output_bytes(&loaded.finalize()), output),
         Err(_) => false,
     }
@@ -139,10 +114,7 @@ pub(crate) fn verify_kept<S: Resumable>(state: &[u8], output: &[u8]) -> bool
     ensures { WithOutput (IsSaved S.is_valid S.state_bytes) S.new_state S.fed S.finish S.whole
         (saved_in S.Saved.LEN state.now) (λ out. IsTrue result ↔ (output.now ≡ out)) (IsFalse result) }
 {
-    let Some(array) = S::Saved::from_slice(&state[1..1 + <S::Saved as ByteArray>::LEN]) else {
-        return false;
-    };
-    match S::load(&array) {
+    match S::load_from(&state[1..1 + <S::Saved as ByteArray>::LEN]) {
         Ok(loaded) => all_equal(S::Hash::output_bytes(&loaded.finalize()), output),
         Err(_) => false,
     }

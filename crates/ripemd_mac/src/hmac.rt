@@ -15,7 +15,7 @@ ghost use Rattle.ripemd_mac.specs.Hmac.{
 };
 ghost use Rattle.ripemd_mac.specs.Saved.{IsKeyedState, IsSavedFor, hmac_bytes};
 
-use ripemd::block_api::ByteArray;
+use ripemd::block_api::{ByteArray, write_short};
 use ripemd::digest::{BlockDigest, Digest, SerializableState};
 use ripemd::incremental::{Incremental, Resumable};
 use ripemd::state::DeserializeStateError;
@@ -204,23 +204,21 @@ impl<F: ResumableFunction> Resumable for Hmac<BlockHasher<F>> {
 
     ghost state_bytes = { hmac_bytes F.output };
 
-    ghost tail_of = { λ state. state.inner.tail };
-
     fn save(&self) -> F::SavedHmac {
         Hmac::save(self)
     }
 
-    fn load(saved: &F::SavedHmac) -> Result<Hmac<BlockHasher<F>>, DeserializeStateError> {
-        Hmac::load(saved)
+    fn load_from(bytes: &[u8]) -> Result<Hmac<BlockHasher<F>>, DeserializeStateError> {
+        Hmac::load_slice(bytes)
     }
 
-    fn append_saved(saved: &mut [u8], bytes: &[u8]) -> bool {
+    fn update_saved(saved: &mut [u8], bytes: &[u8]) -> bool {
         if saved.len() != <F::SavedHmac as ByteArray>::LEN {
             return false;
         }
         let (inner, outer) = saved.split_at_mut(<F::SavedHasher as ByteArray>::LEN);
         match BlockHasher::<F>::load_slice(outer) {
-            Ok(_outer) => BlockHasher::<F>::append_saved(inner, bytes),
+            Ok(_outer) => BlockHasher::<F>::update_saved(inner, bytes),
             Err(_) => false,
         }
     }
@@ -287,7 +285,7 @@ pub fn filled(bytes: &[u8]) -> [u8; 64]
     ensures { result ≡ filled bytes.now }
 {
     let mut block = [0; 64];
-    block[..bytes.len()].copy_from_slice(bytes);
+    write_short(&mut block, bytes);
     block
 }
 

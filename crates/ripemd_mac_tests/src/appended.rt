@@ -1,4 +1,4 @@
-//! Pieces that are appended within saved bytes: just those that end no block.
+//! Pieces that are appended within saved bytes.
 
 use ripemd::block_api::{
     ByteArray, Ripemd128Function, Ripemd160Function, Ripemd256Function, Ripemd320Function,
@@ -8,26 +8,19 @@ use ripemd::incremental::Resumable;
 use ripemd::{BlockHasher, Digest, ResumableFunction};
 use ripemd_mac::Hmac;
 
-// Whether a state takes a piece within its saved bytes: `None` if it then has others than those
-// after the piece, or takes it not and has others than before.
+// Whether the saved bytes become those after a piece.
 fn appends<S: Resumable>(before: &[u8], piece: &[u8], after: &[u8]) -> Option<bool> {
     let mut bytes = [0; 224];
     let saved = bytes.get_mut(..before.len())?;
     saved.copy_from_slice(before);
-    let appended = S::append_saved(saved, piece);
-    let wanted = if appended { after } else { before };
-    if *saved == *wanted {
-        Some(appended)
-    } else {
-        None
-    }
+    Some(S::update_saved(saved, piece) && *saved == *after)
 }
 
-// Whether hashers and HMAC states with tails of all lengths take just the pieces that end no block.
-fn appends_short_pieces<F: ResumableFunction>() -> bool {
-    let letters = [b'a'; 64];
+// Whether those of hashers and HMACs do, with tails of all lengths and pieces that end no block, one, or two.
+fn appends_pieces<F: ResumableFunction>() -> bool {
+    let letters = [b'a'; 130];
     for len in 0..64 {
-        for more in 0..=64 {
+        for more in 0..=130 {
             let mut hasher = BlockHasher::<F>::new();
             let mut mac = Hmac::<BlockHasher<F>>::new(b"key");
             hasher.update(&letters[..len]);
@@ -37,14 +30,13 @@ fn appends_short_pieces<F: ResumableFunction>() -> bool {
             hasher.update(piece);
             mac.update(piece);
             let (hasher_after, mac_after) = (hasher.serialize(), mac.save());
-            let wanted = Some(len + more < 64);
             if appends::<BlockHasher<F>>(hasher_before.as_bytes(), piece, hasher_after.as_bytes())
-                != wanted
+                != Some(true)
                 || appends::<Hmac<BlockHasher<F>>>(
                     mac_before.as_bytes(),
                     piece,
                     mac_after.as_bytes(),
-                ) != wanted
+                ) != Some(true)
             {
                 return false;
             }
@@ -54,9 +46,9 @@ fn appends_short_pieces<F: ResumableFunction>() -> bool {
 }
 
 #[test]
-fn short_pieces_are_appended(rt: HostRuntime) {
-    assert!(rt; appends_short_pieces::<Ripemd128Function>());
-    assert!(rt; appends_short_pieces::<Ripemd160Function>());
-    assert!(rt; appends_short_pieces::<Ripemd256Function>());
-    assert!(rt; appends_short_pieces::<Ripemd320Function>());
+fn pieces_are_appended(rt: HostRuntime) {
+    assert!(rt; appends_pieces::<Ripemd128Function>());
+    assert!(rt; appends_pieces::<Ripemd160Function>());
+    assert!(rt; appends_pieces::<Ripemd256Function>());
+    assert!(rt; appends_pieces::<Ripemd320Function>());
 }

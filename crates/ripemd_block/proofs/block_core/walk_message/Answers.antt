@@ -1,6 +1,5 @@
-use Rattle.std.proofs.Common.{◌≡◌, ℕ, List, ◌∷◌, arith, ap, ◌∙◌}
-use Rattle.std.specs.Option.{option_to_list}
-use Rattle.ripemd_block.specs.Standard.Hashing.{walk}
+use Rattle.std.proofs.Common.{◌≡◌, ℕ, ◌+◌, ◌*◌, ◌%◌, ◌^◌, List, length, arith, ap, ◌∙◌, refl}
+use Rattle.ripemd_block.specs.Standard.Hashing.{blocks, walk, with_padding}
 use Rattle.ripemd_block.specs.OverLists.{walk_over_lists}
 use Rattle.ripemd_block.proofs.Finishing.{walk_of_blocks}
 use Rattle.ripemd_block.proofs.block_core.walk_message.Goals as goal
@@ -12,16 +11,16 @@ returns-clause-value g c =
     let first = c.args.first in
     let message = c.args.message.now in
     let parts = c.whole_blocks in
-    let padded = c.last_blocks in
-    let last = padded.result.first ∷ option_to_list padded.result.second in
+    let tail = parts.result.1.now in
     let before = c.walk-state.result in
-    let ends = c.walk_last.new.state in
+    let ends = c.walk_tail.new.state in
     let whole = parts.result.0.now in
     let start : f.list before ≡ walk f.step (f.list first) whole =
     ap f.list c.walk-state.ensures.value ∙ walk_over_lists lists first whole in
-    let words : f.list ends ≡ walk f.step (walk f.step (f.list first) whole) last =
-    ap f.list c.walk_last.ensures.value ∙ walk_over_lists lists before last
-    ∙ ap (λ (xs : List ℕ). walk f.step xs last) start in
-    words
-    ∙ walk_of_blocks (f.list first) f.step c.args.before _ message parts.result.1.now whole last
-    parts.ensures.whole parts.ensures.tail (omega arith) padded.ensures.value
+    let walks : (n : ℕ) → ends ≡ walk g.F.BlockFunction.step_of before (blocks (with_padding tail n))
+    → n ≡ 8 * (c.args.before + length message) % 2 ^ 64
+    → f.list ends ≡ walk f.step (f.list first) (blocks (with_padding message (8 * (c.args.before + length message) % 2 ^ 64))) =
+    λ n value bits. let last = blocks (with_padding tail n) in
+    ap f.list value ∙ walk_over_lists lists before last ∙ ap (λ (xs : List ℕ). walk f.step xs last) start
+    ∙ walk_of_blocks (f.list first) f.step c.args.before n message tail whole last parts.ensures.whole parts.ensures.tail bits refl in
+    walks _ c.walk_tail.ensures.value (omega arith)

@@ -1,7 +1,7 @@
-use Rattle.ripemd_calls.proofs.KeptStates.{appended}
+use Rattle.ripemd_calls.proofs.KeptStates.{updated}
 use Rattle.ripemd_calls.proofs.states.update_saved.Goals as goal
 
-pub returns-then-append_saved-clause-updates : goal.returns-then-append_saved-clause-updates
-returns-then-append_saved-clause-updates g c =
-    appended g.met.S.Resumable.injective g.met.S.Incremental.fed_twice c.append_saved.result c.if-append_saved.true
-    (c.append_saved.ensures.appended c.if-append_saved.true)
+pub returns-clause-updates : goal.returns-clause-updates
+returns-clause-updates g c =
+    let update = c.update_saved.ensures in
+    updated g.met.S.Resumable.injective g.met.S.Incremental.fed_twice c.update_saved.result update.appended update.refused

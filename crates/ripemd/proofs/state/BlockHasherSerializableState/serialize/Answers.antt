@@ -10,7 +10,7 @@ returns-clause-bytes g c =
     let h : HashState = with_tail c.self.inside.core c.self.inside.buffer in
     let of_core : c.as_bytes.result.now ≡ output_and_count output h =
     rw c.serialize-core.ensures.bytes at c.as_bytes.ensures.bytes in
-    let of_tail : c.save_tail-tail.result ≡ tail_bytes h.tail =
-    rw c.get_data.ensures.bytes at c.save_tail-tail.ensures in
+    let of_tail : c.save_tail.new.saved ≡ tail_bytes h.tail =
+    rw c.get_data.ensures.bytes at c.save_tail.ensures in
     rw c.unwrap.ensures at c.from_slices.ensures.same ∙ rw (of_core, of_tail) (sym (core_and_tail-split output h))
     ∙ ap (core_and_tail output) c.self.view_is

@@ -1,7 +1,6 @@
-use Rattle.std.proofs.Common.{◌≡◌, ◌∷◌, arith, ap, ◌∙◌}
-use Rattle.std.specs.Option.{option_to_list}
-use Rattle.ripemd_block.specs.Standard.Hashing.{walk}
-use Rattle.ripemd_block.specs.States.{HashState}
+use Rattle.std.proofs.Common.{◌≡◌, ℕ, ◌+◌, ◌*◌, ◌%◌, ◌^◌, List, length, arith, ap, ◌∙◌, refl}
+use Rattle.ripemd_block.specs.Standard.Hashing.{blocks, walk, with_padding}
+use Rattle.ripemd_block.specs.States.{HashState, finish, with_tail}
 use Rattle.ripemd_block.specs.OverLists.{walk_over_lists}
 use Rattle.ripemd_block.proofs.Finishing.{finish_of_blocks}
 use Rattle.ripemd_block.proofs.block_core.BlockCoreFixedOutputCore.finalize_fixed_core.Goals as goal
@@ -11,13 +10,15 @@ returns-clause-digest g c =
     let f = g.F.ListBlockFunction in
     let lists = g.met.F.ListBlockFunction.over_lists in
     let core = c.args.self.now in
-    let padded = c.len64_padding_le-padded in
-    let last = padded.result.first ∷ option_to_list padded.result.second in
+    let tail = c.get_data-tail.result.now in
     let start = c.self.inside.state in
-    let ends = c.walk_last.new.state in
+    let ends = c.walk_tail.new.state in
     let own_count : c.self.inside.block_count ≡ core.count = ap (λ (h : HashState). h.count) c.self.view_is in
-    let words : f.list ends ≡ walk f.step core.words last =
-    ap f.list c.walk_last.ensures.value ∙ walk_over_lists lists start last
-    ∙ ap (λ (h : HashState). walk f.step h.words last) c.self.view_is in
-    ap g.F.Digest.ByteArray.bytes c.output.ensures.value ∙ lists.of_output ends ∙ ap f.output words
-    ∙ finish_of_blocks f.step f.output core c.args.buffer.now padded.ensures.value (omega (arith, own_count))
+    let walks : (n : ℕ) → ends ≡ walk g.F.BlockFunction.step_of start (blocks (with_padding tail n))
+    → n ≡ 8 * (length tail + 64 * core.count) % 2 ^ 64 → f.output (f.list ends) ≡ finish f.step f.output (with_tail core tail) =
+    λ n value bits. let last = blocks (with_padding tail n) in
+    ap f.output (ap f.list value ∙ walk_over_lists lists start last ∙ ap (λ (h : HashState). walk f.step h.words last) c.self.view_is)
+    ∙ finish_of_blocks f.step f.output core tail refl bits in
+    ap g.F.Digest.ByteArray.bytes c.output.ensures.value ∙ lists.of_output ends
+    ∙ walks _ c.walk_tail.ensures.value (omega (arith, own_count))
+    ∙ ap (λ (t : List ℕ). finish f.step f.output (with_tail core t)) c.get_data-tail.ensures.bytes

@@ -1,12 +1,12 @@
 use Rattle.std.proofs.Common.{ℕ, ◌+◌, length, take, drop, refl, sym, ap, ◌∙◌, arith}
 use Rattle.std.proofs.lemmas.List.{take-append-drop}
 use Rattle.ripemd_mac.specs.Laws.{length-hmac_bytes, inner_part, outer_part}
-use Rattle.ripemd_mac.proofs.hmac.HmacBlockHasherResumable.append_saved.Goals as goal
+use Rattle.ripemd_mac.proofs.hmac.HmacBlockHasherResumable.update_saved.Goals as goal
 
 -- the inner state takes the piece in, and the outer one stays
 pub returns-in-Ok-clause-appended : goal.returns-in-Ok-clause-appended
 returns-in-Ok-clause-appended g c done =
-    let added = c.append_saved.ensures.appended done in
+    let added = c.update_saved.ensures.appended done in
     let outer = c.in-Ok in
     let split = c.split_at_mut-inner.ensures in
     record {
@@ -41,7 +41,7 @@ returns-in-Ok-clause-refused g c end state valid same =
     let r = g.met.F.ResumableFunction in
     let bytes = c.args.saved.now in
     let size = c.LEN-2.ensures ∙ r.saved_hasher_size ∙ ap (λ (n : ℕ). n + 64) r.saved_core_size in
-    c.append_saved.ensures.refused end state.inner valid.inner
+    c.update_saved.ensures.refused end state.inner valid.inner
     (inner_part r.injective_output state valid bytes same ∙ ap (λ (n : ℕ). take n bytes) (sym size)
     ∙ sym c.split_at_mut-inner.ensures.front)
 

@@ -1,0 +1,14 @@
+use Rattle.std.proofs.Common.{◌≡◌, ◌-◌, length, arith}
+use Rattle.ripemd_block.proofs.Absorbing.{slice_from}
+use Rattle.ripemd_block.proofs.Writing.{ends_written}
+use Rattle.ripemd_block.proofs.arrays.write_ends.Goals as goal
+
+pub returns : goal.returns
+returns g c =
+    let n = g.row.N in
+    let bytes = c.args.bytes.now in
+    let len = length bytes in
+    let few = c.requires.few in
+    let last : len - (len - n) ≡ n = omega (arith, few.0) in
+    rw (c.copy_from_slice-3.ensures.after, c.copy_from_slice-4.ensures.after, c.copy_from_slice.ensures.after, c.copy_from_slice-2.ensures.after, slice_from (len - n) bytes, last)
+    (ends_written n (len - n) c.args.place.now bytes (omega (arith, few.0)) few.1)
