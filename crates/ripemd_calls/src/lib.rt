@@ -9,7 +9,7 @@ ghost use Rattle.ripemd_calls.specs.Variants.{AtVariant, Writes, WritesDigest, d
 
 /// A call of a generic function at the variant whose digests have so many bits, at its hasher or the HMAC over
 /// it. False if there is none. Whoever uses it has the names of the hashers in scope, and of `Hmac`. Of all four
-/// in one `match` the compiler would make a table of jumps, which some processors do not predict.
+/// in one `match` the compiler would make a table of jumps, which at times take longer.
 #[macro_export]
 macro_rules! by_variant {
     ($bits:expr, $call:ident::<Hmac> $arguments:tt) => {{
