@@ -4,3 +4,6 @@ pub mod Bodies
 pub mod Sayings
 pub mod Written
 pub mod Ends
+pub mod Pieces
+pub mod Zips
+pub mod Outcomes

@@ -4,3 +4,7 @@ pub mod Lines
 pub mod Worked
 -- How the code reads a line.
 pub mod Reading
+-- What reading a file comes to.
+pub mod Readings
+-- What a file gave, as it is read.
+pub mod Contents

@@ -2,8 +2,11 @@
 //! RIPEMD-256 and RIPEMD-320: a digest and the name of a file.
 #![tactic(auto)]
 
+pub mod digests;
 pub mod facts;
+pub mod folder;
 pub mod line;
+pub mod outcome;
 pub mod reading;
 #[cfg(test)]
 mod tests;

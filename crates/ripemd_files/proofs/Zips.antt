@@ -1,0 +1,51 @@
+-- Two lists whose items belong together.
+use Rattle.std.proofs.Common.{◌≡◌, ℕ, ◌+◌, ◌<◌, List, [], ◌∷◌, ◌++◌, length, take, get_or, map, sym, ap, subst, ◌∙◌, arith}
+use Rattle.std.proofs.lemmas.List.{take_more, length-map, get_or-map}
+use Rattle.std.specs.List.{AllZip}
+
+-- one more of each
+pub all_zip_push : {A B : Type 0} (R : A → B → Type 0) (xs : List A) (ys : List B) (x : A) (y : B) → AllZip R xs ys → R x y
+    → AllZip R (xs ++ x ∷ []) (ys ++ y ∷ [])
+all_zip_push R [] [] x y before both = (both, tt)
+all_zip_push R [] (b ∷ ys) x y before both = absurd before
+all_zip_push R (a ∷ xs) [] x y before both = absurd before
+all_zip_push R (a ∷ xs) (b ∷ ys) x y before both = (before.0, all_zip_push R xs ys x y before.1 both)
+
+-- the item of the first list at the next place
+pub all_zip_next : {A B : Type 0} (R : A → B → Type 0) (xs : List A) (ys : List B) (i : ℕ) (x : A) (y : B) → i < length xs
+    → get_or xs i x ≡ x → AllZip R (take i xs) ys → R x y → AllZip R (take (i + 1) xs) (ys ++ y ∷ [])
+all_zip_next R xs ys i x y within is before both =
+    subst (λ l. AllZip R l (ys ++ y ∷ [])) (ap (λ z. take i xs ++ z ∷ []) (sym is) ∙ sym (take_more xs i x within))
+    (all_zip_push R (take i xs) ys x y before both)
+
+-- the same of what is seen of the items
+pub all_zip_map_next : {A B C : Type 0} (f : C → A) (R : A → B → Type 0) (cs : List C) (ys : List B) (i : ℕ) (d : C) (y : B) → i < length cs
+    → AllZip R (take i (map f cs)) ys → R (f (get_or cs i d)) y → AllZip R (take (i + 1) (map f cs)) (ys ++ y ∷ [])
+all_zip_map_next f R cs ys i d y within before both =
+    all_zip_next R (map f cs) ys i (f (get_or cs i d)) y (rw length-map within) (get_or-map f cs i d _ within) before both
+
+-- what belongs to the items between them
+pub all_zip_through : {A B C : Type 0} (R : A → B → Type 0) (S : B → C → Type 0) (T : A → C → Type 0) (xs : List A) (ys : List B) (zs : List C)
+    → ((x : A) (y : B) (z : C) → R x y → S y z → T x z) → AllZip R xs ys → AllZip S ys zs → AllZip T xs zs
+all_zip_through R S T [] [] [] joined first second = tt
+all_zip_through R S T [] [] (z ∷ zs) joined first second = absurd second
+all_zip_through R S T [] (y ∷ ys) zs joined first second = absurd first
+all_zip_through R S T (x ∷ xs) [] zs joined first second = absurd first
+all_zip_through R S T (x ∷ xs) (y ∷ ys) [] joined first second = absurd second
+all_zip_through R S T (x ∷ xs) (y ∷ ys) (z ∷ zs) joined first second =
+    (joined x y z first.0 second.0, all_zip_through R S T xs ys zs joined first.1 second.1)
+
+-- the items at a place of two lists of which the same is made
+module _ {A B C D : Type 0} (f : A → D) (g : B → C) (h : C → D) (xs : List A) (ys : List B) (same : map f xs ≡ map h (map g ys)) where
+  pub same_length : length xs ≡ length ys
+  same_length = sym (length-map xs f) ∙ ap length same ∙ length-map (map g ys) h ∙ length-map ys g
+
+  pub same_at : (i : ℕ) (x : A) (y : B) → i < length ys → x ≡ get_or xs i x → y ≡ get_or ys i y → f x ≡ h (g y)
+  same_at i x y within is_x is_y =
+      let long : i < length xs = omega (arith, same_length) in
+      ap f is_x
+      ∙ sym (get_or-map f xs i x (f x) long)
+      ∙ ap (λ l. get_or l i (f x)) same
+      ∙ get_or-map h (map g ys) i (g y) (f x) (rw length-map within)
+      ∙ ap h (get_or-map g ys i y (g y) within)
+      ∙ ap (λ z. h (g z)) (sym is_y)

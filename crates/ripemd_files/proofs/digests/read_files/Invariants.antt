@@ -1,0 +1,13 @@
+use Rattle.std.proofs.Common.{◌<◌, ◌*◌, take, length}
+use Rattle.ripemd_block.specs.Standard.Hashing.{hash}
+use Rattle.ripemd_batch.specs.Lanes.{targets}
+use Rattle.std.specs.List.{AllZip}
+use Rattle.ripemd_files.specs.Contents.{IsContent}
+use Rattle.ripemd_files.proofs.digests.read_files.Given as goal
+
+abbrev pub invariant-loop-name : goal.invariant-loop-name
+invariant-loop-name g l = record {
+  each : AllZip (IsContent g.D.OutputSizeUser.bytes_of (g.F.Folder.place l.folder) (hash g.D.Digest.start g.D.Digest.step g.D.Digest.output))
+    (take l.name-index (targets l.names)) l.contents.items;
+  room : 0 < length l.buffer;
+}

@@ -1,0 +1,49 @@
+-- What reading a file to its end comes to.
+use Rattle.std.specs.Prelude.{◌≡◌, ℕ, ◌^◌, ◌≤◌, ◌⊎◌, List, length, Option}
+use Rattle.std.specs.Io.KnownBytes.{Consumes, IsAtEnd}
+use Rattle.std.specs.declared.io.Error.{Error}
+use Rattle.ripemd.specs.Standard.Compression.{Parameters, ripemd128, ripemd160, ripemd256, ripemd320}
+use Rattle.ripemd_files.specs.declared.line.Variant.{Variant}
+use Rattle.ripemd_files.specs.declared.line.Variant.TheVariants.{R128, R160, R256, R320}
+use Rattle.ripemd_files.specs.declared.outcome.Outcome.{Outcome}
+use Rattle.ripemd_files.specs.declared.outcome.Outcome.TheVariants.{Digest, Refused, Broken}
+
+-- the variant of the definitions that a line names
+abbrev pub parameters_of : Variant → Parameters
+parameters_of R128 = ripemd128
+parameters_of R160 = ripemd160
+parameters_of R256 = ripemd256
+parameters_of R320 = ripemd320
+
+-- a file that was opened so and is left so gave these bytes
+pub record Gave {File : Type 0} (IsOpened : File → Type 0) (left : File → Option (List ℕ)) (bytes : List ℕ) (now : File) : Type 0 where
+  pub opened : File
+  pub is_opened : IsOpened opened
+  pub given : Consumes (left opened) (left now) bytes
+
+-- a file that was opened so gave this message, to its end
+pub record Gives {File : Type 0} (IsOpened : File → Type 0) (left : File → Option (List ℕ)) (message : List ℕ) : Type 0 where
+  pub ended : File
+  pub gave : Gave IsOpened left message ended
+  pub at_end : IsAtEnd (left ended)
+
+-- a file that was opened so fails, or gives too many bytes for the length in bits to fit into 64 bits
+pub record Breaks {File : Type 0} (IsOpened : File → Type 0) (left : File → Option (List ℕ)) (may_fail : File → Type 0) : Type 0 where
+  pub bytes : List ℕ
+  pub now : File
+  pub gave : Gave IsOpened left bytes now
+  pub fails : may_fail now ⊎ (2 ^ 61 ≤ length bytes)
+
+-- What a folder is: which files a name opens there, and which errors opening it gives; what an opened file has
+-- left, where that is known, and whether a read of it may fail.
+pub record Place (File : Type 0) : Type 1 where
+  pub opens : List ℕ → File → Type 0
+  pub refuses : List ℕ → Error → Type 0
+  pub left : File → Option (List ℕ)
+  pub may_fail : File → Type 0
+
+-- reading the file of a name comes to this digest or error
+abbrev pub ComesTo : {File : Type 0} → Place File → (List ℕ → List ℕ) → List ℕ → Outcome → Type 0
+ComesTo place hash name (Digest digest) = (message : List ℕ) × Gives (place.opens name) place.left message × (digest.items ≡ hash message)
+ComesTo place hash name (Refused error) = place.refuses name error
+ComesTo place hash name (Broken error) = Breaks (place.opens name) place.left place.may_fail

@@ -1,0 +1,240 @@
+//! The digests of files, several at once.
+
+ghost use Rattle.std.specs.Prelude.{◌≡◌, ◌+◌, ◌<◌, ◌≤◌, ◌^◌, ◌++◌, ◌⊎◌, ◌*◌, ◌≢◌, ℕ, List, [], length, map, take, IfOk, IfErr, IsErr, IsTrue};
+ghost use Rattle.std.specs.Io.KnownBytes.{Consumes, IsAtEnd};
+ghost use Rattle.ripemd_block.specs.Standard.Hashing.{hash};
+ghost use Rattle.ripemd.specs.Standard.Hashing.{ripemd};
+ghost use Rattle.ripemd_batch.specs.Lanes.{targets};
+ghost use Rattle.ripemd_files.specs.Readings.{Gives, Gave, Breaks, ComesTo, Place, parameters_of};
+ghost use Rattle.std.specs.List.{AllZip};
+ghost use Rattle.ripemd_files.specs.Contents.{Follows, IsContent, IsStop, message_in};
+ghost use Rattle.ripemd_files.specs.declared.digests.Stop.TheVariants.{NoMemory};
+
+use crate::folder::Folder;
+use crate::line::Variant;
+use crate::outcome::Outcome;
+use ripemd::block_api::ByteArray;
+use ripemd::{Digest, Ripemd128, Ripemd160, Ripemd256, Ripemd320};
+use ripemd_batch::{BatchDigest, digest_each};
+use std::alloc::{AllocError, Global};
+use std::io;
+
+/// The length of a message that is too long: its length in bits does not fit into 64 bits.
+const TOO_LONG: u64 = 1 << 61;
+
+// A file that gives so many bytes is not kept in memory.
+const LONG: usize = 1 << 16;
+
+// What a file gave: a whole message, or the digest of a longer one.
+#[derive(Drop)]
+enum Content<T> {
+    Short(Vec<u8>),
+    Long(T),
+    Refused(io::Error),
+    Broken(io::Error),
+}
+
+// Why a file was not read to its end.
+enum Stop {
+    Failed(io::Error),
+    NoMemory,
+}
+
+impl From<AllocError> for Stop {
+    ghost from_gives = { λ _ stop. stop ≡ NoMemory };
+
+    fn from(_error: AllocError) -> Stop {
+        Stop::NoMemory
+    }
+}
+
+// Reads until the file ends, or has given `LONG` bytes or more. Whether it ended.
+#[tactic(auto, using(crate::proofs::Pieces::consumed_more, crate::proofs::Pieces::consumed_none))]
+fn gather<F: Folder>(
+    folder: &F,
+    file: &mut F::File,
+    buffer: &mut [u8],
+    message: &mut Vec<u8>,
+) -> Result<bool, Stop>
+    requires fresh { message.old.items ≡ [] }
+    requires room { 0 < length buffer.old }
+    ensures ok { IfOk result (λ ended. Consumes ((F.place folder.now).left file.old) ((F.place folder.now).left file.new) message.new.items
+        × (IsTrue ended → IsAtEnd ((F.place folder.now).left file.new))) }
+    ensures err { IfErr result (IsStop ((F.place folder.now).left) ((F.place folder.now).may_fail) file.old) }
+{
+    while message.len() < LONG {
+        match folder.read(file, buffer) {
+            Ok(0) => return Ok(true),
+            Ok(count) => message.extend_from_slice(&buffer[..count])?,
+            Err(error) => return Err(Stop::Failed(error)),
+        }
+    }
+    Ok(false)
+}
+
+// The digest of a file that gives so many bytes or more: of those that the hasher took, and of the rest.
+#[tactic(auto, using(crate::proofs::Pieces::consumed_more, crate::proofs::Pieces::consumed_none))]
+fn hash_rest<D: Digest, F: Folder>(
+    folder: &F,
+    file: &mut F::File,
+    first: &[u8],
+    buffer: &mut [u8],
+) -> Result<D::Output, io::Error>
+    requires room { 0 < length buffer.old }
+    ensures ok { IfOk result (λ digest. (rest : List ℕ) × Consumes ((F.place folder.now).left file.old) ((F.place folder.now).left file.new) rest
+        × IsAtEnd ((F.place folder.now).left file.new) × (D.bytes_of digest ≡ hash D.start D.step D.output (first.now ++ rest))) }
+    ensures err { IsErr result → (rest : List ℕ) × (now : F.File) × Consumes ((F.place folder.now).left file.old) ((F.place folder.now).left now) rest
+        × ((F.place folder.now).may_fail now ⊎ (2 ^ 61 ≤ length (first.now ++ rest))) }
+{
+    let mut hasher = D::new_with_prefix(first);
+    let mut length = first.len() as u64;
+    while length < TOO_LONG {
+        match folder.read(file, buffer) {
+            Ok(0) => return Ok(hasher.finalize()),
+            Ok(count) => {
+                hasher.update(&buffer[..count]);
+                length += count as u64;
+            }
+            Err(error) => return Err(error),
+        }
+    }
+    Err(io::Error::from(io::ErrorKind::FileTooLarge))
+}
+
+// What the file of a name gave.
+fn read_file<D: Digest, F: Folder>(
+    alloc: Global,
+    folder: &F,
+    name: &[u8],
+    buffer: &mut [u8],
+) -> Result<Content<D::Output>, AllocError>
+    requires room { 0 < length buffer.old }
+    ensures content { IfOk result (IsContent D.bytes_of (F.place folder.now) (hash D.start D.step D.output) name.now) }
+    ensures room { length buffer.new ≡ length buffer.old }
+{
+    let mut file = match folder.open(name) {
+        Ok(file) => file,
+        Err(error) => return Ok(Content::Refused(error)),
+    };
+    let mut message = Vec::new(alloc);
+    match gather(folder, &mut file, buffer, &mut message) {
+        Ok(true) => Ok(Content::Short(message)),
+        Ok(false) => match hash_rest::<D, F>(folder, &mut file, message.as_slice(), buffer) {
+            Ok(digest) => Ok(Content::Long(digest)),
+            Err(error) => Ok(Content::Broken(error)),
+        },
+        Err(Stop::Failed(error)) => Ok(Content::Broken(error)),
+        Err(Stop::NoMemory) => Err(AllocError),
+    }
+}
+
+// What the files of some names gave.
+fn read_files<D: Digest, F: Folder>(
+    alloc: Global,
+    folder: &F,
+    names: &[&[u8]],
+    buffer: &mut [u8],
+) -> Result<Vec<Content<D::Output>>, AllocError>
+    requires room { 0 < length buffer.old }
+    ensures { IfOk result (λ contents. AllZip (IsContent D.bytes_of (F.place folder.now) (hash D.start D.step D.output)) (targets names.now) contents.items) }
+{
+    let mut contents = Vec::new(alloc);
+    for name in names {
+        let content = read_file::<D, F>(alloc, folder, name, buffer)?;
+        contents.push(content)?;
+    }
+    Ok(contents)
+}
+
+// The message of a short file; of all others the empty one.
+fn message_of<T>(content: &Content<T>) -> &[u8]
+    ensures { result.now ≡ message_in content.now }
+{
+    match content {
+        Content::Short(message) => message.as_slice(),
+        _ => &[],
+    }
+}
+
+// These messages.
+fn messages_of<T>(alloc: Global, contents: &[Content<T>]) -> Result<Vec<&[u8]>, AllocError>
+    ensures { IfOk result (λ messages. targets messages.items ≡ map message_in contents.now) }
+{
+    let mut messages = Vec::with_capacity(alloc, contents.len())?;
+    for content in contents {
+        messages.push(message_of(content))?;
+    }
+    Ok(messages)
+}
+
+// What came of a file, by its content and the digest of its message.
+fn outcome_of<D: Digest>(
+    alloc: Global,
+    content: &Content<D::Output>,
+    digest: &D::Output,
+) -> Result<Outcome, AllocError>
+    requires made { D.bytes_of digest.now ≡ hash D.start D.step D.output (message_in content.now) }
+    ensures { IfOk result (Follows D.bytes_of (hash D.start D.step D.output) content.now) }
+{
+    Ok(match content {
+        Content::Short(_) => Outcome::Digest(Vec::from_slice(alloc, D::output_bytes(digest))?),
+        Content::Long(digest) => Outcome::Digest(Vec::from_slice(alloc, D::output_bytes(digest))?),
+        Content::Refused(error) => Outcome::Refused(*error),
+        Content::Broken(error) => Outcome::Broken(*error),
+    })
+}
+
+// The same of some files.
+fn outcomes_of<D: Digest>(
+    alloc: Global,
+    contents: &[Content<D::Output>],
+    digests: &[D::Output],
+) -> Result<Vec<Outcome>, AllocError>
+    requires made { map D.bytes_of digests.now ≡ map (hash D.start D.step D.output) (map message_in contents.now) }
+    ensures { IfOk result (λ outcomes. AllZip (Follows D.bytes_of (hash D.start D.step D.output)) contents.now outcomes.items) }
+{
+    let mut outcomes = Vec::with_capacity(alloc, contents.len())?;
+    for k in 0..contents.len() {
+        let outcome = outcome_of::<D>(alloc, &contents[k], &digests[k])?;
+        outcomes.push(outcome)?;
+    }
+    Ok(outcomes)
+}
+
+// What comes of the files of some names, by one hash.
+fn read_group<D: BatchDigest, F: Folder>(
+    alloc: Global,
+    folder: &F,
+    names: &[&[u8]],
+    buffer: &mut [u8],
+) -> Result<Vec<Outcome>, AllocError>
+    requires room { 0 < length buffer.old }
+    ensures { IfOk result (λ outcomes. AllZip (ComesTo (F.place folder.now) (hash D.start D.step D.output)) (targets names.now) outcomes.items) }
+{
+    let contents = read_files::<D, F>(alloc, folder, names, buffer)?;
+    let messages = messages_of(alloc, contents.as_slice())?;
+    let mut digests = vec![in alloc; D::Output::zeros(); messages.len()]?;
+    digest_each::<D>(messages.as_slice(), digests.as_mut_slice());
+    let outcomes = outcomes_of::<D>(alloc, contents.as_slice(), digests.as_slice())?;
+    Ok(outcomes)
+}
+
+/// What comes of reading the files of some names, in order. Files of at most 64 KiB are hashed at once. Each
+/// is read through the buffer, which has to have room.
+pub fn read_digests<F: Folder>(
+    alloc: Global,
+    folder: &F,
+    variant: Variant,
+    names: &[&[u8]],
+    buffer: &mut [u8],
+) -> Result<Vec<Outcome>, AllocError>
+    requires room { 0 < length buffer.old }
+    ensures { IfOk result (λ outcomes. AllZip (ComesTo (F.place folder.now) (ripemd (parameters_of variant))) (targets names.now) outcomes.items) }
+{
+    match variant {
+        Variant::R128 => read_group::<Ripemd128, F>(alloc, folder, names, buffer),
+        Variant::R160 => read_group::<Ripemd160, F>(alloc, folder, names, buffer),
+        Variant::R256 => read_group::<Ripemd256, F>(alloc, folder, names, buffer),
+        Variant::R320 => read_group::<Ripemd320, F>(alloc, folder, names, buffer),
+    }
+}

@@ -1,0 +1,28 @@
+//! Where names are opened as files.
+
+ghost use Rattle.std.specs.Prelude.{ℕ, List, IfOk, IfErr, IsErr};
+ghost use Rattle.std.specs.Io.{ReadsAtMost};
+ghost use Rattle.std.specs.Io.KnownBytes.{ReadConsumes};
+ghost use Rattle.ripemd_files.specs.Readings.{Place};
+
+use std::io;
+
+/// A folder: what opens files by their names, which need not be text, and reads them.
+pub trait Folder {
+    /// An opened file.
+    type File: Drop;
+
+    // What it is, as contracts see it.
+    ghost place: { Self → Place Self.File };
+
+    /// Opens the file of a name.
+    fn open(&self, name: &[u8]) -> io::Result<Self::File>
+        ensures ok { IfOk result ((place self.now).opens name.now) }
+        ensures err { IfErr result ((place self.now).refuses name.now) };
+
+    /// Reads bytes of a file to the front of the buffer, and answers how many: 0 at its end.
+    fn read(&self, file: &mut Self::File, buffer: &mut [u8]) -> io::Result<usize>
+        ensures bound { ReadsAtMost result buffer.new }
+        ensures bytes { ReadConsumes ((place self.now).left file.old) ((place self.now).left file.new) result buffer.new }
+        ensures err { IsErr result → (place self.now).may_fail file.old };
+}
