@@ -7,3 +7,4 @@ pub mod Ends
 pub mod Pieces
 pub mod Zips
 pub mod Outcomes
+pub mod Printed

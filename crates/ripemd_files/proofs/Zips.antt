@@ -1,5 +1,5 @@
 -- Two lists whose items belong together.
-use Rattle.std.proofs.Common.{◌≡◌, ℕ, ◌+◌, ◌<◌, List, [], ◌∷◌, ◌++◌, length, take, get_or, map, sym, ap, subst, ◌∙◌, arith}
+use Rattle.std.proofs.Common.{◌≡◌, ℕ, ◌+◌, ◌<◌, List, [], ◌∷◌, ◌++◌, length, take, get_or, map, sym, ap, subst, ◌∙◌, arith, refl, zero, suc}
 use Rattle.std.proofs.lemmas.List.{take_more, length-map, get_or-map}
 use Rattle.std.specs.List.{AllZip}
 
@@ -49,3 +49,18 @@ module _ {A B C D : Type 0} (f : A → D) (g : B → C) (h : C → D) (xs : List
       ∙ get_or-map h (map g ys) i (g y) (f x) (rw length-map within)
       ∙ ap h (get_or-map g ys i y (g y) within)
       ∙ ap (λ z. h (g z)) (sym is_y)
+
+-- both lists are as long
+pub all_zip_length : {A B : Type 0} (R : A → B → Type 0) (xs : List A) (ys : List B) → AllZip R xs ys → length xs ≡ length ys
+all_zip_length R [] [] zipped = refl
+all_zip_length R [] (y ∷ ys) zipped = absurd zipped
+all_zip_length R (x ∷ xs) [] zipped = absurd zipped
+all_zip_length R (x ∷ xs) (y ∷ ys) zipped = ap suc (all_zip_length R xs ys zipped.1)
+
+-- the items at a place
+pub all_zip_at : {A B : Type 0} (R : A → B → Type 0) (xs : List A) (ys : List B) (i : ℕ) (x : A) (y : B) → AllZip R xs ys → i < length xs
+    → R (get_or xs i x) (get_or ys i y)
+all_zip_at R [] ys i x y zipped within = absurd (omega (arith, within))
+all_zip_at R (a ∷ xs) [] i x y zipped within = absurd zipped
+all_zip_at R (a ∷ xs) (b ∷ ys) zero x y zipped within = zipped.0
+all_zip_at R (a ∷ xs) (b ∷ ys) (suc i) x y zipped within = all_zip_at R xs ys i x y zipped.1 (omega (arith, within))

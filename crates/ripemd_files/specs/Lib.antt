@@ -8,3 +8,7 @@ pub mod Reading
 pub mod Readings
 -- What a file gave, as it is read.
 pub mod Contents
+-- What a run writes and says.
+pub mod Said
+-- What is printed of files.
+pub mod Printing

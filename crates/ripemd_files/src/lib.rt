@@ -4,9 +4,12 @@
 
 pub mod digests;
 pub mod facts;
+pub mod fault;
 pub mod folder;
 pub mod line;
+pub mod log;
 pub mod outcome;
+pub mod printing;
 pub mod reading;
 #[cfg(test)]
 mod tests;

@@ -1,0 +1,13 @@
+use Rattle.std.proofs.Common.{◌-◌, ◌≤◌, length, take, map}
+use Rattle.ripemd_files.specs.Printing.{PrintsAll}
+use Rattle.ripemd_files.proofs.printing.print_groups.Given as goal
+
+abbrev pub invariant-loop-start : goal.invariant-loop-start
+invariant-loop-start g l = record {
+  printed : PrintsAll (g.F.Folder.place l.folder) l.style (map (λ name. name.items) (take l.start l.names)) (g.W.Write.contents l.initial.out)
+      (g.W.Write.contents l.out) (g.L.Log.said l.initial.log) (g.L.Log.said l.log) l.all;
+  within : l.start ≤ length l.names;
+}
+
+abbrev pub decreases-loop-start : goal.decreases-loop-start
+decreases-loop-start g l = length l.names - l.start
