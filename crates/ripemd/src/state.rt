@@ -32,6 +32,7 @@ impl<F: ResumableFunction> SerializableState for BlockHasher<F> {
         BlockHasher::load_slice(saved.as_bytes())
     }
 
+    #[inline(always)]
     fn load_slice(bytes: &[u8]) -> Result<BlockHasher<F>, DeserializeStateError> {
         if bytes.len() != <F::SavedHasher as ByteArray>::LEN {
             return Err(DeserializeStateError);
