@@ -94,9 +94,9 @@ fn marked_block(tail: &[u8]) -> [u8; 64]
     block
 }
 
-// Writes the tail and the byte 0x80 to the front of a block of zero bytes.
+/// Writes a tail and the byte 0x80 to the front of a block of zero bytes (RFC 1320, section 3.1).
 #[inline(always)]
-pub(crate) fn write_marked(tail: &[u8], block: &mut [u8; 64])
+pub fn write_marked(tail: &[u8], block: &mut [u8; 64])
     requires short { length tail.now < block_size }
     requires zeros { block.old ≡ replicate block_size 0 }
     ensures { block.new ≡ tail.now ++ 0x80 ∷ replicate (63 - length tail.now) 0 }
@@ -106,9 +106,10 @@ pub(crate) fn write_marked(tail: &[u8], block: &mut [u8; 64])
     block[len] = 0x80;
 }
 
-// Writes the length of a message in place of the last 8 bytes of a block.
+/// Writes the length of a message in bits, least byte first, in place of the last 8 bytes of a block (RFC 1320,
+/// section 3.2).
 #[inline(always)]
-pub(crate) fn write_length(block: &mut [u8; 64], bit_len: u64)
+pub fn write_length(block: &mut [u8; 64], bit_len: u64)
     ensures { block.new ≡ take length_place block.old ++ eight_bytes bit_len }
 {
     block[56..].copy_from_slice(&bit_len.to_le_bytes());
