@@ -12,3 +12,5 @@ pub mod Contents
 pub mod Said
 -- What is printed of files.
 pub mod Printing
+-- What a check says.
+pub mod Checking

@@ -2,6 +2,7 @@
 //! RIPEMD-256 and RIPEMD-320: a digest and the name of a file.
 #![tactic(auto)]
 
+pub mod checking;
 pub mod digests;
 pub mod facts;
 pub mod fault;
@@ -13,6 +14,7 @@ pub mod printing;
 pub mod reading;
 #[cfg(test)]
 mod tests;
+pub mod verdict;
 pub mod writing;
 
 pub use line::{Ending, Form, Layout, Line, Variant};
