@@ -8,3 +8,4 @@ pub mod Pieces
 pub mod Zips
 pub mod Outcomes
 pub mod Printed
+pub mod Cutting

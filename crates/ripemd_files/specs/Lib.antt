@@ -12,3 +12,7 @@ pub mod Contents
 pub mod Said
 -- What is printed of files.
 pub mod Printing
+-- How a list of lines is split.
+pub mod Splitting
+-- Lists and how they are split, worked.
+pub mod WorkedLists

@@ -7,8 +7,10 @@ pub mod facts;
 pub mod fault;
 pub mod folder;
 pub mod line;
+pub mod list_facts;
 pub mod log;
 pub mod outcome;
+mod piece;
 pub mod printing;
 pub mod reading;
 #[cfg(test)]
