@@ -14,5 +14,7 @@ pub mod Said
 pub mod Printing
 -- How a list of lines is split.
 pub mod Splitting
--- Lists and how they are split, worked.
+-- Lists of lines, worked.
 pub mod WorkedLists
+-- In which layout lines stand.
+pub mod Layouts

@@ -6,6 +6,7 @@ pub mod digests;
 pub mod facts;
 pub mod fault;
 pub mod folder;
+pub mod layout;
 pub mod line;
 pub mod list_facts;
 pub mod log;
@@ -17,6 +18,7 @@ pub mod reading;
 mod tests;
 pub mod writing;
 
+pub use layout::line_layout;
 pub use line::{Ending, Form, Layout, Line, Variant};
 pub use reading::parse_line;
 pub use writing::write_line;
