@@ -14,3 +14,9 @@ pub mod Said
 pub mod Printing
 -- What a check says.
 pub mod Checking
+-- How a list of lines is split.
+pub mod Splitting
+-- Lists of lines, worked.
+pub mod WorkedLists
+-- In which layout lines stand.
+pub mod Layouts

@@ -7,9 +7,12 @@ pub mod digests;
 pub mod facts;
 pub mod fault;
 pub mod folder;
+pub mod layout;
 pub mod line;
+pub mod list_facts;
 pub mod log;
 pub mod outcome;
+mod piece;
 pub mod printing;
 pub mod reading;
 #[cfg(test)]
@@ -17,6 +20,7 @@ mod tests;
 pub mod verdict;
 pub mod writing;
 
+pub use layout::line_layout;
 pub use line::{Ending, Form, Layout, Line, Variant};
 pub use reading::parse_line;
 pub use writing::write_line;

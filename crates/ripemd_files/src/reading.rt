@@ -13,9 +13,9 @@ use std::alloc::{AllocError, Global};
 
 // What a line says, in parts: the digits of the digest, and the text of the name.
 #[derive(Clone, Copy)]
-struct Parts<'a> {
+pub(crate) struct Parts<'a> {
     variant: Variant,
-    digits: &'a [u8],
+    pub(crate) digits: &'a [u8],
     text: &'a [u8],
 }
 
@@ -27,7 +27,7 @@ fn is_blank_byte(byte: u8) -> bool
 }
 
 // What stands behind the blanks at the front.
-fn without_blanks(text: &[u8]) -> &[u8]
+pub(crate) fn without_blanks(text: &[u8]) -> &[u8]
     ensures { result.now ≡ skip_blanks text.now }
 {
     for (place, byte) in text.iter().enumerate() {
@@ -100,7 +100,7 @@ fn behind_bits(text: &[u8]) -> Option<(Variant, &[u8])>
 
 // The variant of a tag, and what stands behind it.
 #[tactic(auto, unfolding(crate::specs::Reading::strip_tag))]
-fn behind_tag(text: &[u8]) -> Option<(Variant, &[u8])>
+pub(crate) fn behind_tag(text: &[u8]) -> Option<(Variant, &[u8])>
     ensures { option_map (λ x. (x.0, x.1.now)) result ≡ strip_tag text.now }
 {
     if let Some(rest) = behind(b"RMD", text) {
@@ -130,7 +130,7 @@ fn behind_separator(layout: Layout, text: &[u8]) -> Option<&[u8]>
 
 // The parts of an untagged line.
 #[tactic(auto, unfolding(crate::specs::Reading::untagged_at))]
-fn untagged_parts(layout: Layout, body: &[u8]) -> Option<Parts<'_>>
+pub(crate) fn untagged_parts(layout: Layout, body: &[u8]) -> Option<Parts<'_>>
     ensures { option_map found_of result ≡ untagged_at layout body.now }
 {
     let (digits, rest) = around_blank(body)?;
@@ -250,7 +250,7 @@ fn read_name(alloc: Global, marked: bool, text: &[u8]) -> Result<Option<Vec<u8>>
 }
 
 // Whether a line is marked as escaped, and what stands behind the mark.
-fn without_mark(text: &[u8]) -> (bool, &[u8])
+pub(crate) fn without_mark(text: &[u8]) -> (bool, &[u8])
     ensures { (result.0, result.1.now) ≡ strip_mark text.now }
 {
     match text {

@@ -1,0 +1,111 @@
+-- Lists, split into lines.
+use Rattle.std.proofs.Common.{◌≡◌, ◌≢◌, ℕ, ◌+◌, ◌-◌, ◌==◌, ◌||◌, ◌&&◌, Bool, true, false, List, [], ◌∷◌, ◌++◌, length, take, get_or, subst, Option, Some, None, All, IfSome, refl, sym, ap, ◌∙◌, cond, arith}
+use Rattle.std.specs.List.{list_any}
+use Rattle.std.specs.Io.{StopsAt, appended_bytes}
+use Rattle.std.specs.Io.KnownBytes.{Consumes, IsAtEnd}
+use Rattle.std.specs.Io.BufRead.{take_through, drop_through, ends_with_byte, strip_last, DropsThrough}
+use Rattle.std.proofs.lemmas.Bool.{lt-ltb, ne_eqb, eqb-true}
+use Rattle.std.proofs.lemmas.List.{take_all, take_more}
+use Rattle.std.proofs.lemmas.List.Elements.{All-head, All-tail}
+use Rattle.std.proofs.lemmas.List.Folds.{list_any-append}
+use Rattle.ripemd_files.specs.Splitting.{lines_of, IsEnded, IsOneLine}
+
+either : (a b : Bool) → (a || b) ≡ false → (a ≡ false) × (b ≡ false)
+either false b e = (refl, e)
+either true b e = absurd cc
+
+-- ---- the lines of a list
+
+pub lines_first : (line rest : List ℕ) → list_any (λ x. x == 10) line ≡ false → lines_of (line ++ 10 ∷ rest) ≡ line ∷ lines_of rest
+unfolding lines_of
+lines_first [] rest none = refl
+lines_first (x ∷ line) rest none =
+    let parts = either (x == 10) (list_any (λ x. x == 10) line) none in
+    rw (parts.0, lines_first line rest parts.1) refl
+
+pub lines_last : (line : List ℕ) → list_any (λ x. x == 10) line ≡ false → line ≢ [] → lines_of line ≡ line ∷ []
+unfolding lines_of
+lines_last [] none some = absurd (some refl)
+lines_last (x ∷ []) none some =
+    let parts = either (x == 10) false none in
+    rw parts.0 refl
+lines_last (x ∷ y ∷ line) none some =
+    let parts = either (x == 10) (list_any (λ x. x == 10) (y ∷ line)) none in
+    rw (parts.0, lines_last (y ∷ line) parts.1 (λ same. cc)) refl
+
+-- ---- what a read through a newline took
+
+none_of : (xs : List ℕ) → All (λ x. x ≢ 10) xs → IsOneLine xs
+none_of [] h = refl
+none_of (x ∷ xs) h = rw (ne_eqb x 10 (All-head (λ y. y ≢ 10) x xs h), none_of xs (All-tail (λ y. y ≢ 10) x xs h)) refl
+
+-- a text that is not empty has a last byte
+last_of : (x : ℕ) (xs : List ℕ) → x ∷ xs ≡ take (length (x ∷ xs) - 1) (x ∷ xs) ++ get_or (x ∷ xs) (length (x ∷ xs) - 1) 0 ∷ []
+last_of x xs =
+    let whole = x ∷ xs in
+    sym (take_all (length whole - 1 + 1) whole (omega arith)) ∙ take_more whole (length whole - 1) 0 (omega arith)
+
+-- which tells how it ends
+last_tells : (x : ℕ) (xs : List ℕ) → ends_with_byte 10 (x ∷ xs) ≡ (get_or (x ∷ xs) (length (x ∷ xs) - 1) 0 == 10)
+last_tells x xs = ap (λ (b : Bool). b && (get_or (x ∷ xs) (length (x ∷ xs) - 1) 0 == 10)) (lt-ltb 0 (length (x ∷ xs)) (omega arith))
+
+-- with its newline
+pub popped : (xs : List ℕ) → StopsAt xs 10 → ends_with_byte 10 xs ≡ true → (xs ≡ strip_last 10 xs ++ 10 ∷ []) × IsOneLine (strip_last 10 xs)
+popped [] stops ends = absurd cc
+popped (x ∷ xs) stops ends =
+    let front = take (length (x ∷ xs) - 1) (x ∷ xs) in
+    let last : get_or (x ∷ xs) (length (x ∷ xs) - 1) 0 ≡ 10 = eqb-true _ 10 (sym (last_tells x xs) ∙ ends) in
+    let whole : x ∷ xs ≡ front ++ 10 ∷ [] = last_of x xs ∙ ap (λ (y : ℕ). front ++ y ∷ []) last in
+    let stripped : strip_last 10 (x ∷ xs) ≡ front = ap (λ (b : Bool). cond b front (x ∷ xs)) ends in
+    (whole ∙ ap (λ (l : List ℕ). l ++ 10 ∷ []) (sym stripped), subst IsOneLine (sym stripped) (none_of front stops))
+
+-- or without one
+pub kept : (xs : List ℕ) → StopsAt xs 10 → ends_with_byte 10 xs ≡ false → IsOneLine xs
+kept [] stops ends = refl
+kept (x ∷ xs) stops ends =
+    let front = take (length (x ∷ xs) - 1) (x ∷ xs) in
+    let last = get_or (x ∷ xs) (length (x ∷ xs) - 1) 0 in
+    subst IsOneLine (sym (last_of x xs)) (list_any-append (λ y. y == 10) front (last ∷ []) ∙ rw (none_of front stops, sym (last_tells x xs) ∙ ends) refl)
+
+-- where it took none, nothing is left
+none_left : (xs : List ℕ) → IsOneLine (take_through 10 xs) → drop_through 10 xs ≡ []
+none_left [] none = refl
+none_left (x ∷ xs) none = at (x == 10) refl none (none_left xs)
+  where
+    at : (b : Bool) → (x == 10) ≡ b → IsOneLine (cond b (x ∷ []) (x ∷ take_through 10 xs))
+        → (IsOneLine (take_through 10 xs) → drop_through 10 xs ≡ []) → cond b xs (drop_through 10 xs) ≡ []
+    at true is none later = let bad : (x == 10) ≡ false = (either (x == 10) false none).0 in absurd cc
+    at false is none later = later (either (x == 10) (list_any (λ y. y == 10) (take_through 10 xs)) none).1
+
+-- a line was read to an empty text, and the newline popped
+pub read_line : (old new : Option (List ℕ)) (start read text : List ℕ) → start ≡ [] → StopsAt (appended_bytes start read) 10
+    → Consumes old new (appended_bytes start read) → ends_with_byte 10 read ≡ true → text ≡ strip_last 10 read
+    → Consumes old new (text ++ 10 ∷ []) × IsOneLine text
+read_line old new start read text empty stops taken ends is =
+    let parts = popped read (rw empty at stops) ends in
+    let all : Consumes old new read = rw empty at taken in
+    rw is (subst (Consumes old new) parts.0 all, parts.1)
+
+ended : (old new : Option (List ℕ)) (start read : List ℕ) → start ≡ [] → IfSome old (λ xs. read ≡ start ++ take_through 10 xs)
+    → DropsThrough old new 10 → IsOneLine read → IsEnded old new
+ended None new start read empty bytes rest one = tt
+ended (Some xs) new start read empty bytes rest one =
+    let taken : read ≡ take_through 10 xs = bytes ∙ ap (λ (l : List ℕ). l ++ take_through 10 xs) empty in
+    subst IsAtEnd (sym (rest ∙ ap Some (none_left xs (subst IsOneLine taken one)))) refl
+
+-- a last line was read to an empty text
+pub read_last : (old new : Option (List ℕ)) (start read text : List ℕ) → start ≡ [] → StopsAt (appended_bytes start read) 10
+    → Consumes old new (appended_bytes start read) → IfSome old (λ xs. read ≡ start ++ take_through 10 xs) → DropsThrough old new 10
+    → read ≢ [] → ends_with_byte 10 read ≡ false → text ≡ strip_last 10 read
+    → Consumes old new text × IsEnded old new × (text ≢ []) × IsOneLine text
+read_last old new start read text empty stops taken bytes rest some ends is =
+    let one = kept read (rw empty at stops) ends in
+    let all : Consumes old new read = rw empty at taken in
+    let same : text ≡ read = is ∙ ap (λ (b : Bool). cond b (take (length read - 1) read) read) ends in
+    rw same (all, ended old new start read empty bytes rest one, some, one)
+
+-- what ended ended what was there before
+pub ended_since : (old now next : Option (List ℕ)) (bytes : List ℕ) → Consumes old now bytes → IsEnded now next → IsEnded old next
+ended_since None now next bytes taken ends = tt
+ended_since (Some xs) None next bytes taken ends = absurd taken
+ended_since (Some xs) (Some ys) next bytes taken ends = ends

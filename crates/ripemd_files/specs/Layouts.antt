@@ -1,0 +1,30 @@
+-- In which layout an untagged line stands. Coreutils takes the layout of a list from the first of its lines that has one.
+use Rattle.std.specs.Prelude.{ℕ, ◌*◌, ◌==◌, ◌&&◌, Bool, true, false, if◌then◌else◌, List, length, Option, Some, None, is_some}
+use Rattle.std.specs.List.{list_all}
+use Rattle.hex.specs.Hex.{is_hex_digit}
+use Rattle.ripemd_files.specs.declared.line.Variant.{Variant}
+use Rattle.ripemd_files.specs.declared.line.Layout.{Layout}
+use Rattle.ripemd_files.specs.declared.line.Layout.TheVariants.{Standard, Reversed}
+use Rattle.ripemd_files.specs.Lines.{size_of}
+use Rattle.ripemd_files.specs.Reading.{Found, skip_blanks, strip_mark, strip_tag, untagged_at}
+
+-- whether so many digits count: all that a variant has, or those of one variant alone
+abbrev pub counts : Option Variant → ℕ → Bool
+counts None count = true
+counts (Some variant) count = count == 2 * size_of variant
+
+-- what was found of a digest and a name has the digits of a digest that counts
+abbrev pub has_digits : Option Variant → Option Found → Bool
+has_digits only None = false
+has_digits only (Some found) = counts only (length found.digits) && list_all is_hex_digit found.digits
+
+-- the standard layout if a body is untagged and has it, or else the reversed one
+unfoldable pub layout_at : Option Variant → List ℕ → Option Layout
+layout_at only body =
+    if is_some (strip_tag body) then None
+    else if has_digits only (untagged_at Standard body) then Some Standard
+    else if has_digits only (untagged_at Reversed body) then Some Reversed
+    else None
+
+abbrev pub layout_of : Option Variant → List ℕ → Option Layout
+layout_of only line = layout_at only (strip_mark (skip_blanks line)).1

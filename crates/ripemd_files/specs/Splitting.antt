@@ -1,0 +1,33 @@
+-- How a list of lines is split.
+use Rattle.std.specs.Prelude.{◌≡◌, ◌≢◌, ℕ, ◌==◌, false, if◌then◌else◌, List, [], ◌∷◌, ◌++◌, Option, IfSome}
+use Rattle.std.specs.List.{list_any}
+use Rattle.std.specs.Io.KnownBytes.{Consumes, IsAtEnd}
+use Rattle.ripemd_files.specs.declared.piece.Piece.{Piece}
+use Rattle.ripemd_files.specs.declared.piece.Piece.TheVariants.{Line, Last, Nothing, Failed}
+
+-- lines, with a byte in front of the first of them
+abbrev pub begin_with : ℕ → List (List ℕ) → List (List ℕ)
+begin_with byte [] = (byte ∷ []) ∷ []
+begin_with byte (line ∷ others) = (byte ∷ line) ∷ others
+
+-- the lines of a list, without the newlines that end them; behind the last newline there is none
+unfoldable pub lines_of : List ℕ → List (List ℕ)
+lines_of [] = []
+lines_of (byte ∷ rest) = if byte == 10 then [] ∷ lines_of rest else begin_with byte (lines_of rest)
+
+-- ---- as they are read
+
+-- if it was known what is left, nothing is left now
+abbrev pub IsEnded : Option (List ℕ) → Option (List ℕ) → Type 0
+IsEnded old new = IfSome old (λ _. IsAtEnd new)
+
+-- a text without a newline
+abbrev pub IsOneLine : List ℕ → Type 0
+IsOneLine text = list_any (λ x. x == 10) text ≡ false
+
+-- what was read of a list is this, and this text
+abbrev pub IsPiece : Option (List ℕ) → Option (List ℕ) → List ℕ → Piece → Type 0
+IsPiece old new text Line = Consumes old new (text ++ 10 ∷ []) × IsOneLine text
+IsPiece old new text Last = Consumes old new text × IsEnded old new × (text ≢ []) × IsOneLine text
+IsPiece old new text Nothing = Consumes old new [] × IsEnded old new
+IsPiece old new text Failed = (bytes : List ℕ) × Consumes old new bytes
