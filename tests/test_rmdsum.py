@@ -1,5 +1,6 @@
 """Compares the program rmdsum with sha256sum of coreutils. Over the same files, with digests and tags of RIPEMD
 in place of those of SHA-256 in every list, it prints the same to both outputs and ends with the same status."""
+import dataclasses
 import hashlib
 import itertools
 import os
@@ -22,11 +23,15 @@ LENGTHS = [*range(201), 4095, 4096, 4097, 8192, 12288]
 UNWRITABLE = re.compile(rb": write error(: [A-Z][a-z ]*)?\n")
 
 
+@dataclasses.dataclass
 class Hash:
-    """A hash, as its lists and its messages show it. The digest of `other` stands for one of another hash."""
-
-    def __init__(self, tag, tags, options, digests, other):
-        self.tag, self.tags, self.options, self.digests, self.other = tag, tags, options, digests, other
+    """A hash: the tag that its lines have, all those that are read, the options that choose it, its digests by
+    the lengths of the files, and those of another hash."""
+    tag: str
+    tags: list
+    options: list
+    digests: dict
+    other: dict
 
 
 def ripemd_digests(variant):
@@ -51,21 +56,16 @@ RIPEMD = {variant: Hash(f"RMD{variant}", [f"RMD{variant}", f"RIPEMD{variant}", f
 @pytest.fixture(scope="module", autouse=True)
 def coreutils():
     need("sha256sum", "coreutils")
-    if not re.search(r"\(GNU coreutils\) 9\.[1-4]\b", run("sha256sum", "--version").stdout):
-        pytest.skip("the messages are those of sha256sum of coreutils 9.1 to 9.4; this one is another")
+    if "(GNU coreutils) 9.1\n" not in run("sha256sum", "--version").stdout:
+        pytest.skip("the messages are those of sha256sum of coreutils 9.1; this one is another")
 
 
+@dataclasses.dataclass
 class Ended:
-    """What a program wrote, and how it ended."""
-
-    def __init__(self, status, out, error):
-        self.status, self.out, self.error = status, out, error
-
-    def __eq__(self, other):
-        return (self.status, self.out, self.error) == (other.status, other.out, other.error)
-
-    def __repr__(self):
-        return f"status {self.status}\n{self.out!r}\n{self.error!r}"
+    """The status of a program, and what it wrote to standard output and standard error."""
+    status: int
+    out: bytes
+    error: bytes
 
 
 def ended(program, words, room, **options):
@@ -138,6 +138,34 @@ class Rooms:
         return found
 
 
+# Lines and lists, as functions of the hash.
+
+
+def constant(text):
+    return lambda _: text
+
+
+def joined(*parts):
+    return lambda hash_: b"".join(part if isinstance(part, bytes) else part(hash_) for part in parts)
+
+
+def listed(*parts):
+    """Each a line of its own."""
+    return joined(*(joined(part, b"\n") for part in parts))
+
+
+def tag_of(hash_):
+    return hash_.tag.encode()
+
+
+def untagged(name, length, separator=b"  ", mark=b""):
+    return joined(mark, lambda hash_: hash_.digests[length].encode(), separator, name)
+
+
+def tagged(name, length, mark=b""):
+    return joined(mark, tag_of, b" (", name, b") = ", lambda hash_: hash_.digests[length].encode())
+
+
 @pytest.fixture(name="rooms")
 def fixture_rooms(tmp_path, rmdsum):
     return Rooms(tmp_path, rmdsum)
@@ -151,24 +179,21 @@ def fixture_stocked(rooms):
         rooms.file(name, length)
     rooms.folder("folder")
 
-    def of(*lines_):
-        return lambda hash_: b"".join(line(hash_) + b"\n" for line in lines_)
-
     good = [untagged(b"a", 0), untagged(b"b", 3), untagged(b"two words", 200)]
     wrong = untagged(b"c", 65)
     missing = untagged(b"missing", 1)
     no_line = constant(b"no line")
-    rooms.list("list", of(*good))
-    rooms.list("list-wrong", of(good[0], wrong, good[1], wrong))
-    rooms.list("list-missing", of(missing, good[0], missing))
-    rooms.list("list-all-missing", of(missing, missing))
-    rooms.list("list-bad", of(no_line, good[0], no_line, no_line))
-    rooms.list("list-one-bad", of(good[0], no_line))
-    rooms.list("list-no", of(no_line, no_line))
-    rooms.list("list-each", of(no_line, wrong, missing, *good, untagged(b"folder", 0)))
-    rooms.list("list-empty", of())
-    rooms.list("list-tagged", of(tagged(b"a", 0), tagged(b"b", 3)))
-    rooms.list("list-reversed", of(untagged(b"a", 0, b" "), untagged(b"b", 3, b" ")))
+    rooms.list("list", listed(*good))
+    rooms.list("list-wrong", listed(good[0], wrong, good[1], wrong))
+    rooms.list("list-missing", listed(missing, good[0], missing))
+    rooms.list("list-all-missing", listed(missing, missing))
+    rooms.list("list-bad", listed(no_line, good[0], no_line, no_line))
+    rooms.list("list-one-bad", listed(good[0], no_line))
+    rooms.list("list-no", listed(no_line, no_line))
+    rooms.list("list-each", listed(no_line, wrong, missing, *good, untagged(b"folder", 0)))
+    rooms.list("list-empty", listed())
+    rooms.list("list-tagged", listed(tagged(b"a", 0), tagged(b"b", 3)))
+    rooms.list("list-reversed", listed(untagged(b"a", 0, b" "), untagged(b"b", 3, b" ")))
     return rooms
 
 
@@ -176,23 +201,11 @@ LISTS = ["list", "list-wrong", "list-missing", "list-all-missing", "list-bad", "
          "list-empty", "list-tagged", "list-reversed", "no-list", "folder"]
 
 
-def constant(text):
-    return lambda _: text
-
-
-def untagged(name, length, separator=b"  ", mark=b""):
-    return lambda hash_: mark + hash_.digests[length].encode() + separator + name
-
-
-def tagged(name, length, mark=b""):
-    return lambda hash_: mark + hash_.tag.encode() + b" (" + name + b") = " + hash_.digests[length].encode()
-
-
 # What is drawn.
 
-PIECES = [b"a", b"b", b"name", b".txt", b" ", b"  ", b"\\", b"\\n", b"\n", b"\r", b"-", b"--", b"*", b"(", b")", b") = ",
-          b"=", b"'", b'"', b"$", b"#", b"~", b":", b"\t", "é".encode(), "漢字".encode(), "😀".encode(), b"\xff", b"\xc3",
-          b"\x7f", b"\x1b", b"{", b"}", b"%", b"SHA", b"RMD", b"0123", b"!"]
+PIECES = [b"a", b"b", b"name", b".txt", b" ", b"  ", b"\\", b"\\n", b"\n", b"\r", b"-", b"--", b"*", b"(", b")",
+          b") = ", b"=", b"'", b'"', b"$", b"#", b"~", b":", b"\t", "é".encode(), "漢字".encode(), "😀".encode(),
+          b"\xff", b"\xc3", b"\x7f", b"\x1b", b"{", b"}", b"%", b"SHA", b"RMD", b"0123", b"!"]
 
 # coreutils 9.1 misplaces the quotes of a name that has an apostrophe and ends with an escaped byte.
 MISQUOTED = re.compile(rb"'.*(?:[\x01-\x1f\x7f\xff\xc3])$", re.DOTALL)
@@ -280,7 +293,8 @@ def draw_line(rng, files, usual):
     kind = usual if rng.random() < 0.85 else rng.choice(["text", "binary", "tagged", "openssl", "reversed", "odd"])
     tag = rng.random()
     blanks = [rng.choice([b"", b" ", b"  ", b"\t", b" \t "]) for _ in range(2)]
-    odd = rng.choice([b"", b"\t", b"\t ", b"\t*", b"\t\t", b"   ", b" \t", b" **", b"* ", b"-", b" -", b"\x0b ", b"\xa0 "])
+    odd = rng.choice([b"", b"\t", b"\t ", b"\t*", b"\t\t", b"   ", b" \t", b" **", b"* ", b"-", b" -", b"\x0b ",
+                      b"\xa0 "])
     behind = rng.choice([b"", b"", b"", b"", b"", b" ", b"x", b")", b" =", b"\t"])
 
     def line(hash_):
@@ -301,10 +315,10 @@ def draw_line(rng, files, usual):
     return line
 
 
-OTHER_LINES = [b"", b"", b" ", b"\t", b"#", b"# a comment", b"#" + b"0" * 64 + b"  a", b" # no comment", b"\\", b"\\\\",
-               b"-----BEGIN PGP SIGNED MESSAGE-----", b"Hash: SHA1", b"\xff\xfe", b"0", b"x" * 500, b"(", b") = ",
-               b"SHA224 (a) = " + hashlib.sha224().hexdigest().encode(), hashlib.sha224().hexdigest().encode() + b"  a",
-               b"a", b"  "]
+SHA224 = hashlib.sha224().hexdigest().encode()
+OTHER_LINES = [b"", b"", b" ", b"\t", b"#", b"# a comment", b"#" + b"0" * 64 + b"  a", b" # no comment", b"\\",
+               b"\\\\", b"-----BEGIN PGP SIGNED MESSAGE-----", b"Hash: SHA1", b"\xff\xfe", b"0", b"x" * 500, b"(",
+               b") = ", b"SHA224 (a) = " + SHA224, SHA224 + b"  a", b"a", b"  "]
 
 
 def draw_list(rng, files):
@@ -321,7 +335,8 @@ def draw_list(rng, files):
     return text
 
 
-CHECK_OPTIONS = ["--ignore-missing", "--ign", "--quiet", "--q", "--status", "--sta", "--strict", "--str", "-w", "--warn"]
+CHECK_OPTIONS = ["--ignore-missing", "--ign", "--quiet", "--q", "--status", "--sta", "--strict", "--str", "-w",
+                 "--warn"]
 PRINT_OPTIONS = ["-b", "-t", "--tag", "-z", "--zero", "--binary", "--text", "--ta", "-bz", "-tz"]
 
 
@@ -394,7 +409,8 @@ def test_own_lists(tmp_path, rmdsum, seed):
 
 # Options.
 
-TELLING = [list(order) for count in range(4) for order in itertools.permutations(["--quiet", "--status", "-w"], count)]
+TELLING = [list(order) for count in range(4)
+           for order in itertools.permutations(["--quiet", "--status", "-w"], count)]
 
 
 @pytest.mark.parametrize("name", LISTS)
@@ -413,7 +429,8 @@ def test_several_lists(stocked, options):
 
 
 def test_options_of_printing(stocked):
-    names = ["a", "missing", "two words", "new\nline", "back\\slash", "return\r", "folder", "-", "*star", " blank", "é"]
+    names = ["a", "missing", "two words", "new\nline", "back\\slash", "return\r", "folder", "-", "*star", " blank",
+             "é"]
     for count in range(4):
         for options in itertools.product(["-b", "-t", "--tag", "-z"], repeat=count):
             stocked.same([*options, *names], constant(BYTES[:9]))
@@ -429,11 +446,11 @@ def test_options_that_exclude_one_another(stocked, first):
         stocked.same([*others[:1], "a", first, *others[1:]], constant(b""))
 
 
-WORDS = ["-b", "-c", "-t", "-w", "-z", "--tag", "--zero", "--check", "--text", "--binary", "--warn", "--quiet", "--status",
-         "--strict", "--ignore-missing", "--", "-", "-x", "--x", "--s", "--st", "--sta", "--str", "--stx", "--t", "--ta",
-         "--te", "--b", "--c", "--q", "--quiet=", "--quiet=1", "--ta=3", "--i", "--ig=", "--w", "--z", "-cb", "-bz", "-zt",
-         "-tw", "-wx", "--x=1", "--texts", "a", "missing", "--s=4", "-c-", "--chec", "-b=", "-\\", "-é", b"-\xff",
-         b"--\xff\n", "--tag ", "---", "--\\", "--CHECK", "-B", "-q"]
+WORDS = ["-b", "-c", "-t", "-w", "-z", "--tag", "--zero", "--check", "--text", "--binary", "--warn", "--quiet",
+         "--status", "--strict", "--ignore-missing", "--", "-", "-x", "--x", "--s", "--st", "--sta", "--str",
+         "--stx", "--t", "--ta", "--te", "--b", "--c", "--q", "--quiet=", "--quiet=1", "--ta=3", "--i", "--ig=",
+         "--w", "--z", "-cb", "-bz", "-zt", "-tw", "-wx", "--x=1", "--texts", "a", "missing", "--s=4", "-c-",
+         "--chec", "-b=", "-\\", "-é", b"-\xff", b"--\xff\n", "--tag ", "---", "--\\", "--CHECK", "-B", "-q"]
 
 
 @pytest.mark.parametrize("seed", range(20))
@@ -497,9 +514,9 @@ def test_help_and_version(rooms):
         helped = ended(rooms.program, words, room)
         assert (helped.status, helped.error) == (0, b"")
         assert helped.out.startswith(b"Usage: rmdsum [OPTION]... [FILE]...\n")
-        for option in ["--algorithm", "--binary", "--check", "--tag", "--text", "--zero", "--ignore-missing", "--quiet",
-                       "--status", "--strict", "--warn", "--files0-from", "--progress", "--help", "--version",
-                       "-a", "-b", "-c", "-t", "-w", "-z"]:
+        for option in ["--algorithm", "--binary", "--check", "--tag", "--text", "--zero", "--ignore-missing",
+                       "--quiet", "--status", "--strict", "--warn", "--files0-from", "--progress", "--help",
+                       "--version", "-a", "-b", "-c", "-t", "-w", "-z"]:
             assert re.search(rb"(?<![\w-])%s\b" % option.encode(), helped.out), option
     for words in [["--version"], ["--v"], ["-b", "--version", "--help"]]:
         told = ended(rooms.program, words, room)
@@ -699,30 +716,32 @@ def test_output_whose_reader_has_gone(stocked):
     assert found.status == -signal.SIGPIPE or found.status == 1 and UNWRITABLE.search(found.error)
 
 
-@pytest.mark.parametrize("words", [["a"], ["-c", "list"], ["-c", "list-each"], ["missing"], ["-x"], ["-c", "list-no"]],
-                         ids=" ".join)
+@pytest.mark.parametrize("words", [
+    ["a"], ["-c", "list"], ["-c", "list-each"], ["missing"], ["-x"], ["-c", "list-no"]], ids=" ".join)
 def test_error_that_takes_nothing(stocked, words):
     with open("/dev/full", "wb") as error:
         wanted, found = stocked.run(words, stderr=error)
     assert (found.out, found.status) == (wanted.out, wanted.status)
 
 
-@pytest.mark.parametrize("words", [[], ["-"], ["-", "a"], ["-c"], ["-c", "-"], ["-c", "list", "-"], ["a"], ["-c", "list"]],
-                         ids=" ".join)
+@pytest.mark.parametrize("words", [
+    [], ["-"], ["-", "a"], ["-c"], ["-c", "-"], ["-c", "list", "-"], ["a"], ["-c", "list"]], ids=" ".join)
 def test_closed_input(stocked, words):
     def close():
         os.close(0)
     stocked.same(words, preexec_fn=close, stdin=None)
 
 
-@pytest.mark.parametrize("words", [[], ["-", "-"], ["-c"], ["-c", "--status"], ["-c", "-w", "--strict"]], ids=" ".join)
+@pytest.mark.parametrize("words", [
+    [], ["-", "-"], ["-c"], ["-c", "--status"], ["-c", "-w", "--strict"]], ids=" ".join)
 def test_input_that_is_a_folder(stocked, words):
     folder = os.open("/", os.O_RDONLY)
     stocked.same(words, stdin=folder)
     os.close(folder)
 
 
-@pytest.mark.parametrize("words", [["-", "-"], ["-", "a", "-"], ["-b", "-"], ["--tag", "-"], ["-z", "-"], []], ids=" ".join)
+@pytest.mark.parametrize("words", [
+    ["-", "-"], ["-", "a", "-"], ["-b", "-"], ["--tag", "-"], ["-z", "-"], []], ids=" ".join)
 def test_standard_input(stocked, words):
     """The second time it is at its end."""
     for length in [0, 1, 64, 4096, 12288]:
@@ -730,10 +749,10 @@ def test_standard_input(stocked, words):
 
 
 def test_list_that_names_standard_input(stocked):
-    stocked.list("list-input", lambda hash_: untagged(b"-", 33)(hash_) + b"\n" + untagged(b"a", 0)(hash_) + b"\n")
+    stocked.list("list-input", listed(untagged(b"-", 33), untagged(b"a", 0)))
     for length in [33, 34]:
         stocked.same(["-c", "list-input"], constant(BYTES[:length]))
-    stocked.same(["-c"], lambda hash_: untagged(b"-", 33)(hash_) + b"\n" + untagged(b"a", 0)(hash_) + b"\n")
+    stocked.same(["-c"], listed(untagged(b"-", 33), untagged(b"a", 0)))
 
 
 def test_fifo(stocked):
@@ -748,7 +767,7 @@ def test_fifo(stocked):
         (["-c", "fifo"], lambda hash_: [untagged(b"a", 0)(hash_) + b"\nno", b" line\n", untagged(b"b", 3)(hash_)]),
         (["-c", "list-of-fifo"], constant([BYTES[:5], BYTES[5:8192]])),
     ]:
-        stocked.list("list-of-fifo", lambda hash_: untagged(b"fifo", 8192)(hash_) + b"\n")
+        stocked.list("list-of-fifo", listed(untagged(b"fifo", 8192)))
         results = []
         for hash_, room, program in stocked.sides:
             os.mkfifo(room / "fifo")
@@ -776,7 +795,7 @@ def test_unreadable(stocked):
 def test_files_that_cannot_be_opened(stocked, name):
     for _, room, _ in stocked.sides:
         (room / "loop").symlink_to("loop")
-    stocked.list("list-of-it", lambda hash_: untagged(os.fsencode(name), 0)(hash_) + b"\n" + untagged(b"a", 0)(hash_))
+    stocked.list("list-of-it", listed(untagged(os.fsencode(name), 0), untagged(b"a", 0)))
     for words in [[name, "a"], ["-c", name], ["-c", "list-of-it"], ["-c", "--ignore-missing", "list-of-it"],
                   ["-c", "--status", "list-of-it"], ["-c", "--quiet", "list-of-it"]]:
         stocked.same(words)
@@ -786,8 +805,9 @@ def test_names_in_messages(rooms):
     """Each byte, and some names that a shell has to quote."""
     names = [bytes([byte]) for byte in range(1, 256) if bytes([byte]) not in b"/.-"]
     names += [b"x" + name for name in names] + [name + b"x" for name in names]
-    names += [b"it's", b"it's a", b"'", b"''", b"'\"'", b"'$", b"a b", b"a:b", b"a\nb", b"\na", b"a\n\nb c", b"#'", b"~'",
-              b"a#", b"a~", b"{}", b"{", b"a{", "é".encode(), "é'".encode(), "漢 字".encode(), b"\xc3", b"\xe2\x82", b"%s%n",
+    names += [b"it's", b"it's a", b"'", b"''", b"'\"'", b"'$", b"a b", b"a:b", b"a\nb", b"\na", b"a\n\nb c", b"#'",
+              b"~'", b"a#", b"a~", b"{}", b"{", b"a{", "é".encode(), "é'".encode(), "漢 字".encode(), b"\xc3",
+              b"\xe2\x82", b"%s%n",
               "a\u0085b".encode(), "\u00a0".encode(), b"\xed\xa0\x80", b"a\x01'b"]
     for start in range(0, len(names), 50):
         rooms.same(["--", *names[start:start + 50]])
@@ -795,52 +815,54 @@ def test_names_in_messages(rooms):
 
 # Lists by hand.
 
+A, B = untagged(b"a", 0), untagged(b"b", 3)
+
 
 @pytest.mark.parametrize("text", [
-    lambda hash_: b"",
-    lambda hash_: b"\n\n\n",
-    lambda hash_: b"# only\n#a\n#comment\n",
-    lambda hash_: b"\r\n",
-    lambda hash_: b"\n" + untagged(b"a", 0)(hash_) + b"\n\n",
-    lambda hash_: untagged(b"a", 0)(hash_),
-    lambda hash_: untagged(b"a", 0)(hash_) + b"\r",
-    lambda hash_: untagged(b"a", 0)(hash_) + b"\r\n" + untagged(b"b", 3)(hash_) + b"\r\n",
-    lambda hash_: untagged(b"a", 0)(hash_) + b"\r\r\n",
-    lambda hash_: untagged(b"a", 0)(hash_).upper().replace(b"  A", b"  a"),
-    lambda hash_: untagged(b"", 0)(hash_) + b"\n",
-    lambda hash_: untagged(b"", 0, b" ")(hash_) + b"\n",
-    lambda hash_: untagged(b"", 0, b"")(hash_) + b"\n",
-    lambda hash_: tagged(b"", 0)(hash_) + b"\n",
-    lambda hash_: untagged(b"a", 0, b" ")(hash_) + b"\n" + untagged(b"b", 3)(hash_) + b"\n",
-    lambda hash_: untagged(b"a", 0)(hash_) + b"\n" + untagged(b"b", 3, b" ")(hash_) + b"\n",
-    lambda hash_: tagged(b"a", 0)(hash_) + b"\n" + untagged(b"b", 3, b" ")(hash_) + b"\n",
-    lambda hash_: untagged(b"a", 0, b" ")(hash_) + b"\n" + tagged(b"b", 3)(hash_) + b"\n",
-    lambda hash_: untagged(b"two words", 200, b" ")(hash_) + b"\n",
-    lambda hash_: untagged(b" blank", 10, b" ")(hash_) + b"\n",
-    lambda hash_: untagged(b"a", 0, b" ")(hash_) + b"\n" + untagged(b" blank", 10, b" ")(hash_) + b"\n",
-    lambda hash_: untagged(b"*star", 9, b" ")(hash_) + b"\n",
-    lambda hash_: untagged(b"a", 0, b" ")(hash_) + b"\n" + untagged(b"*star", 9, b" ")(hash_) + b"\n",
-    lambda hash_: untagged(b"*star", 9)(hash_) + b"\n" + untagged(b"*star", 9, b" *")(hash_) + b"\n",
-    lambda hash_: untagged(b"a", 0, b"\t ")(hash_) + b"\n" + untagged(b"a", 0, b"\t*")(hash_) + b"\n",
-    lambda hash_: untagged(b"back\\\\slash", 5, mark=b"\\")(hash_) + b"\n" + untagged(b"back\\slash", 5)(hash_) + b"\n",
-    lambda hash_: untagged(b"back\\slash", 5, mark=b"\\")(hash_) + b"\n",
-    lambda hash_: untagged(b"new\\nline", 6, mark=b"\\")(hash_) + b"\n" + untagged(b"new\\nline", 6)(hash_) + b"\n",
-    lambda hash_: untagged(b"return\\r", 7, mark=b"\\")(hash_) + b"\n" + untagged(b"return\r", 7)(hash_) + b"\n",
-    lambda hash_: untagged(b"a\\", 0, mark=b"\\")(hash_) + b"\n",
-    lambda hash_: untagged(b"a", 0, mark=b"\\")(hash_) + b"\n" + tagged(b"a", 0, b"\\")(hash_) + b"\n",
-    lambda hash_: untagged(b"a", 0, mark=b"\\\\")(hash_) + b"\n",
-    lambda hash_: untagged(b"a", 0, mark=b" \\")(hash_) + b"\n" + untagged(b"a", 0, mark=b"\\ ")(hash_) + b"\n",
-    lambda hash_: tagged(b"new\\nline", 6, b"\\")(hash_) + b"\n" + tagged(b"new\\nline", 6)(hash_) + b"\n",
-    lambda hash_: tagged(b"a", 0)(hash_) + b" \n" + tagged(b"a", 0)(hash_) + b"0\n" + tagged(b"a", 0)(hash_)[:-1] + b"\n",
-    lambda hash_: hash_.tag.encode() + b"  (a) = " + hash_.digests[0].encode() + b"\n",
-    lambda hash_: hash_.tag.encode() + b" a\n" + hash_.tag.encode() + b"\n" + hash_.tag.encode() + b" (\n",
-    lambda hash_: hash_.tag.encode().lower() + b" (a) = " + hash_.digests[0].encode() + b"\n",
-    lambda hash_: (untagged(b"a", 0)(hash_) + b"\n") * 3000 + b"no line",
-    lambda hash_: b"no line\n" * 3000 + untagged(b"a", 0)(hash_) + b"\n",
-    lambda hash_: untagged(b"a" * 5000, 0)(hash_) + b"\n" + b"x" * 100000 + b"\n" + untagged(b"a", 0)(hash_) + b"\n",
-    lambda hash_: b"\xef\xbb\xbf" + untagged(b"a", 0)(hash_) + b"\n",
-    lambda hash_: untagged(b"a ", 0)(hash_) + b"\n" + untagged(b"a", 0, b"   ")(hash_) + b"\n",
-    lambda hash_: untagged(b"folder", 0)(hash_) + b"\n" + untagged(b"missing", 0)(hash_) + b"\n",
+    joined(b""),
+    joined(b"\n\n\n"),
+    joined(b"# only\n#a\n#comment\n"),
+    joined(b"\r\n"),
+    joined(b"\n", A, b"\n\n"),
+    joined(A),
+    joined(A, b"\r"),
+    joined(A, b"\r\n", B, b"\r\n"),
+    joined(A, b"\r\r\n"),
+    joined(lambda hash_: hash_.digests[0].upper().encode(), b"  a\n"),
+    listed(untagged(b"", 0)),
+    listed(untagged(b"", 0, b" ")),
+    listed(untagged(b"", 0, b"")),
+    listed(tagged(b"", 0)),
+    listed(untagged(b"a", 0, b" "), B),
+    listed(A, untagged(b"b", 3, b" ")),
+    listed(tagged(b"a", 0), untagged(b"b", 3, b" ")),
+    listed(untagged(b"a", 0, b" "), tagged(b"b", 3)),
+    listed(untagged(b"two words", 200, b" ")),
+    listed(untagged(b" blank", 10, b" ")),
+    listed(untagged(b"a", 0, b" "), untagged(b" blank", 10, b" ")),
+    listed(untagged(b"*star", 9, b" ")),
+    listed(untagged(b"a", 0, b" "), untagged(b"*star", 9, b" ")),
+    listed(untagged(b"*star", 9), untagged(b"*star", 9, b" *")),
+    listed(untagged(b"a", 0, b"\t "), untagged(b"a", 0, b"\t*")),
+    listed(untagged(b"back\\\\slash", 5, mark=b"\\"), untagged(b"back\\slash", 5)),
+    listed(untagged(b"back\\slash", 5, mark=b"\\")),
+    listed(untagged(b"new\\nline", 6, mark=b"\\"), untagged(b"new\\nline", 6)),
+    listed(untagged(b"return\\r", 7, mark=b"\\"), untagged(b"return\r", 7)),
+    listed(untagged(b"a\\", 0, mark=b"\\")),
+    listed(untagged(b"a", 0, mark=b"\\"), tagged(b"a", 0, b"\\")),
+    listed(untagged(b"a", 0, mark=b"\\\\")),
+    listed(untagged(b"a", 0, mark=b" \\"), untagged(b"a", 0, mark=b"\\ ")),
+    listed(tagged(b"new\\nline", 6, b"\\"), tagged(b"new\\nline", 6)),
+    joined(tagged(b"a", 0), b" \n", tagged(b"a", 0), b"0\n", lambda hash_: tagged(b"a", 0)(hash_)[:-1], b"\n"),
+    joined(tag_of, b"  (a) = ", lambda hash_: hash_.digests[0].encode(), b"\n"),
+    joined(tag_of, b" a\n", tag_of, b"\n", tag_of, b" (\n", tag_of, b" (a\n", tag_of, b" (a)\n", tag_of, b" (a) =\n"),
+    joined(lambda hash_: tag_of(hash_).lower(), b" (a) = ", lambda hash_: hash_.digests[0].encode(), b"\n"),
+    joined(*[A, b"\n"] * 3000, b"no line"),
+    joined(b"no line\n" * 3000, A, b"\n"),
+    joined(untagged(b"a" * 5000, 0), b"\n" + b"x" * 100000 + b"\n", A, b"\n"),
+    joined(b"\xef\xbb\xbf", A, b"\n"),
+    listed(untagged(b"a ", 0), untagged(b"a", 0, b"   ")),
+    listed(untagged(b"folder", 0), untagged(b"missing", 0)),
 ])
 def test_lists_by_hand(stocked, text):
     stocked.list("list-by-hand", text)

@@ -1,8 +1,8 @@
 //! What the arguments of the program ask for.
 
-ghost use Rattle.std.specs.Prelude.{◌≡◌, ◌↔◌, Some};
+ghost use Rattle.std.specs.Prelude.{◌≡◌, ◌<◌, ◌↔◌, Some, IfOk, vec_len};
 ghost use Rattle.ripemd_files.specs.declared.line.Variant.{Variant};
-ghost use Rattle.rmdsum.specs.Arguments.{name_of};
+ghost use Rattle.rmdsum.specs.Arguments.{name_of, IsSound, HasNames};
 
 use crate::quoting::{quote, quoteaf};
 use ripemd_files::{Ending, Form, Variant};
@@ -184,7 +184,8 @@ enum Next {
 // Why no more arguments are read.
 #[derive(Drop)]
 enum Stop {
-    Request(Request),
+    Help,
+    Version,
     Misuse(Misuse),
     OutOfMemory,
 }
@@ -233,17 +234,22 @@ fn argument(env: &impl Env, alloc: Global, place: usize) -> Result<Option<Vec<u8
 
 /// What the arguments behind the program's name ask for, by the rules of `getopt_long` and of
 /// `sha256sum`: options stand before and behind operands, and long ones may be cut short.
-pub fn parse(alloc: Global, arguments: &[Vec<u8>]) -> Result<Result<Request, Misuse>, AllocError> {
+pub fn parse(alloc: Global, arguments: &[Vec<u8>]) -> Result<Result<Request, Misuse>, AllocError>
+    ensures { IfOk result (λ answer. IfOk answer IsSound) }
+{
     match read_all(alloc, arguments) {
         Ok(request) => Ok(Ok(request)),
-        Err(Stop::Request(request)) => Ok(Ok(request)),
+        Err(Stop::Help) => Ok(Ok(Request::Help)),
+        Err(Stop::Version) => Ok(Ok(Request::Version)),
         Err(Stop::Misuse(misuse)) => Ok(Err(misuse)),
         Err(Stop::OutOfMemory) => Err(AllocError),
     }
 }
 
 // What the arguments ask for.
-fn read_all(alloc: Global, arguments: &[Vec<u8>]) -> Result<Request, Stop> {
+fn read_all(alloc: Global, arguments: &[Vec<u8>]) -> Result<Request, Stop>
+    ensures { IfOk result IsSound }
+{
     let mut settings = Settings::new(alloc);
     let mut next = Next::Any;
     for argument in arguments {
@@ -414,8 +420,8 @@ impl Settings {
             Switch::Binary => self.mode = Some(Mode::Binary),
             Switch::Text => self.mode = Some(Mode::Text),
             Switch::Progress => self.progress = true,
-            Switch::Help => return Err(Stop::Request(Request::Help)),
-            Switch::Version => return Err(Stop::Request(Request::Version)),
+            Switch::Help => return Err(Stop::Help),
+            Switch::Version => return Err(Stop::Version),
             Switch::Algorithm | Switch::FilesFrom => {}
         }
         Ok(())
@@ -480,7 +486,9 @@ impl Settings {
     }
 
     // What the options and the operands ask for.
-    fn request(self, alloc: Global) -> Result<Request, Stop> {
+    fn request(self, alloc: Global) -> Result<Request, Stop>
+        ensures { IfOk result IsSound }
+    {
         if let Some(misuse) = self.conflict() {
             return Err(Stop::Misuse(misuse));
         }
@@ -525,7 +533,9 @@ fn choose_names(
     alloc: Global,
     files_from: Option<Vec<u8>>,
     operands: Vec<Vec<u8>>,
-) -> Result<Names, Stop> {
+) -> Result<Names, Stop>
+    ensures { IfOk result HasNames }
+{
     let Some(files_from) = files_from else {
         if operands.is_empty() {
             return Ok(Names::Operands(standard_input(alloc)?));
@@ -542,7 +552,9 @@ fn choose_names(
 }
 
 // The name of standard input alone.
-fn standard_input(alloc: Global) -> Result<Vec<Vec<u8>>, AllocError> {
+fn standard_input(alloc: Global) -> Result<Vec<Vec<u8>>, AllocError>
+    ensures { IfOk result (λ names. 0 < vec_len names) }
+{
     let name = Vec::from_slice(alloc, b"-")?;
     Ok(vec![in alloc; name]?)
 }
