@@ -2,9 +2,10 @@
 
 ghost use Rattle.std.specs.Prelude.{◌≡◌, ◌<◌, ◌↔◌, Some, IfOk, vec_len};
 ghost use Rattle.ripemd_files.specs.declared.line.Variant.{Variant};
-ghost use Rattle.rmdsum.specs.Arguments.{name_of, IsSound, HasNames};
+ghost use Rattle.rmdsum.specs.Arguments.{name_of, IsSound, HasNames, AreExclusive};
 
-use crate::quoting::{quote, quoteaf};
+pub use crate::refusals::Misuse;
+use crate::switches::{Flag, Found, Parameter, Switch, around_equals, find_long, find_short};
 use ripemd_files::{Ending, Form, Variant};
 use std::alloc::{AllocError, Global};
 use std::env::{Env, FillError};
@@ -66,76 +67,6 @@ pub struct Options {
     pub warn: bool,
 }
 
-/// An option.
-#[derive(Clone, Copy, PartialEq, Eq, Debug)]
-pub enum Switch {
-    Check,
-    IgnoreMissing,
-    Quiet,
-    Status,
-    Warn,
-    Strict,
-    Tag,
-    Zero,
-    Binary,
-    Text,
-    Algorithm,
-    FilesFrom,
-    Progress,
-    Help,
-    Version,
-}
-
-/// Why the arguments ask for nothing that the program does.
-#[derive(PartialEq, Eq, Debug, Drop)]
-pub enum Misuse {
-    /// There is no long option of this name, or that begins with it; what stands behind `--`.
-    UnknownLong(Vec<u8>),
-    /// Several long options begin with this name; what stands behind `--`.
-    Ambiguous(Vec<u8>),
-    /// This option takes no value, and was given one.
-    UnwantedValue(Switch),
-    /// This long option has no value.
-    MissingValue(Switch),
-    /// There is no option of this letter.
-    UnknownShort(u8),
-    /// The option of this letter has no value.
-    MissingShortValue(u8),
-    /// No hash has this name.
-    UnknownVariant(Vec<u8>),
-    /// `--text` behind `--tag`.
-    TextWithTag,
-    /// `--zero` with `--check`.
-    ZeroWithCheck,
-    /// `--tag` with `--check`.
-    TagWithCheck,
-    /// `--binary` or `--text` with `--check`.
-    ModeWithCheck,
-    /// This option without `--check`.
-    OnlyWithCheck(Switch),
-    /// This operand beside `--files0-from`.
-    ExtraOperand(Vec<u8>),
-}
-
-// The options, in the order in which an ambiguous one lists them.
-const SWITCHES: [Switch; 15] = [
-    Switch::Check,
-    Switch::IgnoreMissing,
-    Switch::Quiet,
-    Switch::Status,
-    Switch::Warn,
-    Switch::Strict,
-    Switch::Tag,
-    Switch::Zero,
-    Switch::Algorithm,
-    Switch::Binary,
-    Switch::Text,
-    Switch::FilesFrom,
-    Switch::Progress,
-    Switch::Help,
-    Switch::Version,
-];
-
 // Whether a file is read as text or as bytes, which differ in the line alone.
 #[derive(Clone, Copy, PartialEq, Eq)]
 enum Mode {
@@ -176,9 +107,9 @@ enum Next {
     // An operand, also if it begins with `-`.
     Operand,
     // The value of this option, which was given by its long name.
-    Value(Switch),
+    Value(Parameter),
     // The value of this option, which was given by this letter.
-    ShortValue(Switch, u8),
+    ShortValue(Parameter, u8),
 }
 
 // Why no more arguments are read.
@@ -194,14 +125,6 @@ impl From<AllocError> for Stop {
     fn from(_: AllocError) -> Stop {
         Stop::OutOfMemory
     }
-}
-
-// Which long options a name stands for.
-#[derive(Clone, Copy)]
-enum Found {
-    None,
-    One(Switch),
-    Several,
 }
 
 /// The arguments behind the program's name.
@@ -256,50 +179,9 @@ fn read_all(alloc: Global, arguments: &[Vec<u8>]) -> Result<Request, Stop>
         next = settings.read(alloc, next, argument.as_slice())?;
     }
     match next {
-        Next::Value(switch) => Err(Stop::Misuse(Misuse::MissingValue(switch))),
+        Next::Value(parameter) => Err(Stop::Misuse(Misuse::MissingValue(parameter))),
         Next::ShortValue(_, letter) => Err(Stop::Misuse(Misuse::MissingShortValue(letter))),
         Next::Any | Next::Operand => settings.request(alloc),
-    }
-}
-
-// What stands before the first equals sign, and what behind it.
-fn around_equals(text: &[u8]) -> (&[u8], Option<&[u8]>) {
-    for (place, byte) in text.iter().enumerate() {
-        if *byte == b'=' {
-            return (&text[..place], Some(&text[place + 1..]));
-        }
-    }
-    (text, None)
-}
-
-// The options that a long name stands for: the one of this name, or those that begin with it.
-fn find_long(name: &[u8]) -> Found {
-    let mut found = Found::None;
-    for switch in SWITCHES {
-        let long = switch.long_name().as_bytes();
-        if long == name {
-            return Found::One(switch);
-        }
-        if long.starts_with(name) {
-            found = match found {
-                Found::None => Found::One(switch),
-                Found::One(_) | Found::Several => Found::Several,
-            };
-        }
-    }
-    found
-}
-
-// The option of a letter.
-fn find_short(letter: u8) -> Option<Switch> {
-    match letter {
-        b'a' => Some(Switch::Algorithm),
-        b'b' => Some(Switch::Binary),
-        b'c' => Some(Switch::Check),
-        b't' => Some(Switch::Text),
-        b'w' => Some(Switch::Warn),
-        b'z' => Some(Switch::Zero),
-        _ => None,
     }
 }
 
@@ -341,8 +223,8 @@ impl Settings {
                 self.push_operand(alloc, argument)?;
                 Ok(Next::Operand)
             }
-            Next::Value(switch) | Next::ShortValue(switch, _) => {
-                self.set_value(alloc, switch, argument)?;
+            Next::Value(parameter) | Next::ShortValue(parameter, _) => {
+                self.set_parameter(alloc, parameter, argument)?;
                 Ok(Next::Any)
             }
             Next::Any => self.read_any(alloc, argument),
@@ -367,18 +249,22 @@ impl Settings {
         let (name, value) = around_equals(text);
         let switch = match find_long(name) {
             Found::One(switch) => switch,
-            Found::None => {
+            Found::Nothing => {
                 return Err(Stop::Misuse(Misuse::UnknownLong(Vec::from_slice(alloc, text)?)));
             }
             Found::Several => {
                 return Err(Stop::Misuse(Misuse::Ambiguous(Vec::from_slice(alloc, text)?)));
             }
         };
-        match (switch.takes_value(), value) {
-            (true, Some(value)) => self.set_value(alloc, switch, value)?,
-            (true, None) => return Ok(Next::Value(switch)),
-            (false, Some(_)) => return Err(Stop::Misuse(Misuse::UnwantedValue(switch))),
-            (false, None) => self.set(switch)?,
+        match (switch, value) {
+            (Switch::Flag(flag), None) => self.set_flag(flag)?,
+            (Switch::Flag(flag), Some(_)) => {
+                return Err(Stop::Misuse(Misuse::UnwantedValue(flag)));
+            }
+            (Switch::Parameter(parameter), None) => return Ok(Next::Value(parameter)),
+            (Switch::Parameter(parameter), Some(value)) => {
+                self.set_parameter(alloc, parameter, value)?;
+            }
         }
         Ok(Next::Any)
     }
@@ -386,59 +272,61 @@ impl Settings {
     // Reads the letters behind `-`. Behind the letter of an option with a value stands its value.
     fn read_short(&mut self, alloc: Global, letters: &[u8]) -> Result<Next, Stop> {
         for (place, letter) in letters.iter().enumerate() {
-            let Some(switch) = find_short(*letter) else {
-                return Err(Stop::Misuse(Misuse::UnknownShort(*letter)));
-            };
-            if !switch.takes_value() {
-                self.set(switch)?;
-                continue;
+            match find_short(*letter) {
+                None => return Err(Stop::Misuse(Misuse::UnknownShort(*letter))),
+                Some(Switch::Flag(flag)) => self.set_flag(flag)?,
+                Some(Switch::Parameter(parameter)) => {
+                    let value = &letters[place + 1..];
+                    if value.is_empty() {
+                        return Ok(Next::ShortValue(parameter, *letter));
+                    }
+                    self.set_parameter(alloc, parameter, value)?;
+                    break;
+                }
             }
-            let value = &letters[place + 1..];
-            if value.is_empty() {
-                return Ok(Next::ShortValue(switch, *letter));
-            }
-            self.set_value(alloc, switch, value)?;
-            break;
         }
         Ok(Next::Any)
     }
 
     // Takes an option without a value.
-    fn set(&mut self, switch: Switch) -> Result<(), Stop> {
-        match switch {
-            Switch::Check => self.check = true,
-            Switch::IgnoreMissing => self.ignore_missing = true,
-            Switch::Quiet => self.telling = Telling::Quiet,
-            Switch::Status => self.telling = Telling::Status,
-            Switch::Warn => self.telling = Telling::Warn,
-            Switch::Strict => self.strict = true,
-            Switch::Tag => {
+    fn set_flag(&mut self, flag: Flag) -> Result<(), Stop> {
+        match flag {
+            Flag::Check => self.check = true,
+            Flag::IgnoreMissing => self.ignore_missing = true,
+            Flag::Quiet => self.telling = Telling::Quiet,
+            Flag::Status => self.telling = Telling::Status,
+            Flag::Warn => self.telling = Telling::Warn,
+            Flag::Strict => self.strict = true,
+            Flag::Tag => {
                 self.tag = true;
                 self.mode = Some(Mode::Binary);
             }
-            Switch::Zero => self.ending = Ending::Zero,
-            Switch::Binary => self.mode = Some(Mode::Binary),
-            Switch::Text => self.mode = Some(Mode::Text),
-            Switch::Progress => self.progress = true,
-            Switch::Help => return Err(Stop::Help),
-            Switch::Version => return Err(Stop::Version),
-            Switch::Algorithm | Switch::FilesFrom => {}
+            Flag::Zero => self.ending = Ending::Zero,
+            Flag::Binary => self.mode = Some(Mode::Binary),
+            Flag::Text => self.mode = Some(Mode::Text),
+            Flag::Progress => self.progress = true,
+            Flag::Help => return Err(Stop::Help),
+            Flag::Version => return Err(Stop::Version),
         }
         Ok(())
     }
 
     // Takes an option with its value.
-    fn set_value(&mut self, alloc: Global, switch: Switch, value: &[u8]) -> Result<(), Stop> {
-        match switch {
-            Switch::Algorithm => match find_variant(value) {
+    fn set_parameter(
+        &mut self,
+        alloc: Global,
+        parameter: Parameter,
+        value: &[u8],
+    ) -> Result<(), Stop> {
+        match parameter {
+            Parameter::Algorithm => match find_variant(value) {
                 Some(variant) => self.variant = Some(variant),
                 None => {
                     let name = Vec::from_slice(alloc, value)?;
                     return Err(Stop::Misuse(Misuse::UnknownVariant(name)));
                 }
             },
-            Switch::FilesFrom => self.files_from = Some(Vec::from_slice(alloc, value)?),
-            _ => self.set(switch)?,
+            Parameter::FilesFrom => self.files_from = Some(Vec::from_slice(alloc, value)?),
         }
         Ok(())
     }
@@ -474,14 +362,38 @@ impl Settings {
     }
 
     // An option that only `--check` has a use for.
-    fn needs_check(&self) -> Option<Switch> {
+    fn needs_check(&self) -> Option<Flag> {
+        if self.ignore_missing {
+            return Some(Flag::IgnoreMissing);
+        }
         match self.telling {
-            _ if self.ignore_missing => Some(Switch::IgnoreMissing),
-            Telling::Status => Some(Switch::Status),
-            Telling::Warn => Some(Switch::Warn),
-            Telling::Quiet => Some(Switch::Quiet),
-            Telling::Usual if self.strict => Some(Switch::Strict),
+            Telling::Status => Some(Flag::Status),
+            Telling::Warn => Some(Flag::Warn),
+            Telling::Quiet => Some(Flag::Quiet),
+            Telling::Usual if self.strict => Some(Flag::Strict),
             Telling::Usual => None,
+        }
+    }
+
+    // How lists are checked.
+    fn options(&self) -> Options
+        ensures { AreExclusive result }
+    {
+        Options {
+            ignore_missing: self.ignore_missing,
+            quiet: self.telling == Telling::Quiet,
+            status: self.telling == Telling::Status,
+            strict: self.strict,
+            warn: self.telling == Telling::Warn,
+        }
+    }
+
+    // How a line is written.
+    fn form(&self) -> Form {
+        match self.mode {
+            _ if self.tag => Form::Tagged,
+            Some(Mode::Binary) => Form::Binary,
+            Some(Mode::Text) | None => Form::Text,
         }
     }
 
@@ -492,37 +404,23 @@ impl Settings {
         if let Some(misuse) = self.conflict() {
             return Err(Stop::Misuse(misuse));
         }
-        let options = Options {
-            ignore_missing: self.ignore_missing,
-            quiet: self.telling == Telling::Quiet,
-            status: self.telling == Telling::Status,
-            strict: self.strict,
-            warn: self.telling == Telling::Warn,
-        };
-        let form = match self.mode {
-            _ if self.tag => Form::Tagged,
-            Some(Mode::Binary) => Form::Binary,
-            Some(Mode::Text) | None => Form::Text,
-        };
-        let only = self.variant;
-        let progress = self.progress;
-        let ending = self.ending;
-        let check = self.check;
+        let options = self.options();
+        let form = self.form();
         let names = choose_names(alloc, self.files_from, self.operands)?;
-        if check {
+        if self.check {
             Ok(Request::Check {
-                only,
+                only: self.variant,
                 options,
                 names,
-                progress,
+                progress: self.progress,
             })
         } else {
             Ok(Request::Print {
-                variant: only.unwrap_or(Variant::R160),
+                variant: self.variant.unwrap_or(Variant::R160),
                 form,
-                ending,
+                ending: self.ending,
                 names,
-                progress,
+                progress: self.progress,
             })
         }
     }
@@ -557,140 +455,4 @@ fn standard_input(alloc: Global) -> Result<Vec<Vec<u8>>, AllocError>
 {
     let name = Vec::from_slice(alloc, b"-")?;
     Ok(vec![in alloc; name]?)
-}
-
-impl Switch {
-    // Whether it takes a value.
-    fn takes_value(self) -> bool {
-        matches!(self, Switch::Algorithm | Switch::FilesFrom)
-    }
-
-    // Its long name.
-    fn long_name(self) -> &'static str {
-        match self {
-            Switch::Check => "check",
-            Switch::IgnoreMissing => "ignore-missing",
-            Switch::Quiet => "quiet",
-            Switch::Status => "status",
-            Switch::Warn => "warn",
-            Switch::Strict => "strict",
-            Switch::Tag => "tag",
-            Switch::Zero => "zero",
-            Switch::Binary => "binary",
-            Switch::Text => "text",
-            Switch::Algorithm => "algorithm",
-            Switch::FilesFrom => "files0-from",
-            Switch::Progress => "progress",
-            Switch::Help => "help",
-            Switch::Version => "version",
-        }
-    }
-}
-
-impl Misuse {
-    /// What the program says of it, behind its own name and a colon, without the last newline.
-    pub fn text(&self, alloc: Global) -> Result<Vec<u8>, AllocError> {
-        let mut text = Vec::new(alloc);
-        self.push_text(&mut text)?;
-        Ok(text)
-    }
-
-    // Adds what the program says of it.
-    fn push_text(&self, text: &mut Vec<u8>) -> Result<(), AllocError> {
-        match self {
-            Misuse::UnknownLong(option) => {
-                push_parts(text, &[b"unrecognized option '--", option.as_slice(), b"'"])
-            }
-            Misuse::Ambiguous(option) => push_ambiguous(text, option.as_slice()),
-            Misuse::UnwantedValue(switch) => push_parts(
-                text,
-                &[
-                    b"option '--",
-                    switch.long_name().as_bytes(),
-                    b"' doesn't allow an argument",
-                ],
-            ),
-            Misuse::MissingValue(switch) => push_parts(
-                text,
-                &[
-                    b"option '--",
-                    switch.long_name().as_bytes(),
-                    b"' requires an argument",
-                ],
-            ),
-            Misuse::UnknownShort(letter) => {
-                push_parts(text, &[b"invalid option -- '", &[*letter], b"'"])
-            }
-            Misuse::MissingShortValue(letter) => {
-                push_parts(
-                    text,
-                    &[b"option requires an argument -- '", &[*letter], b"'"],
-                )
-            }
-            Misuse::UnknownVariant(name) => push_unknown_variant(text, name.as_slice()),
-            Misuse::TextWithTag => push_parts(text, &[b"--tag does not support --text mode"]),
-            Misuse::ZeroWithCheck => push_parts(
-                text,
-                &[b"the --zero option is not supported when verifying checksums"],
-            ),
-            Misuse::TagWithCheck => push_parts(
-                text,
-                &[b"the --tag option is meaningless when verifying checksums"],
-            ),
-            Misuse::ModeWithCheck => push_parts(
-                text,
-                &[b"the --binary and --text options are meaningless when verifying checksums"],
-            ),
-            Misuse::OnlyWithCheck(switch) => push_parts(
-                text,
-                &[
-                    b"the --",
-                    switch.long_name().as_bytes(),
-                    b" option is meaningful only when verifying checksums",
-                ],
-            ),
-            Misuse::ExtraOperand(operand) => {
-                push_parts(text, &[b"extra operand "])?;
-                quoteaf(text, operand.as_slice())?;
-                push_parts(
-                    text,
-                    &[b"\nfile operands cannot be combined with --files0-from"],
-                )
-            }
-        }
-    }
-}
-
-// Adds these texts.
-fn push_parts(text: &mut Vec<u8>, parts: &[&[u8]]) -> Result<(), AllocError> {
-    for part in parts {
-        text.extend_from_slice(part)?;
-    }
-    Ok(())
-}
-
-// Adds that a long option stands for several, and for which.
-fn push_ambiguous(text: &mut Vec<u8>, option: &[u8]) -> Result<(), AllocError> {
-    push_parts(
-        text,
-        &[b"option '--", option, b"' is ambiguous; possibilities:"],
-    )?;
-    let (name, _) = around_equals(option);
-    for switch in SWITCHES {
-        let long = switch.long_name().as_bytes();
-        if long.starts_with(name) {
-            push_parts(text, &[b" '--", long, b"'"])?;
-        }
-    }
-    Ok(())
-}
-
-// Adds that no hash has this name, and which names there are.
-fn push_unknown_variant(text: &mut Vec<u8>, name: &[u8]) -> Result<(), AllocError> {
-    push_parts(text, &[b"invalid argument "])?;
-    quote(text, name)?;
-    push_parts(
-        text,
-        &[b" for '--algorithm'\nValid arguments are:\n  - '128'\n  - '160'\n  - '256'\n  - '320'"],
-    )
 }

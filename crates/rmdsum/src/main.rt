@@ -4,6 +4,8 @@
 
 mod arguments;
 mod quoting;
+mod refusals;
+mod switches;
 
 use arguments::Misuse;
 use std::alloc::{AllocError, Global};
