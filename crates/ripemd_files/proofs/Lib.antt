@@ -10,3 +10,4 @@ pub mod Outcomes
 pub mod Printed
 pub mod Checked
 pub mod Cutting
+pub mod Listed

@@ -20,3 +20,7 @@ pub mod Splitting
 pub mod WorkedLists
 -- In which layout lines stand.
 pub mod Layouts
+-- What a check of a list says.
+pub mod Lists
+-- How the code reads a list.
+pub mod Groups

@@ -9,6 +9,7 @@ pub mod fault;
 pub mod folder;
 pub mod layout;
 pub mod line;
+pub mod list;
 pub mod list_facts;
 pub mod log;
 pub mod outcome;
