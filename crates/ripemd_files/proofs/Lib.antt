@@ -11,3 +11,4 @@ pub mod Printed
 pub mod Checked
 pub mod Cutting
 pub mod Listed
+pub mod Grouped

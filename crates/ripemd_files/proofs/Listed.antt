@@ -57,15 +57,15 @@ module _ {File : Type 0} (place : Place File) (ignore_missing : Bool) (kinds : R
     (next : after.layout ≡ layout_after kinds before.layout text) (step : after.number ≡ before.number + 1) where
   -- the report goes on with these events
   goes_on : (own : List Event) → AreEventsOn place ignore_missing kinds after.layout before.number text own
-      → (rest : List (List ℕ)) (more : List Event) → ReportsFrom place ignore_missing kinds after rest more
-      → ReportsFrom place ignore_missing kinds before (text ∷ rest) (own ++ more)
-  goes_on own are rest more report = (
+      → (rest : List (List ℕ)) (more : List Event) (last : Option Layout) → ReportsFrom place ignore_missing kinds after rest more last
+      → ReportsFrom place ignore_missing kinds before (text ∷ rest) (own ++ more) last
+  goes_on own are rest more last report = (
     own,
     more,
     refl,
     subst (λ l. AreEventsOn place ignore_missing kinds l before.number text own) next are,
-    subst (λ l. Reports place ignore_missing kinds l (before.number + 1) rest more) next
-    (subst (λ n. Reports place ignore_missing kinds after.layout n rest more) step report),
+    subst (λ l. Reports place ignore_missing kinds l (before.number + 1) rest more last) next
+    (subst (λ n. Reports place ignore_missing kinds after.layout n rest more last) step report),
   )
 
   pub takes_nothing : IsTrue (is_passed_over text) → (lines : List Line) → Takes place ignore_missing kinds before after text lines lines None

@@ -31,8 +31,9 @@ misformatted_events None = []
 misformatted_events (Some number) = misformatted number ∷ []
 
 -- what comes of the lines from a place of a list on
-abbrev pub ReportsFrom : {File : Type 0} → Place File → Bool → Rules → Cursor → List (List ℕ) → List Event → Type 0
-ReportsFrom place ignore_missing rules cursor lines events = Reports place ignore_missing rules cursor.layout cursor.number lines events
+abbrev pub ReportsFrom : {File : Type 0} → Place File → Bool → Rules → Cursor → List (List ℕ) → List Event → Option Layout → Type 0
+ReportsFrom place ignore_missing rules cursor lines events last =
+    Reports place ignore_missing rules cursor.layout cursor.number lines events last
 
 -- A line was taken from a list: it may have been added to some lines, whose files are not read yet. Whatever comes of these
 -- files, the report goes on with what comes of this one.
@@ -40,8 +41,8 @@ abbrev pub Takes : {File : Type 0} → Place File → Bool → Rules → (before
 Takes place ignore_missing rules before after text old new bad =
     (events : List Event) → AllZip (IsEventOf place ignore_missing) new events
     → (earlier : List Event) × (own : List Event) × (events ≡ earlier ++ own) × AllZip (IsEventOf place ignore_missing) old earlier
-    × ((rest : List (List ℕ)) (more : List Event) → ReportsFrom place ignore_missing rules after rest more
-    → ReportsFrom place ignore_missing rules before (text ∷ rest) (own ++ (misformatted_events bad ++ more)))
+    × ((rest : List (List ℕ)) (more : List Event) (last : Option Layout) → ReportsFrom place ignore_missing rules after rest more last
+    → ReportsFrom place ignore_missing rules before (text ∷ rest) (own ++ (misformatted_events bad ++ more)) last)
 
 -- the same of all lines of these bytes, which were read from the list
 pub record ReadsLines {File : Type 0} (place : Place File) (ignore_missing : Bool) (rules : Rules) (old new : Option (List ℕ))
@@ -49,8 +50,8 @@ pub record ReadsLines {File : Type 0} (place : Place File) (ignore_missing : Boo
   pub bytes : List ℕ
   pub consumed : Consumes old new (bytes ++ rest)
   pub told : (events : List Event) → AllZip (IsEventOf place ignore_missing) lines events → (behind : List ℕ) (more : List Event)
-      → (IsFalse goes_on → behind ≡ []) → ReportsFrom place ignore_missing rules after (lines_of behind) more
-      → ReportsFrom place ignore_missing rules before (lines_of (bytes ++ behind)) (events ++ (bad ++ more))
+      (last : Option Layout) → (IsFalse goes_on → behind ≡ []) → ReportsFrom place ignore_missing rules after (lines_of behind) more last
+      → ReportsFrom place ignore_missing rules before (lines_of (bytes ++ behind)) (events ++ (bad ++ more)) last
 
 abbrev pub goes_on : Next → Bool
 goes_on More = true

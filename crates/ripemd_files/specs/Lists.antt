@@ -70,13 +70,13 @@ AreEventsOn place ignore_missing rules layout number text events =
     MatchBool (is_passed_over text) (events ≡ [])
     ((event : Event) × (events ≡ event ∷ []) × IsEventOn place ignore_missing rules layout number text event)
 
--- what comes of the lines from one of this number on, before which the list had this layout
-abbrev pub Reports : {File : Type 0} → Place File → Bool → Rules → Option Layout → ℕ → List (List ℕ) → List Event → Type 0
-Reports place ignore_missing rules layout number [] events = events ≡ []
-Reports place ignore_missing rules layout number (text ∷ rest) events =
+-- what comes of the lines from one of this number on, and the layout of the list before and behind them
+abbrev pub Reports : {File : Type 0} → Place File → Bool → Rules → Option Layout → ℕ → List (List ℕ) → List Event → Option Layout → Type 0
+Reports place ignore_missing rules layout number [] events last = (events ≡ []) × (last ≡ layout)
+Reports place ignore_missing rules layout number (text ∷ rest) events last =
     (first : List Event) × (others : List Event) × (events ≡ first ++ others)
     × AreEventsOn place ignore_missing rules (layout_after rules layout text) number text first
-    × Reports place ignore_missing rules (layout_after rules layout text) (number + 1) rest others
+    × Reports place ignore_missing rules (layout_after rules layout text) (number + 1) rest others last
 
 -- ---- checks
 
@@ -91,14 +91,14 @@ last_remarks whole options tally = if whole then closing_remarks options tally e
 
 -- A list was read and checked: what came of each of its lines was written and remarked, and then what was counted.
 -- It succeeds if all of it was read, and its counts say so.
-pub record ChecksList {File : Type 0} (place : Place File) (options : Options) (rules : Rules) (old new : Option (List ℕ))
-    (written now : Option (List ℕ)) (before after : Option (List Remark)) (success : Bool) : Type 0 where
+pub record ChecksList {File : Type 0} (place : Place File) (options : Options) (rules : Rules) (first last : Option Layout)
+    (old new : Option (List ℕ)) (written now : Option (List ℕ)) (before after : Option (List Remark)) (success : Bool) : Type 0 where
   pub whole : Bool
   pub bytes : List ℕ
   pub events : List Event
   pub tally : Tally
   pub read : WasRead whole old new bytes
-  pub reports : Reports place options.ignore_missing rules None 1 (lines_of bytes) events
+  pub reports : Reports place options.ignore_missing rules first 1 (lines_of bytes) events last
   pub counts : IsTally events tally
   pub wrote : Wrote written now before after (flat_map (line_of_event options) events)
       (flat_map (remarks_on_event options) events ++ last_remarks whole options tally)

@@ -1,6 +1,6 @@
 //! Lists of lines, as a check reads them.
 
-ghost use Rattle.std.specs.Prelude.{◌≡◌, ◌≢◌, ◌↔◌, ◌+◌, ◌≤◌, ◌++◌, ◌∷◌, [], codes, length, IfOk, IsTrue, OnOk};
+ghost use Rattle.std.specs.Prelude.{◌≡◌, ◌≢◌, ◌↔◌, ◌+◌, ◌<◌, ◌^◌, ◌++◌, ◌∷◌, [], codes, IfOk, IsTrue, OnOk};
 ghost use Rattle.ripemd_files.specs.Lists.{IsTaken, IsWanted, body_of_line, is_passed_over, layout_after};
 ghost use Rattle.ripemd_files.specs.Groups.{IsEntry, ReadsGroup, Takes};
 
@@ -150,7 +150,7 @@ fn take_line<F: Folder>(
 ) -> Result<Option<u64>, Fault>
     ensures takes { IfOk result (Takes (F.place _folder.now) ignore_missing rules cursor.old cursor.new text.now lines.old.items lines.new.items) }
     ensures advances { OnOk result (cursor.new.number ≡ cursor.old.number + 1) }
-    ensures more { OnOk result (length lines.new.items ≤ length lines.old.items + 1) }
+    ensures bound { OnOk result (cursor.new.number < 2 ^ 64) }
 {
     let number = cursor.number;
     if number == u64::MAX {
@@ -177,4 +177,80 @@ fn push_line(lines: &mut Vec<Line>, line: Line) -> Result<(), AllocError>
 {
     lines.push(line)?;
     Ok(())
+}
+
+// Reads some lines of a list, up to the next one that says nothing that can be read.
+pub(crate) fn read_group<F: Folder, R: BufRead>(
+    alloc: Global,
+    folder: &F,
+    ignore_missing: bool,
+    rules: Rules,
+    cursor: &mut Cursor,
+    reader: &mut R,
+) -> Result<Group, Fault>
+    ensures { IfOk result (ReadsGroup (F.place folder.now) ignore_missing rules (R.remaining reader.old) (R.remaining reader.new)
+        cursor.old cursor.new) }
+{
+    let mut lines = Vec::with_capacity(alloc, GROUP)?;
+    let mut text = Vec::new(alloc);
+    'lines: while lines.len() < GROUP {
+        match read_piece(reader, &mut text)? {
+            Piece::Nothing => {
+                return Ok(Group {
+                    lines,
+                    misformatted: None,
+                    next: Next::Ended,
+                });
+            }
+            Piece::Failed => {
+                return Ok(Group {
+                    lines,
+                    misformatted: None,
+                    next: Next::Failed,
+                });
+            }
+            Piece::Last => {
+                let misformatted = take_line(
+                    alloc,
+                    folder,
+                    ignore_missing,
+                    rules,
+                    cursor,
+                    text.as_slice(),
+                    &mut lines,
+                )?;
+                return Ok(Group {
+                    lines,
+                    misformatted,
+                    next: Next::Ended,
+                });
+            }
+            Piece::Line => {
+                let misformatted = take_line(
+                    alloc,
+                    folder,
+                    ignore_missing,
+                    rules,
+                    cursor,
+                    text.as_slice(),
+                    &mut lines,
+                )?;
+                match misformatted {
+                    Some(number) => {
+                        return Ok(Group {
+                            lines,
+                            misformatted: Some(number),
+                            next: Next::More,
+                        });
+                    }
+                    None => {}
+                }
+            }
+        }
+    }
+    Ok(Group {
+        lines,
+        misformatted: None,
+        next: Next::More,
+    })
 }
