@@ -175,7 +175,8 @@ def fixture_rooms(tmp_path, rmdsum):
 def fixture_stocked(rooms):
     """Rooms with some files, and a list of each kind."""
     for name, length in [("a", 0), ("b", 3), ("c", 64), ("two words", 200), ("back\\slash", 5), ("new\nline", 6),
-                         ("return\r", 7), ("-dash", 8), ("*star", 9), (" blank", 10), ("é", 11), ("it's", 12)]:
+                         ("return\r", 7), ("-dash", 8), ("*star", 9), (" blank", 10), ("é", 11), ("it's", 12),
+                         ("44", 13), (" ", 14)]:
         rooms.file(name, length)
     rooms.folder("folder")
 
@@ -207,8 +208,10 @@ PIECES = [b"a", b"b", b"name", b".txt", b" ", b"  ", b"\\", b"\\n", b"\n", b"\r"
           b") = ", b"=", b"'", b'"', b"$", b"#", b"~", b":", b"\t", "é".encode(), "漢字".encode(), "😀".encode(),
           b"\xff", b"\xc3", b"\x7f", b"\x1b", b"{", b"}", b"%", b"SHA", b"RMD", b"0123", b"!"]
 
-# coreutils 9.1 misplaces the quotes of a name that has an apostrophe and ends with an escaped byte.
-MISQUOTED = re.compile(rb"'.*(?:[\x01-\x1f\x7f\xff\xc3])$", re.DOTALL)
+# In the messages of coreutils 9.1 a name that has an apostrophe and ends with an escaped byte has some quotes too
+# many or too few, so that a shell reads another name. Such names are left out, and lines that may have one.
+MISQUOTED = re.compile(rb"'.*[\x01-\x1f\x7f\xff\xc3]$", re.DOTALL)
+MAY_BE_MISQUOTED = re.compile(rb"(?=.*').*([^ -~]|\\[nr])", re.DOTALL)
 
 
 def draw_name(rng):
@@ -286,6 +289,11 @@ def draw_digest(rng, length):
 
 def draw_line(rng, files, usual):
     """A line of a list, as a function of the hash."""
+    line = draw_any_line(rng, files, usual)
+    return constant(b"no line") if MAY_BE_MISQUOTED.search(line(SHA256)) else line
+
+
+def draw_any_line(rng, files, usual):
     name, length = rng.choice(files)
     digest = draw_digest(rng, length)
     mark, spelled = draw_spelling(rng, name)
@@ -838,6 +846,13 @@ A, B = untagged(b"a", 0), untagged(b"b", 3)
     listed(tagged(b"a", 0), untagged(b"b", 3, b" ")),
     listed(untagged(b"a", 0, b" "), tagged(b"b", 3)),
     listed(untagged(b"two words", 200, b" ")),
+    listed(untagged(b"44", 13, b" "), untagged(b"44", 13, b"  ")),
+    listed(untagged(b"44", 13, b"  "), untagged(b"44", 13, b" ")),
+    listed(untagged(b" ", 14, b" "), untagged(b" ", 14, b"  ")),
+    listed(untagged(b" ", 14, b"  "), untagged(b" ", 14, b" ")),
+    listed(A, untagged(b"", 0, b"  ")),
+    listed(A, untagged(b"", 0, b" *")),
+    listed(untagged(b"", 0, b" *"), A),
     listed(untagged(b" blank", 10, b" ")),
     listed(untagged(b"a", 0, b" "), untagged(b" blank", 10, b" ")),
     listed(untagged(b"*star", 9, b" ")),
