@@ -29,7 +29,7 @@ module _ {File : Type 0} (place : Place File) (ignore_missing : Bool) (kinds : R
     bytes = [];
     consumed = Consumes-nil old;
     told = λ events zipped behind more last on report.
-      subst (λ e. ReportsFrom place ignore_missing kinds cursor (lines_of behind) (e ++ more) last) (sym (no_events (IsEventOf place ignore_missing) events zipped)) report;
+        subst (λ e. ReportsFrom place ignore_missing kinds cursor (lines_of behind) (e ++ more) last) (sym (no_events (IsEventOf place ignore_missing) events zipped)) report;
   }
 
   module _ (old now next : Option (List ℕ)) (before cursor : Cursor) (lines : List Line)
@@ -73,9 +73,9 @@ module _ {File : Type 0} (place : Place File) (ignore_missing : Bool) (kinds : R
         bytes = so_far.bytes ++ (text ++ 10 ∷ []);
         consumed = rw append-nil (consumed_more old now next so_far.bytes (text ++ 10 ∷ []) taken piece.0);
         told = λ events zipped behind more last going report.
-          subst (λ b. ReportsFrom place ignore_missing kinds before (lines_of b) (events ++ (misformatted_events bad ++ more)) last)
-          (sym (append_assoc so_far.bytes (text ++ 10 ∷ []) behind ∙ ap (λ t. so_far.bytes ++ t) (append_assoc text (10 ∷ []) behind)))
-          (on events zipped (text ++ 10 ∷ behind) (lines_of behind) more last (lines_first text behind piece.1) report);
+            subst (λ b. ReportsFrom place ignore_missing kinds before (lines_of b) (events ++ (misformatted_events bad ++ more)) last)
+            (sym (append_assoc so_far.bytes (text ++ 10 ∷ []) behind ∙ ap (λ t. so_far.bytes ++ t) (append_assoc text (10 ∷ []) behind)))
+            (on events zipped (text ++ 10 ∷ behind) (lines_of behind) more last (lines_first text behind piece.1) report);
       }
 
       -- the last line, which ends with the list
@@ -86,9 +86,9 @@ module _ {File : Type 0} (place : Place File) (ignore_missing : Bool) (kinds : R
         bytes = so_far.bytes ++ text;
         consumed = rw append-nil (consumed_more old now next so_far.bytes text taken some);
         told = λ events zipped behind more last going report.
-          subst (λ b. ReportsFrom place ignore_missing kinds before (lines_of ((so_far.bytes ++ text) ++ b)) (events ++ (misformatted_events bad ++ more)) last)
-          (sym (going (search rules)))
-          (rw append-nil
-          (on events zipped text [] more last (lines_last text one filled)
-          (subst (λ b. ReportsFrom place ignore_missing kinds after (lines_of b) more last) (going (search rules)) report)));
+            subst (λ b. ReportsFrom place ignore_missing kinds before (lines_of ((so_far.bytes ++ text) ++ b)) (events ++ (misformatted_events bad ++ more)) last)
+            (sym (going (search rules)))
+            (rw append-nil
+            (on events zipped text [] more last (lines_last text one filled)
+            (subst (λ b. ReportsFrom place ignore_missing kinds after (lines_of b) more last) (going (search rules)) report)));
       }

@@ -65,30 +65,42 @@ module _ {File : Type 0} (place : Place File) (ignore_missing : Bool) (kinds : R
     refl,
     subst (λ l. AreEventsOn place ignore_missing kinds l before.number text own) next are,
     subst (λ l. Reports place ignore_missing kinds l (before.number + 1) rest more last) next
-    (subst (λ n. Reports place ignore_missing kinds after.layout n rest more last) step report),
+        (subst (λ n. Reports place ignore_missing kinds after.layout n rest more last) step report),
   )
 
   pub takes_nothing : IsTrue (is_passed_over text) → (lines : List Line) → Takes place ignore_missing kinds before after text lines lines None
   takes_nothing passed lines = λ events zipped. (
-    events, [], sym (append-nil events), zipped, goes_on [] (match_true _ _ (is_passed_over text) passed refl),
+    events,
+    [],
+    sym (append-nil events),
+    zipped,
+    goes_on [] (match_true _ _ (is_passed_over text) passed refl),
   )
 
   pub takes_misformatted : IsEntry kinds after.layout text Misformatted → (lines : List Line)
       → Takes place ignore_missing kinds before after text lines lines (Some before.number)
   takes_misformatted entry lines = λ events zipped. (
-    events, [], sym (append-nil events), zipped,
+    events,
+    [],
+    sym (append-nil events),
+    zipped,
     goes_on (misformatted before.number ∷ [])
-    (match_false _ _ (is_passed_over text) entry.0 (misformatted before.number, refl, (refl, entry.1))),
+        (match_false _ _ (is_passed_over text) entry.0 (misformatted before.number, refl, (refl, entry.1))),
   )
 
   pub takes_said : (line : Line) → IsEntry kinds after.layout text (Said line) → (lines : List Line)
       → Takes place ignore_missing kinds before after text lines (lines ++ line ∷ []) None
   takes_said line entry lines = λ events zipped.
-      let (earlier, event, same, first, both) = all_zip_last (IsEventOf place ignore_missing) lines line events zipped in
-      (
-        earlier, event ∷ [], same, first,
+      let (earlier, event, same, first, both) = all_zip_last (IsEventOf place ignore_missing) lines line events zipped in (
+        earlier,
+        event ∷ [],
+        same,
+        first,
         goes_on (event ∷ [])
-        (match_false _ _ (is_passed_over text) entry.0 (event, refl,
-        subst (IsEventOn place ignore_missing kinds after.layout before.number text) (sym both.2)
-        (line.variant, line.digest.items, both.0, entry.1, both.1, refl))),
+            (match_false _ _ (is_passed_over text) entry.0 (
+              event,
+              refl,
+              subst (IsEventOn place ignore_missing kinds after.layout before.number text) (sym both.2)
+                  (line.variant, line.digest.items, both.0, entry.1, both.1, refl),
+            )),
       )

@@ -11,6 +11,7 @@ use Rattle.ripemd_files.specs.declared.line.Line.{Line}
 use Rattle.ripemd_files.specs.declared.line.Ending.TheVariants.{Newline}
 use Rattle.ripemd_files.specs.declared.outcome.Outcome.{Outcome}
 use Rattle.ripemd_files.specs.declared.outcome.Outcome.TheVariants.{Digest, Refused, Broken}
+use Rattle.ripemd_files.specs.declared.log.Complaint.{Complaint}
 use Rattle.ripemd_files.specs.declared.log.Complaint.TheVariants as complaints
 use Rattle.ripemd_files.specs.declared.verdict.Verdict.{Verdict}
 use Rattle.ripemd_files.specs.declared.verdict.Verdict.TheVariants.{Matches, Differs, Missing, Unreadable}
@@ -106,19 +107,23 @@ pub record IsTally (events : List Event) (tally : Tally) : Type 0 where
   pub matched : tally.matched ≡ list_any (has_verdict is_match) events
   pub checked : tally.checked ≡ list_any (has_verdict (λ verdict. true)) events
 
--- a complaint of a number, unless it is 0
-abbrev pub if_any : ℕ → Remark → List Remark
-if_any count remark = if count == 0 then [] else remark ∷ []
+abbrev pub remark_where : Bool → Complaint → List Remark
+remark_where wrong complaint = if wrong then about_list complaint ∷ [] else []
+
+-- what is remarked of the counts that are not 0, and where no file was verified
+abbrev pub count_remarks : Options → Tally → List Remark
+count_remarks options tally =
+    remark_where (not (tally.misformatted == 0)) (complaints.MisformattedLines tally.misformatted)
+    ++ (remark_where (not (tally.unreadable == 0)) (complaints.UnreadableFiles tally.unreadable)
+    ++ (remark_where (not (tally.differing == 0)) (complaints.Mismatches tally.differing)
+    ++ remark_where (options.ignore_missing && not tally.matched) complaints.NothingVerified))
 
 -- what is remarked at the end of a list
 abbrev pub closing_remarks : Options → Tally → List Remark
 closing_remarks options tally =
     if not tally.checked then about_list complaints.NoLines ∷ []
     else if options.status then []
-    else if_any tally.misformatted (about_list (complaints.MisformattedLines tally.misformatted))
-    ++ (if_any tally.unreadable (about_list (complaints.UnreadableFiles tally.unreadable))
-    ++ (if_any tally.differing (about_list (complaints.Mismatches tally.differing))
-    ++ (if options.ignore_missing && not tally.matched then about_list complaints.NothingVerified ∷ [] else [])))
+    else count_remarks options tally
 
 -- whether the check succeeds
 abbrev pub is_success : Options → Tally → Bool

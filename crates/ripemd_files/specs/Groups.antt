@@ -1,5 +1,5 @@
 -- How the code reads a list: some lines at once.
-use Rattle.std.specs.Prelude.{◌≡◌, ◌≢◌, ◌<◌, ◌*◌, ℕ, List, [], ◌∷◌, ◌++◌, Option, Some, None, Bool, true, false, IsTrue, IsFalse}
+use Rattle.std.specs.Prelude.{◌≡◌, ◌≢◌, ◌<◌, ◌*◌, ℕ, List, [], ◌∷◌, ◌++◌, flat_map, Option, Some, None, Bool, true, false, IsTrue, IsFalse}
 use Rattle.std.specs.List.{AllZip}
 use Rattle.std.specs.Io.KnownBytes.{Consumes}
 use Rattle.ripemd_files.specs.declared.line.Line.{Line}
@@ -14,7 +14,10 @@ use Rattle.ripemd_files.specs.declared.list.Next.TheVariants.{More, Ended, Faile
 use Rattle.ripemd_files.specs.declared.line.Variant.{Variant}
 use Rattle.ripemd_files.specs.Splitting.{lines_of, IsEnded}
 use Rattle.ripemd_files.specs.Readings.{Place}
-use Rattle.ripemd_files.specs.Checking.{Event, IsEventOf, misformatted}
+use Rattle.ripemd_files.specs.declared.verdict.Options.{Options}
+use Rattle.ripemd_files.specs.declared.verdict.Tally.{Tally}
+use Rattle.ripemd_files.specs.Said.{Remark, Wrote}
+use Rattle.ripemd_files.specs.Checking.{Event, IsEventOf, IsTally, line_of_event, misformatted, remarks_on_event}
 use Rattle.ripemd_files.specs.Lists.{IsTaken, Reports, is_passed_over}
 
 -- what a line says, by the layout of its list
@@ -72,3 +75,32 @@ pub record ReadsGroup {File : Type 0} (place : Place File) (ignore_missing : Boo
       (goes_on group.next) rest
   pub ended : EndsAs group.next old new rest
   pub advanced : IsTrue (goes_on group.next) → before.number < after.number
+
+-- what comes of a group of lines was written and counted
+pub record ChecksGroup {File : Type 0} (place : Place File) (options : Options) (group : Group) (old new : Option (List ℕ))
+    (before after : Option (List Remark)) (tally next : Tally) : Type 0 where
+  pub events : List Event
+  pub each : AllZip (IsEventOf place options.ignore_missing) group.lines.items events
+  pub wrote : Wrote old new before after
+      (flat_map (line_of_event options) (events ++ misformatted_events group.misformatted))
+      (flat_map (remarks_on_event options) (events ++ misformatted_events group.misformatted))
+  pub counts : (earlier : List Event) → IsTally earlier tally → IsTally (earlier ++ (events ++ misformatted_events group.misformatted)) next
+
+-- the same of a line that says nothing that can be read, if there is one
+pub record ChecksMisformatted (options : Options) (bad : Option ℕ) (old new : Option (List ℕ)) (before after : Option (List Remark))
+    (tally next : Tally) : Type 0 where
+  pub wrote : Wrote old new before after (flat_map (line_of_event options) (misformatted_events bad))
+      (flat_map (remarks_on_event options) (misformatted_events bad))
+  pub counts : (earlier : List Event) → IsTally earlier tally → IsTally (earlier ++ misformatted_events bad) next
+
+-- the same of all lines of a list so far
+pub record ChecksSoFar {File : Type 0} (place : Place File) (options : Options) (rules : Rules) (first now : Cursor)
+    (old new : Option (List ℕ)) (written out : Option (List ℕ)) (before after : Option (List Remark)) (tally : Tally) : Type 0 where
+  pub bytes : List ℕ
+  pub events : List Event
+  pub consumed : Consumes old new bytes
+  pub counts : IsTally events tally
+  pub wrote : Wrote written out before after (flat_map (line_of_event options) events) (flat_map (remarks_on_event options) events)
+  pub told : (behind : List ℕ) (more : List Event) (last : Option Layout)
+      → ReportsFrom place options.ignore_missing rules now (lines_of behind) more last
+      → ReportsFrom place options.ignore_missing rules first (lines_of (bytes ++ behind)) (events ++ more) last

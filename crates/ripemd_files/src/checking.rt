@@ -7,19 +7,207 @@ ghost use Rattle.ripemd.specs.Standard.Hashing.{ripemd};
 ghost use Rattle.ripemd_batch.specs.Lanes.{targets};
 ghost use Rattle.ripemd_files.specs.Readings.{ComesTo, parameters_of};
 ghost use Rattle.ripemd_files.specs.Said.{Wrote};
-ghost use Rattle.ripemd_files.specs.Checking.{ChecksLines, IsOutcomeOf, checked, line_of_event, remarks_on_event, report_of, shown};
+ghost use Rattle.ripemd_files.specs.Lists.{ChecksList};
+ghost use Rattle.ripemd_files.specs.Groups.{ChecksGroup, ChecksMisformatted};
+ghost use Rattle.ripemd_files.specs.Checking.{ChecksLines, IsOutcomeOf, checked, closing_remarks, count_remarks, is_success, remark_where, line_of_event, remarks_on_event, report_of, shown};
 
 use crate::digests::{read_digest, read_digests};
 use crate::fault::Fault;
 use crate::folder::Folder;
-use crate::line::{Ending, Line, Variant};
-use crate::log::Log;
+use crate::line::{Ending, Layout, Line, Variant};
+use crate::list::{Cursor, Group, Next, Rules, read_group};
+use crate::log::{Complaint, Log};
 use crate::outcome::Outcome;
-use crate::printing::{put, remark_unreadable};
+use crate::printing::{BUFFER, new_buffer, put, remark, remark_unreadable};
 use crate::verdict::{Options, Tally, Verdict};
 use crate::writing::{needs_mark, push_text};
 use std::alloc::{AllocError, Global};
-use std::io::Write;
+use std::io::{BufRead, Write};
+
+/// Checks a list: reads it to its end, and the files that its lines name; writes a line for each of these, and
+/// remarks on those that can't be read, on lines that say nothing, and on what was counted. Whether the check
+/// succeeds.
+///
+/// `layout` is that of the lists so far, and is left as that of this one too.
+///
+/// # Errors
+///
+/// - `Write`: a write or a flush of the lines failed, with this error.
+/// - `NoMemory`: there is no memory left.
+/// - `TooManyLines`: the list has more than 2^64 - 2 lines.
+pub fn check_list<F: Folder, R: BufRead, W: Write, L: Log>(
+    alloc: Global,
+    folder: &F,
+    options: Options,
+    rules: Rules,
+    layout: &mut Option<Layout>,
+    reader: &mut R,
+    out: &mut W,
+    log: &mut L,
+) -> Result<bool, Fault>
+    ensures { IfOk result (ChecksList (F.place folder.now) options rules layout.old layout.new
+        (R.remaining reader.old) (R.remaining reader.new) (W.contents out.old) (W.contents out.new)
+        (L.said log.old) (L.said log.new)) }
+{
+    let mut buffer = new_buffer(alloc, BUFFER)?;
+    let mut cursor = Cursor {
+        layout: *layout,
+        number: 1,
+    };
+    let success = check_groups(
+        alloc,
+        folder,
+        options,
+        rules,
+        &mut cursor,
+        reader,
+        &mut buffer,
+        out,
+        log,
+    )?;
+    *layout = cursor.layout;
+    Ok(success)
+}
+
+// The same, group by group.
+fn check_groups<F: Folder, R: BufRead, W: Write, L: Log>(
+    alloc: Global,
+    folder: &F,
+    options: Options,
+    rules: Rules,
+    cursor: &mut Cursor,
+    reader: &mut R,
+    buffer: &mut [u8],
+    out: &mut W,
+    log: &mut L,
+) -> Result<bool, Fault>
+    requires room { 0 < length buffer.old }
+    requires start { cursor.old.number ≡ 1 }
+    ensures { IfOk result (ChecksList (F.place folder.now) options rules cursor.old.layout cursor.new.layout
+        (R.remaining reader.old) (R.remaining reader.new) (W.contents out.old) (W.contents out.new)
+        (L.said log.old) (L.said log.new)) }
+{
+    let mut tally = Tally::new();
+    'groups: loop {
+        let group = read_group(alloc, folder, options.ignore_missing, rules, cursor, reader)?;
+        check_group(alloc, folder, options, &group, buffer, &mut tally, out, log)?;
+        match group.next {
+            Next::More => {}
+            Next::Ended => {
+                let success = close(options, &tally, out, log)?;
+                return Ok(success);
+            }
+            Next::Failed => {
+                remark(out, log, Complaint::Unreadable)?;
+                return Ok(false);
+            }
+        }
+    }
+}
+
+// Reads the files of a group of lines, and writes and counts what was found.
+fn check_group<F: Folder, W: Write, L: Log>(
+    alloc: Global,
+    folder: &F,
+    options: Options,
+    group: &Group,
+    buffer: &mut [u8],
+    tally: &mut Tally,
+    out: &mut W,
+    log: &mut L,
+) -> Result<(), Fault>
+    requires room { 0 < length buffer.old }
+    ensures { OnOk result (ChecksGroup (F.place folder.now) options group.now (W.contents out.old) (W.contents out.new)
+        (L.said log.old) (L.said log.new) tally.old tally.new) }
+{
+    check_lines(
+        alloc,
+        folder,
+        options,
+        group.lines.as_slice(),
+        buffer,
+        tally,
+        out,
+        log,
+    )?;
+    check_misformatted(options, group.misformatted, tally, out, log)
+}
+
+// Counts a line that says nothing that can be read, if there is one, and remarks on it.
+fn check_misformatted<W: Write, L: Log>(
+    options: Options,
+    misformatted: Option<u64>,
+    tally: &mut Tally,
+    out: &mut W,
+    log: &mut L,
+) -> Result<(), Fault>
+    ensures { OnOk result (ChecksMisformatted options misformatted (W.contents out.old) (W.contents out.new)
+        (L.said log.old) (L.said log.new) tally.old tally.new) }
+{
+    let Some(number) = misformatted else {
+        return Ok(());
+    };
+    tally.add_misformatted();
+    if options.warn {
+        remark(out, log, Complaint::Misformatted(number))?;
+    }
+    Ok(())
+}
+
+// Remarks on what was counted of a list. Whether its check succeeds.
+fn close<W: Write, L: Log>(
+    options: Options,
+    tally: &Tally,
+    out: &mut W,
+    log: &mut L,
+) -> Result<bool, Fault>
+    ensures wrote { OnOk result (Wrote (W.contents out.old) (W.contents out.new) (L.said log.old) (L.said log.new) []
+        (closing_remarks options tally.now)) }
+    ensures success { IfOk result (λ success. success ≡ is_success options tally.now) }
+{
+    if !tally.checked {
+        remark(out, log, Complaint::NoLines)?;
+    } else if !options.status {
+        remark_counts(options, tally, out, log)?;
+    }
+    Ok(tally.is_success(options))
+}
+
+// Remarks on counts that are not 0, and on a list of which no file was verified.
+fn remark_counts<W: Write, L: Log>(
+    options: Options,
+    tally: &Tally,
+    out: &mut W,
+    log: &mut L,
+) -> Result<(), Fault>
+    ensures { OnOk result (Wrote (W.contents out.old) (W.contents out.new) (L.said log.old) (L.said log.new) []
+        (count_remarks options tally.now)) }
+{
+    let misformatted = Complaint::MisformattedLines(tally.misformatted);
+    remark_if(out, log, tally.misformatted != 0, misformatted)?;
+    let unreadable = Complaint::UnreadableFiles(tally.unreadable);
+    remark_if(out, log, tally.unreadable != 0, unreadable)?;
+    let differing = Complaint::Mismatches(tally.differing);
+    remark_if(out, log, tally.differing != 0, differing)?;
+    let nothing = options.ignore_missing && !tally.matched;
+    remark_if(out, log, nothing, Complaint::NothingVerified)
+}
+
+// Says what is wrong with a list, if it is.
+fn remark_if<W: Write, L: Log>(
+    out: &mut W,
+    log: &mut L,
+    wrong: bool,
+    complaint: Complaint,
+) -> Result<(), Fault>
+    ensures { OnOk result (Wrote (W.contents out.old) (W.contents out.new) (L.said log.old) (L.said log.new) []
+        (remark_where wrong complaint)) }
+{
+    if wrong {
+        remark(out, log, complaint)?;
+    }
+    Ok(())
+}
 
 // Reads the files of some lines, and writes and counts what was found.
 fn check_lines<F: Folder, W: Write, L: Log>(

@@ -6,14 +6,14 @@ ghost use Rattle.std.specs.List.{AllZip};
 ghost use Rattle.ripemd.specs.Standard.Hashing.{ripemd};
 ghost use Rattle.ripemd_batch.specs.Lanes.{targets};
 ghost use Rattle.ripemd_files.specs.Readings.{ComesTo, parameters_of};
-ghost use Rattle.ripemd_files.specs.Said.{Wrote, unreadable};
+ghost use Rattle.ripemd_files.specs.Said.{Wrote, about_list, unreadable};
 ghost use Rattle.ripemd_files.specs.Printing.{PrintsAll, line_for, remarks_on, was_read};
 
 use crate::digests::read_digests;
 use crate::fault::Fault;
 use crate::folder::Folder;
 use crate::line::{Ending, Form, Variant};
-use crate::log::Log;
+use crate::log::{Complaint, Log};
 use crate::outcome::Outcome;
 use crate::writing::write_line;
 use std::alloc::{AllocError, Global};
@@ -209,5 +209,19 @@ pub(crate) fn remark_unreadable<W: Write, L: Log>(
 {
     out.flush().map_err(Fault::Write)?;
     log.unreadable(name, error);
+    Ok(())
+}
+
+// Says what is wrong with a list, after what was written before is out.
+pub(crate) fn remark<W: Write, L: Log>(
+    out: &mut W,
+    log: &mut L,
+    complaint: Complaint,
+) -> Result<(), Fault>
+    ensures { OnOk result (Wrote (W.contents out.old) (W.contents out.new) (L.said log.old) (L.said log.new) []
+        (about_list complaint ∷ [])) }
+{
+    out.flush().map_err(Fault::Write)?;
+    log.complain(complaint);
     Ok(())
 }

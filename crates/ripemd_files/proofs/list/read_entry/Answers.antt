@@ -12,5 +12,5 @@ pub returns-else-counts : goal.returns-else-counts
 returns-else-counts c = (
   search rules,
   not_counted c.args.rules c.args.layout c.args.text.now _ _ _ c.unwrap_or-layout.ensures c.without_return.ensures c.in_ok-line.ensures.only
-  c.in-Some.line c.in-Some.is (λ both. absurd (search (rules, c.if-counts.ensures.1 both, c.if-counts.false))),
+      c.in-Some.line c.in-Some.is (λ both. absurd (search (rules, c.if-counts.ensures.1 both, c.if-counts.false))),
 )

@@ -5,7 +5,7 @@ use Rattle.ripemd_files.proofs.list.read_group.Given as goal
 abbrev pub invariant-lines : goal.invariant-lines
 invariant-lines g l = record {
   reads : ReadsLines (g.F.Folder.place l.folder) l.ignore_missing l.rules (g.R.Read.remaining l.initial.reader) (g.R.Read.remaining l.reader)
-    l.initial.cursor l.cursor l.lines.items [] true [];
+      l.initial.cursor l.cursor l.lines.items [] true [];
   advanced : 0 < length l.lines.items → l.initial.cursor.number < l.cursor.number;
   behind : l.initial.cursor.number ≤ l.cursor.number;
 }
