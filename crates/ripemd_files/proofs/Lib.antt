@@ -9,3 +9,4 @@ pub mod Zips
 pub mod Outcomes
 pub mod Printed
 pub mod Cutting
+pub mod Layouts
