@@ -13,6 +13,7 @@ ROOT = pathlib.Path(__file__).resolve().parent.parent
 DATA = ROOT / "tests/data"
 BUILT = ROOT / "crates/ripemd_c/out"
 PROGRAM = ROOT / "crates/ripemd_sum/out/x86-64/ripemd_sum"
+FILES_PROGRAM = ROOT / "crates/rmdsum/out/x86-64/rmdsum"
 SECRETS = ROOT / "tests/secrets"
 
 # The target for ARM64, and Debian's C compiler for it.
@@ -177,6 +178,13 @@ def program(once):
     """The program ripemd_sum, which build/crate makes as `make` does."""
     once("program", lambda _: run("build/crate", "ripemd_sum", "x86-64"))
     return PROGRAM
+
+
+@pytest.fixture(scope="session")
+def rmdsum(once):
+    """The program rmdsum, which build/crate makes as `make` does."""
+    once("rmdsum", lambda _: run("build/crate", "rmdsum", "x86-64"))
+    return FILES_PROGRAM
 
 
 @pytest.fixture(scope="session")

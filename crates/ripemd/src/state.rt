@@ -32,6 +32,7 @@ impl<F: ResumableFunction> SerializableState for BlockHasher<F> {
         BlockHasher::load_slice(saved.as_bytes())
     }
 
+    #[inline(always)]
     fn load_slice(bytes: &[u8]) -> Result<BlockHasher<F>, DeserializeStateError> {
         if bytes.len() != <F::SavedHasher as ByteArray>::LEN {
             return Err(DeserializeStateError);
@@ -146,6 +147,7 @@ fn absorb_saved<F: ResumableFunction>(saved: &mut [u8], bytes: &[u8]) -> bool
 }
 
 // The same of a saved tail, if they end no block.
+#[inline(always)]
 fn append_tail(saved: &mut [u8], bytes: &[u8]) -> bool
     requires { length saved.old ≡ block_size }
     ensures appended { IsTrue result → IsTailAppended saved.old bytes.now saved.new }

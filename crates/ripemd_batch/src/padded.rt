@@ -5,8 +5,7 @@ ghost use Rattle.ripemd_block.specs.Standard.Words.{block_size, eight_bytes};
 ghost use Rattle.ripemd_block.specs.Standard.Hashing.{length_place, with_padding, blocks};
 ghost use Rattle.ripemd_batch.specs.Lanes.{padded_after};
 
-use ripemd::padding::whole_blocks;
-use ripemd_block::block_api::write_short;
+use ripemd::padding::{whole_blocks, write_length, write_marked};
 use std::marker::Model;
 
 /// The blocks of a message with its padding: the whole ones, and the last one or two. Contracts see
@@ -83,30 +82,10 @@ fn last_blocks<'b>(tail: &[u8], bit_len: u64, zeros: &'b mut [[u8; 64]; 2]) -> &
 {
     write_marked(tail, &mut zeros[0]);
     if tail.len() < 56 {
-        write_length(bit_len, &mut zeros[0]);
+        write_length(&mut zeros[0], bit_len);
         &zeros[..1]
     } else {
-        write_length(bit_len, &mut zeros[1]);
+        write_length(&mut zeros[1], bit_len);
         &zeros[..2]
     }
-}
-
-// Writes the tail and the byte 0x80 to the front of a block of zero bytes.
-#[inline(always)]
-fn write_marked(tail: &[u8], block: &mut [u8; 64])
-    requires short { length tail.now < block_size }
-    requires zeros { block.old ≡ replicate block_size 0 }
-    ensures { block.new ≡ tail.now ++ 0x80 ∷ replicate (63 - length tail.now) 0 }
-{
-    let len = tail.len();
-    write_short(block, tail);
-    block[len] = 0x80;
-}
-
-// Writes the length of a message to the last 8 bytes of a block.
-#[inline(always)]
-fn write_length(bit_len: u64, block: &mut [u8; 64])
-    ensures { block.new ≡ take length_place block.old ++ eight_bytes bit_len }
-{
-    block[56..].copy_from_slice(&bit_len.to_le_bytes());
 }

@@ -87,7 +87,9 @@ pub fn write_short(place: &mut [u8], bytes: &[u8])
     ensures { place.new ≡ bytes.now ++ drop (length bytes.now) place.old }
 {
     let len = bytes.len();
-    if len >= 32 {
+    if len == 1 {
+        place[0] = bytes[0];
+    } else if len >= 32 {
         write_ends::<32>(place, bytes);
     } else if len >= 16 {
         write_ends::<16>(place, bytes);
@@ -97,8 +99,6 @@ pub fn write_short(place: &mut [u8], bytes: &[u8])
         write_ends::<4>(place, bytes);
     } else if len >= 2 {
         write_ends::<2>(place, bytes);
-    } else if len == 1 {
-        place[0] = bytes[0];
     }
 }
 

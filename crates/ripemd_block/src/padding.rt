@@ -84,20 +84,32 @@ pub(crate) fn last_blocks(tail: &[u8], bit_len: u64) -> Padded
 }
 
 // The tail, the byte 0x80, and zero bytes to the end of the block.
-pub(crate) fn marked_block(tail: &[u8]) -> [u8; 64]
+fn marked_block(tail: &[u8]) -> [u8; 64]
     requires { length tail.now < block_size }
     ensures block { result ≡ tail.now ++ 0x80 ∷ replicate (63 - length tail.now) 0 }
     ensures valid { IsTail tail.now }
 {
-    let len = tail.len();
     let mut block = [0; 64];
-    write_short(&mut block, tail);
-    block[len] = 0x80;
+    write_marked(tail, &mut block);
     block
 }
 
-// Writes the length of a message in place of the last 8 bytes of a block.
-pub(crate) fn write_length(block: &mut [u8; 64], bit_len: u64)
+/// Writes a tail and the byte 0x80 to the front of a block of zero bytes (RFC 1320, section 3.1).
+#[inline(always)]
+pub fn write_marked(tail: &[u8], block: &mut [u8; 64])
+    requires short { length tail.now < block_size }
+    requires zeros { block.old ≡ replicate block_size 0 }
+    ensures { block.new ≡ tail.now ++ 0x80 ∷ replicate (63 - length tail.now) 0 }
+{
+    let len = tail.len();
+    write_short(block, tail);
+    block[len] = 0x80;
+}
+
+/// Writes the length of a message in bits, least byte first, in place of the last 8 bytes of a block (RFC 1320,
+/// section 3.2).
+#[inline(always)]
+pub fn write_length(block: &mut [u8; 64], bit_len: u64)
     ensures { block.new ≡ take length_place block.old ++ eight_bytes bit_len }
 {
     block[56..].copy_from_slice(&bit_len.to_le_bytes());

@@ -8,5 +8,8 @@ pub mod Pieces
 pub mod Zips
 pub mod Outcomes
 pub mod Printed
+pub mod Checked
 pub mod Cutting
 pub mod Layouts
+pub mod Listed
+pub mod Grouped

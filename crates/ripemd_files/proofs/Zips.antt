@@ -1,5 +1,5 @@
 -- Two lists whose items belong together.
-use Rattle.std.proofs.Common.{◌≡◌, ℕ, ◌+◌, ◌<◌, List, [], ◌∷◌, ◌++◌, length, take, get_or, map, sym, ap, subst, ◌∙◌, arith, refl, zero, suc}
+use Rattle.std.proofs.Common.{◌≡◌, ℕ, ◌+◌, ◌<◌, ◌*◌, List, [], ◌∷◌, ◌++◌, length, take, get_or, map, sym, ap, subst, ◌∙◌, arith, refl, zero, suc}
 use Rattle.std.proofs.lemmas.List.{take_more, length-map, get_or-map}
 use Rattle.std.specs.List.{AllZip}
 
@@ -64,3 +64,14 @@ all_zip_at R [] ys i x y zipped within = absurd (omega (arith, within))
 all_zip_at R (a ∷ xs) [] i x y zipped within = absurd zipped
 all_zip_at R (a ∷ xs) (b ∷ ys) zero x y zipped within = zipped.0
 all_zip_at R (a ∷ xs) (b ∷ ys) (suc i) x y zipped within = all_zip_at R xs ys i x y zipped.1 (omega (arith, within))
+
+-- the last of each
+pub all_zip_last : {A B : Type 0} (R : A → B → Type 0) (xs : List A) (x : A) (zs : List B) → AllZip R (xs ++ x ∷ []) zs
+    → (ys : List B) × (y : B) × (zs ≡ ys ++ y ∷ []) × AllZip R xs ys × R x y
+all_zip_last R [] x [] zipped = absurd zipped
+all_zip_last R [] x (z ∷ []) zipped = ([], z, refl, tt, zipped.0)
+all_zip_last R [] x (z ∷ w ∷ zs) zipped = absurd zipped.1
+all_zip_last R (a ∷ xs) x [] zipped = absurd zipped
+all_zip_last R (a ∷ xs) x (z ∷ zs) zipped =
+    let (ys, y, same, before, both) = all_zip_last R xs x zs zipped.1 in
+    (z ∷ ys, y, ap (λ l. z ∷ l) same, (zipped.0, before), both)

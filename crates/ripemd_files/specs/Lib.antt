@@ -12,9 +12,15 @@ pub mod Contents
 pub mod Said
 -- What is printed of files.
 pub mod Printing
+-- What a check says.
+pub mod Checking
 -- How a list of lines is split.
 pub mod Splitting
 -- Lists of lines, worked.
 pub mod WorkedLists
 -- In which layout lines stand.
 pub mod Layouts
+-- What a check of a list says.
+pub mod Lists
+-- How the code reads a list.
+pub mod Groups

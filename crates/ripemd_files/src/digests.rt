@@ -238,3 +238,18 @@ pub fn read_digests<F: Folder>(
         Variant::R320 => read_group::<Ripemd320, F>(alloc, folder, names, buffer),
     }
 }
+
+/// What comes of reading the file of one name, as `read_digests` does.
+pub fn read_digest<F: Folder>(
+    alloc: Global,
+    folder: &F,
+    variant: Variant,
+    name: &[u8],
+    buffer: &mut [u8],
+) -> Result<Outcome, AllocError>
+    requires room { 0 < length buffer.old }
+    ensures { IfOk result (ComesTo (F.place folder.now) (ripemd (parameters_of variant)) name.now) }
+{
+    let mut outcomes = read_digests(alloc, folder, variant, &[name], buffer)?;
+    Ok(outcomes.pop().unwrap())
+}

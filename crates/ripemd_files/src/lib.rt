@@ -2,12 +2,14 @@
 //! RIPEMD-256 and RIPEMD-320: a digest and the name of a file.
 #![tactic(auto)]
 
+pub mod checking;
 pub mod digests;
 pub mod facts;
 pub mod fault;
 pub mod folder;
 pub mod layout;
 pub mod line;
+pub mod list;
 pub mod list_facts;
 pub mod log;
 pub mod outcome;
@@ -16,6 +18,7 @@ pub mod printing;
 pub mod reading;
 #[cfg(test)]
 mod tests;
+pub mod verdict;
 pub mod writing;
 
 pub use layout::line_layout;

@@ -34,7 +34,7 @@ fn has_special(name: &[u8]) -> bool
 }
 
 // Whether a line is marked, and its name escaped.
-fn needs_mark(ending: Ending, name: &[u8]) -> bool
+pub(crate) fn needs_mark(ending: Ending, name: &[u8]) -> bool
     ensures { result ≡ is_marked ending name.now }
 {
     match ending {
@@ -57,7 +57,7 @@ fn push_escaped(line: &mut Vec<u8>, byte: u8) -> Result<(), AllocError>
 }
 
 // Adds the text of a name.
-fn push_text(line: &mut Vec<u8>, marked: bool, name: &[u8]) -> Result<(), AllocError>
+pub(crate) fn push_text(line: &mut Vec<u8>, marked: bool, name: &[u8]) -> Result<(), AllocError>
     ensures { OnOk result (line.new.items ≡ line.old.items ++ text_of marked name.now) }
 {
     if !marked {

@@ -6,7 +6,7 @@ use Rattle.ripemd_block.proofs.block_core.walk_tail.Goals.{then-tail-ge56, else-
 pub returns-clause-value : goal.returns-clause-value
 returns-clause-value g c =
     let tail = c.args.tail.now in
-    let first = c.marked_block-last.ensures.block in
+    let first = c.write_marked.ensures in
     rw (c.walk_on-2.ensures.value, c.from_ref-2.ensures.value, c.write_length.ensures) elim c.if-tail-ge56.branch [
       | then-tail-ge56 w ↦
           rw (← with_padding_long tail c.args.bit_len (omega arith) c.requires.short)

@@ -1,6 +1,6 @@
 use Rattle.std.proofs.Common.{refl}
 use Rattle.ripemd_block.proofs.LastBlocks.{marked_block}
-use Rattle.ripemd_batch.proofs.padded.write_marked.Goals as goal
+use Rattle.ripemd_block.proofs.padding.write_marked.Goals as goal
 
 pub returns : goal.returns
 returns c =

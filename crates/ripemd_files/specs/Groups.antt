@@ -1,0 +1,74 @@
+-- How the code reads a list: some lines at once.
+use Rattle.std.specs.Prelude.{◌≡◌, ◌≢◌, ◌<◌, ◌*◌, ℕ, List, [], ◌∷◌, ◌++◌, Option, Some, None, Bool, true, false, IsTrue, IsFalse}
+use Rattle.std.specs.List.{AllZip}
+use Rattle.std.specs.Io.KnownBytes.{Consumes}
+use Rattle.ripemd_files.specs.declared.line.Line.{Line}
+use Rattle.ripemd_files.specs.declared.line.Layout.{Layout}
+use Rattle.ripemd_files.specs.declared.list.Rules.{Rules}
+use Rattle.ripemd_files.specs.declared.list.Entry.{Entry}
+use Rattle.ripemd_files.specs.declared.list.Entry.TheVariants.{Nothing, Misformatted, Said}
+use Rattle.ripemd_files.specs.declared.list.Cursor.{Cursor}
+use Rattle.ripemd_files.specs.declared.list.Group.{Group}
+use Rattle.ripemd_files.specs.declared.list.Next.{Next}
+use Rattle.ripemd_files.specs.declared.list.Next.TheVariants.{More, Ended, Failed}
+use Rattle.ripemd_files.specs.declared.line.Variant.{Variant}
+use Rattle.ripemd_files.specs.Splitting.{lines_of, IsEnded}
+use Rattle.ripemd_files.specs.Readings.{Place}
+use Rattle.ripemd_files.specs.Checking.{Event, IsEventOf, misformatted}
+use Rattle.ripemd_files.specs.Lists.{IsTaken, Reports, is_passed_over}
+
+-- what a line says, by the layout of its list
+abbrev pub IsEntry : Rules → Option Layout → List ℕ → Entry → Type 0
+IsEntry rules layout text Nothing = IsTrue (is_passed_over text)
+IsEntry rules layout text Misformatted =
+    IsFalse (is_passed_over text) × ((variant : Variant) (digest name : List ℕ) → ¬ IsTaken rules layout text variant digest name)
+IsEntry rules layout text (Said line) =
+    IsFalse (is_passed_over text) × IsTaken rules layout text line.variant line.digest.items line.name.items
+
+-- the event of a line that says nothing
+abbrev pub misformatted_events : Option ℕ → List Event
+misformatted_events None = []
+misformatted_events (Some number) = misformatted number ∷ []
+
+-- what comes of the lines from a place of a list on
+abbrev pub ReportsFrom : {File : Type 0} → Place File → Bool → Rules → Cursor → List (List ℕ) → List Event → Option Layout → Type 0
+ReportsFrom place ignore_missing rules cursor lines events last =
+    Reports place ignore_missing rules cursor.layout cursor.number lines events last
+
+-- A line was taken from a list: it may have been added to some lines, whose files are not read yet. Whatever comes of these
+-- files, the report goes on with what comes of this one.
+abbrev pub Takes : {File : Type 0} → Place File → Bool → Rules → (before after : Cursor) → List ℕ → (old new : List Line) → Option ℕ → Type 0
+Takes place ignore_missing rules before after text old new bad =
+    (events : List Event) → AllZip (IsEventOf place ignore_missing) new events
+    → (earlier : List Event) × (own : List Event) × (events ≡ earlier ++ own) × AllZip (IsEventOf place ignore_missing) old earlier
+    × ((rest : List (List ℕ)) (more : List Event) (last : Option Layout) → ReportsFrom place ignore_missing rules after rest more last
+    → ReportsFrom place ignore_missing rules before (text ∷ rest) (own ++ (misformatted_events bad ++ more)) last)
+
+-- the same of all lines of these bytes, which were read from the list
+pub record ReadsLines {File : Type 0} (place : Place File) (ignore_missing : Bool) (rules : Rules) (old new : Option (List ℕ))
+    (before after : Cursor) (lines : List Line) (bad : List Event) (goes_on : Bool) (rest : List ℕ) : Type 0 where
+  pub bytes : List ℕ
+  pub consumed : Consumes old new (bytes ++ rest)
+  pub told : (events : List Event) → AllZip (IsEventOf place ignore_missing) lines events → (behind : List ℕ) (more : List Event)
+      (last : Option Layout) → (IsFalse goes_on → behind ≡ []) → ReportsFrom place ignore_missing rules after (lines_of behind) more last
+      → ReportsFrom place ignore_missing rules before (lines_of (bytes ++ behind)) (events ++ (bad ++ more)) last
+
+abbrev pub goes_on : Next → Bool
+goes_on More = true
+goes_on Ended = false
+goes_on Failed = false
+
+-- at its end nothing is left
+abbrev pub EndsAs : Next → Option (List ℕ) → Option (List ℕ) → (rest : List ℕ) → Type 0
+EndsAs More old new rest = rest ≡ []
+EndsAs Ended old new rest = (rest ≡ []) × IsEnded old new
+EndsAs Failed old new rest = Unit {0}
+
+-- a group of lines was read from the list
+pub record ReadsGroup {File : Type 0} (place : Place File) (ignore_missing : Bool) (rules : Rules) (old new : Option (List ℕ))
+    (before after : Cursor) (group : Group) : Type 0 where
+  pub rest : List ℕ
+  pub reads : ReadsLines place ignore_missing rules old new before after group.lines.items (misformatted_events group.misformatted)
+      (goes_on group.next) rest
+  pub ended : EndsAs group.next old new rest
+  pub advanced : IsTrue (goes_on group.next) → before.number < after.number

@@ -1,0 +1,185 @@
+//! The check of a list.
+
+ghost use Rattle.std.specs.Prelude.{◌≡◌, ◌<◌, ◌++◌, [], length, map, All, IfOk, IfSome, OnOk};
+ghost use Rattle.std.specs.Io.KnownBytes.{Appends};
+ghost use Rattle.std.specs.List.{AllZip};
+ghost use Rattle.ripemd.specs.Standard.Hashing.{ripemd};
+ghost use Rattle.ripemd_batch.specs.Lanes.{targets};
+ghost use Rattle.ripemd_files.specs.Readings.{ComesTo, parameters_of};
+ghost use Rattle.ripemd_files.specs.Said.{Wrote};
+ghost use Rattle.ripemd_files.specs.Checking.{ChecksLines, IsOutcomeOf, checked, line_of_event, remarks_on_event, report_of, shown};
+
+use crate::digests::{read_digest, read_digests};
+use crate::fault::Fault;
+use crate::folder::Folder;
+use crate::line::{Ending, Line, Variant};
+use crate::log::Log;
+use crate::outcome::Outcome;
+use crate::printing::{put, remark_unreadable};
+use crate::verdict::{Options, Tally, Verdict};
+use crate::writing::{needs_mark, push_text};
+use std::alloc::{AllocError, Global};
+use std::io::Write;
+
+// Reads the files of some lines, and writes and counts what was found.
+fn check_lines<F: Folder, W: Write, L: Log>(
+    alloc: Global,
+    folder: &F,
+    options: Options,
+    lines: &[Line],
+    buffer: &mut [u8],
+    tally: &mut Tally,
+    out: &mut W,
+    log: &mut L,
+) -> Result<(), Fault>
+    requires room { 0 < length buffer.old }
+    ensures { OnOk result (ChecksLines (F.place folder.now) options lines.now (W.contents out.old) (W.contents out.new)
+        (L.said log.old) (L.said log.new) tally.old tally.new) }
+{
+    let outcomes = read_files_of(alloc, folder, lines, buffer)?;
+    check_outcomes(
+        alloc,
+        folder,
+        options,
+        lines,
+        outcomes.as_slice(),
+        tally,
+        out,
+        log,
+    )
+}
+
+// The same of lines whose files were read.
+fn check_outcomes<F: Folder, W: Write, L: Log>(
+    alloc: Global,
+    _folder: &F,
+    options: Options,
+    lines: &[Line],
+    outcomes: &[Outcome],
+    tally: &mut Tally,
+    out: &mut W,
+    log: &mut L,
+) -> Result<(), Fault>
+    requires read { AllZip (IsOutcomeOf (F.place _folder.now)) lines.now outcomes.now }
+    ensures { OnOk result (ChecksLines (F.place _folder.now) options lines.now (W.contents out.old) (W.contents out.new)
+        (L.said log.old) (L.said log.new) tally.old tally.new) }
+{
+    for k in 0..outcomes.len() {
+        let line = &lines[k];
+        let verdict = Verdict::of(options.ignore_missing, line.digest.as_slice(), &outcomes[k]);
+        tell(alloc, options, line.name.as_slice(), verdict, out, log)?;
+        tally.add(&verdict);
+    }
+    Ok(())
+}
+
+// What comes of reading the files of some lines, by the hashes that they name.
+fn read_files_of<F: Folder>(
+    alloc: Global,
+    folder: &F,
+    lines: &[Line],
+    buffer: &mut [u8],
+) -> Result<Vec<Outcome>, AllocError>
+    requires room { 0 < length buffer.old }
+    ensures { IfOk result (λ outcomes. AllZip (IsOutcomeOf (F.place folder.now)) lines.now outcomes.items) }
+{
+    match common_variant(lines) {
+        Some(variant) => {
+            let names = names_of(alloc, lines)?;
+            let outcomes = read_digests(alloc, folder, variant, names.as_slice(), buffer)?;
+            Ok(outcomes)
+        }
+        None => read_one_by_one(alloc, folder, lines, buffer),
+    }
+}
+
+// The hash of some lines, if all name the same.
+fn common_variant(lines: &[Line]) -> Option<Variant>
+    ensures { IfSome result (λ variant. All (λ line. line.variant ≡ variant) lines.now) }
+{
+    let first = lines.first()?.variant;
+    for line in lines {
+        if line.variant != first {
+            return None;
+        }
+    }
+    Some(first)
+}
+
+// Writes what was found of the file of this name, and remarks on it.
+fn tell<W: Write, L: Log>(
+    alloc: Global,
+    options: Options,
+    name: &[u8],
+    verdict: Verdict,
+    out: &mut W,
+    log: &mut L,
+) -> Result<(), Fault>
+    ensures { OnOk result (Wrote (W.contents out.old) (W.contents out.new) (L.said log.old) (L.said log.new)
+        (line_of_event options (checked name.now verdict)) (remarks_on_event options (checked name.now verdict))) }
+{
+    if let Verdict::Unreadable(error) = verdict {
+        remark_unreadable(out, log, name, error)?;
+    }
+    if options.status {
+        return Ok(());
+    }
+    let line = report(alloc, options.quiet, name, verdict)?;
+    put(out, line.as_slice())
+}
+
+// The line of a verdict, if it has one.
+fn report(alloc: Global, quiet: bool, name: &[u8], verdict: Verdict) -> Result<Vec<u8>, AllocError>
+    ensures { IfOk result (λ line. line.items ≡ report_of quiet name.now verdict) }
+{
+    match verdict {
+        Verdict::Matches if quiet => Ok(Vec::new(alloc)),
+        Verdict::Matches => shown_with(alloc, name, b": OK\n"),
+        Verdict::Differs => shown_with(alloc, name, b": FAILED\n"),
+        Verdict::Unreadable(_) => shown_with(alloc, name, b": FAILED open or read\n"),
+        Verdict::Missing => Ok(Vec::new(alloc)),
+    }
+}
+
+// A name as it is shown, and what stands behind it.
+fn shown_with(alloc: Global, name: &[u8], behind: &[u8]) -> Result<Vec<u8>, AllocError>
+    ensures { IfOk result (λ line. line.items ≡ shown name.now ++ behind.now) }
+{
+    let marked = needs_mark(Ending::Newline, name);
+    let mut line = Vec::new(alloc);
+    if marked {
+        line.push(b'\\')?;
+    }
+    push_text(&mut line, marked, name)?;
+    line.extend_from_slice(behind)?;
+    Ok(line)
+}
+
+// The names of some lines.
+fn names_of(alloc: Global, lines: &[Line]) -> Result<Vec<&[u8]>, AllocError>
+    ensures { IfOk result (λ names. targets names.items ≡ map (λ line. line.name.items) lines.now) }
+{
+    let mut names = Vec::with_capacity(alloc, lines.len())?;
+    for line in lines {
+        names.push(line.name.as_slice())?;
+    }
+    Ok(names)
+}
+
+// The same of lines that may name several hashes, one file after another.
+fn read_one_by_one<F: Folder>(
+    alloc: Global,
+    folder: &F,
+    lines: &[Line],
+    buffer: &mut [u8],
+) -> Result<Vec<Outcome>, AllocError>
+    requires room { 0 < length buffer.old }
+    ensures { IfOk result (λ outcomes. AllZip (IsOutcomeOf (F.place folder.now)) lines.now outcomes.items) }
+{
+    let mut outcomes = Vec::with_capacity(alloc, lines.len())?;
+    for line in lines {
+        let outcome = read_digest(alloc, folder, line.variant, line.name.as_slice(), buffer)?;
+        outcomes.push(outcome)?;
+    }
+    Ok(outcomes)
+}

@@ -1,0 +1,256 @@
+//! Lists of lines, as a check reads them.
+
+ghost use Rattle.std.specs.Prelude.{◌≡◌, ◌≢◌, ◌↔◌, ◌+◌, ◌<◌, ◌^◌, ◌++◌, ◌∷◌, [], codes, IfOk, IsTrue, OnOk};
+ghost use Rattle.ripemd_files.specs.Lists.{IsTaken, IsWanted, body_of_line, is_passed_over, layout_after};
+ghost use Rattle.ripemd_files.specs.Groups.{IsEntry, ReadsGroup, Takes};
+
+use crate::fault::Fault;
+use crate::folder::Folder;
+use crate::layout::line_layout;
+use crate::line::{Layout, Line, Variant};
+use crate::piece::{Piece, read_piece};
+use crate::printing::GROUP;
+use crate::reading::parse_line;
+use std::alloc::{AllocError, Global};
+use std::io::BufRead;
+
+/// Which lines of a list count.
+#[derive(Clone, Copy, PartialEq, Eq, Debug)]
+pub struct Rules {
+    /// Lines of this variant alone, or of all.
+    pub only: Option<Variant>,
+    /// Whether the list is standard input, which no line of it can name.
+    pub from_input: bool,
+}
+
+// What a line says.
+#[derive(Drop)]
+pub(crate) enum Entry {
+    // Nothing: it is empty or a comment.
+    Nothing,
+    Misformatted,
+    Said(Line),
+}
+
+// How far a list is read: its layout, if an untagged line said it, and the number of the next line.
+#[derive(Clone, Copy)]
+pub(crate) struct Cursor {
+    pub layout: Option<Layout>,
+    pub number: u64,
+}
+
+// How a list goes on.
+#[derive(Clone, Copy)]
+pub(crate) enum Next {
+    More,
+    Ended,
+    Failed,
+}
+
+// Some lines of a list, the number of one behind them that says nothing that can be read, if there is one, and how
+// the list goes on.
+#[derive(Drop)]
+pub(crate) struct Group {
+    pub lines: Vec<Line>,
+    pub misformatted: Option<u64>,
+    pub next: Next,
+}
+
+// A line without a carriage return at its end.
+fn without_return(text: &[u8]) -> &[u8]
+    ensures { result.now ≡ body_of_line text.now }
+{
+    match text {
+        [body @ .., b'\r'] => body,
+        _ => text,
+    }
+}
+
+// Whether a line is passed over.
+fn is_skipped(text: &[u8]) -> bool
+    ensures { result ≡ is_passed_over text.now }
+{
+    match text {
+        [b'#', ..] => true,
+        _ => without_return(text).is_empty(),
+    }
+}
+
+// The layout of a list after a line.
+fn next_layout(rules: Rules, layout: Option<Layout>, text: &[u8]) -> Option<Layout>
+    ensures { result ≡ layout_after rules layout text.now }
+{
+    if is_skipped(text) {
+        return layout;
+    }
+    match layout {
+        Some(layout) => Some(layout),
+        None => line_layout(rules.only, without_return(text)),
+    }
+}
+
+// Whether a variant counts.
+fn is_wanted(only: Option<Variant>, variant: Variant) -> bool
+    ensures { IsTrue result ↔ IsWanted only variant }
+{
+    match only {
+        Some(one) => variant == one,
+        None => true,
+    }
+}
+
+// Whether a name is that of standard input.
+fn is_input(name: &[u8]) -> bool
+    ensures { IsTrue result ↔ (name.now ≡ codes "-") }
+{
+    matches!(name, b"-")
+}
+
+// Whether what a line says counts.
+fn counts(rules: Rules, line: &Line) -> bool
+    ensures { IsTrue result ↔ (IsWanted rules.only line.now.variant × (IsTrue rules.from_input → line.now.name.items ≢ codes "-")) }
+{
+    is_wanted(rules.only, line.variant) && !(rules.from_input && is_input(line.name.as_slice()))
+}
+
+// What a line says.
+fn read_entry(
+    alloc: Global,
+    rules: Rules,
+    layout: Option<Layout>,
+    text: &[u8],
+) -> Result<Entry, AllocError>
+    ensures { IfOk result (IsEntry rules layout text.now) }
+{
+    if is_skipped(text) {
+        return Ok(Entry::Nothing);
+    }
+    let layout = layout.unwrap_or(Layout::Standard);
+    match parse_line(alloc, layout, without_return(text))? {
+        Some(line) => {
+            if counts(rules, &line) {
+                return Ok(Entry::Said(line));
+            }
+            Ok(Entry::Misformatted)
+        }
+        None => Ok(Entry::Misformatted),
+    }
+}
+
+// Takes the next line from a list: adds what it says to some lines. The line's number, if it says nothing that can
+// be read.
+fn take_line<F: Folder>(
+    alloc: Global,
+    _folder: &F,
+    ignore_missing: bool,
+    rules: Rules,
+    cursor: &mut Cursor,
+    text: &[u8],
+    lines: &mut Vec<Line>,
+) -> Result<Option<u64>, Fault>
+    ensures takes { IfOk result (Takes (F.place _folder.now) ignore_missing rules cursor.old cursor.new text.now lines.old.items lines.new.items) }
+    ensures advances { OnOk result (cursor.new.number ≡ cursor.old.number + 1) }
+    ensures bound { OnOk result (cursor.new.number < 2 ^ 64) }
+{
+    let number = cursor.number;
+    if number == u64::MAX {
+        return Err(Fault::TooManyLines);
+    }
+    let layout = next_layout(rules, cursor.layout, text);
+    *cursor = Cursor {
+        layout,
+        number: number + 1,
+    };
+    match read_entry(alloc, rules, layout, text)? {
+        Entry::Nothing => Ok(None),
+        Entry::Misformatted => Ok(Some(number)),
+        Entry::Said(line) => {
+            push_line(lines, line)?;
+            Ok(None)
+        }
+    }
+}
+
+// Adds a line to some.
+fn push_line(lines: &mut Vec<Line>, line: Line) -> Result<(), AllocError>
+    ensures { OnOk result (lines.new.items ≡ lines.old.items ++ line ∷ []) }
+{
+    lines.push(line)?;
+    Ok(())
+}
+
+// Reads some lines of a list, up to the next one that says nothing that can be read.
+pub(crate) fn read_group<F: Folder, R: BufRead>(
+    alloc: Global,
+    folder: &F,
+    ignore_missing: bool,
+    rules: Rules,
+    cursor: &mut Cursor,
+    reader: &mut R,
+) -> Result<Group, Fault>
+    ensures { IfOk result (ReadsGroup (F.place folder.now) ignore_missing rules (R.remaining reader.old) (R.remaining reader.new)
+        cursor.old cursor.new) }
+{
+    let mut lines = Vec::with_capacity(alloc, GROUP)?;
+    let mut text = Vec::new(alloc);
+    'lines: while lines.len() < GROUP {
+        match read_piece(reader, &mut text)? {
+            Piece::Nothing => {
+                return Ok(Group {
+                    lines,
+                    misformatted: None,
+                    next: Next::Ended,
+                });
+            }
+            Piece::Failed => {
+                return Ok(Group {
+                    lines,
+                    misformatted: None,
+                    next: Next::Failed,
+                });
+            }
+            Piece::Last => {
+                let misformatted = take_line(
+                    alloc,
+                    folder,
+                    ignore_missing,
+                    rules,
+                    cursor,
+                    text.as_slice(),
+                    &mut lines,
+                )?;
+                return Ok(Group {
+                    lines,
+                    misformatted,
+                    next: Next::Ended,
+                });
+            }
+            Piece::Line => {
+                let misformatted = take_line(
+                    alloc,
+                    folder,
+                    ignore_missing,
+                    rules,
+                    cursor,
+                    text.as_slice(),
+                    &mut lines,
+                )?;
+                match misformatted {
+                    Some(number) => {
+                        return Ok(Group {
+                            lines,
+                            misformatted: Some(number),
+                            next: Next::More,
+                        });
+                    }
+                    None => {}
+                }
+            }
+        }
+    }
+    Ok(Group {
+        lines,
+        misformatted: None,
+        next: Next::More,
+    })
+}
