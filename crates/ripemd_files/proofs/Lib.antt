@@ -10,5 +10,6 @@ pub mod Outcomes
 pub mod Printed
 pub mod Checked
 pub mod Cutting
+pub mod Layouts
 pub mod Listed
 pub mod Grouped

@@ -1,7 +1,11 @@
 //! What is proved of the definitions of lists: worked cases, and laws. The functions do nothing;
 //! their contracts are the facts.
 
-ghost use Rattle.std.specs.Prelude.{◌≡◌, ◌≢◌, ℕ, List, [], ◌∷◌, ◌++◌};
+ghost use Rattle.std.specs.Prelude.{◌≡◌, ◌≢◌, ℕ, List, [], ◌∷◌, ◌++◌, Option, Some};
+ghost use Rattle.ripemd_files.specs.declared.line.Variant.{Variant};
+ghost use Rattle.ripemd_files.specs.declared.line.Layout.{Layout};
+ghost use Rattle.ripemd_files.specs.declared.line.Layout.TheVariants.{Standard, Reversed};
+ghost use Rattle.ripemd_files.specs.Layouts.{layout_of, HasLayout};
 ghost use Rattle.ripemd_files.specs.Splitting.{lines_of, IsOneLine};
 ghost use Rattle.ripemd_files.specs.WorkedLists.{SplitLists, StandardLayouts, ReversedLayouts, NoLayouts};
 
@@ -19,4 +23,14 @@ pub fn list_layouts()
     ensures standard { StandardLayouts }
     ensures reversed { ReversedLayouts }
     ensures none { NoLayouts }
+{}
+
+/// The layout that is found is the one that a line has, or the standard one if it has both.
+pub fn found_layouts()
+    // What is found, the line has.
+    ensures found { (only : Option Variant) (layout : Layout) (line : List ℕ) → layout_of only line ≡ Some layout → HasLayout only layout line }
+    // What it has is found.
+    ensures standard { (only : Option Variant) (line : List ℕ) → HasLayout only Standard line → layout_of only line ≡ Some Standard }
+    ensures reversed { (only : Option Variant) (line : List ℕ) → HasLayout only Reversed line → ¬ HasLayout only Standard line
+        → layout_of only line ≡ Some Reversed }
 {}
