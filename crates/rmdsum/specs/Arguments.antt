@@ -4,7 +4,7 @@ use Rattle.ripemd_files.specs.declared.line.Variant.{Variant}
 use Rattle.ripemd_files.specs.declared.line.Variant.TheVariants.{R128, R160, R256, R320}
 use Rattle.rmdsum.specs.declared.arguments.Names.{Names}
 use Rattle.rmdsum.specs.declared.arguments.Names.TheVariants.{Operands, From}
-use Rattle.rmdsum.specs.declared.arguments.Options.{Options}
+use Rattle.ripemd_files.specs.declared.verdict.Options.{Options}
 use Rattle.rmdsum.specs.declared.arguments.Request.{Request}
 use Rattle.rmdsum.specs.declared.arguments.Request.TheVariants.{Help, Version, Print, Check}
 

@@ -6,6 +6,7 @@ ghost use Rattle.rmdsum.specs.Arguments.{name_of, IsSound, HasNames, AreExclusiv
 
 pub use crate::refusals::Misuse;
 use crate::switches::{Flag, Found, Parameter, Switch, around_equals, find_long, find_short};
+use ripemd_files::verdict::Options;
 use ripemd_files::{Ending, Form, Variant};
 use std::alloc::{AllocError, Global};
 use std::env::{Env, FillError};
@@ -34,7 +35,7 @@ pub enum Request {
     Check {
         /// The hash whose lines are taken; lines of every hash if none is named.
         only: Option<Variant>,
-        /// What is told, and what counts as a failure.
+        /// What is told, and what counts as a failure. At most one of `quiet`, `status` and `warn` is set.
         options: Options,
         /// The lists.
         names: Names,
@@ -50,21 +51,6 @@ pub enum Names {
     Operands(Vec<Vec<u8>>),
     /// Those that the file of this name has, each ended by a byte 0.
     From(Vec<u8>),
-}
-
-/// How lists are checked. At most one of `quiet`, `status` and `warn` is set.
-#[derive(Clone, Copy, PartialEq, Eq, Debug)]
-pub struct Options {
-    /// A file that is not there is passed over.
-    pub ignore_missing: bool,
-    /// No `OK` is printed.
-    pub quiet: bool,
-    /// Nothing is printed: the status tells all.
-    pub status: bool,
-    /// A line that is none of a digest and a name makes the status 1.
-    pub strict: bool,
-    /// Each such line is reported.
-    pub warn: bool,
 }
 
 // Whether a file is read as text or as bytes, which differ in the line alone.

@@ -1,0 +1,108 @@
+//! The files of the system.
+
+ghost use Rattle.rmdsum.specs.Files.{any_files};
+
+use crate::progress::Progress;
+use ripemd_files::folder::Folder;
+use std::fs::File;
+use std::io::{ErrorKind, IsTerminal, Read, Stdin};
+use std::{fs, io, str};
+
+/// What is read: standard input or a file.
+#[derive(Drop)]
+pub enum Source {
+    Input(Stdin),
+    File(File),
+}
+
+impl Source {
+    /// Opens the file of a name, or standard input for `-`. A name has to be UTF-8: the standard library opens no
+    /// other.
+    pub fn open(rt: &HostRuntime, name: &[u8]) -> io::Result<Source> {
+        if is_input(name) {
+            return Ok(Source::Input(rt.stdin()));
+        }
+        match str::from_utf8(name) {
+            Ok(path) => Ok(Source::File(fs::open(rt, path)?)),
+            Err(_) => Err(io::Error::from(ErrorKind::InvalidFilename)),
+        }
+    }
+
+    // The size of a file, where it is known.
+    fn size(&self) -> Option<u64> {
+        let Source::File(file) = self else {
+            return None;
+        };
+        let metadata = file.metadata().ok()?;
+        if metadata.is_file() {
+            Some(metadata.len())
+        } else {
+            None
+        }
+    }
+}
+
+impl Read for Source {
+    fn read(&mut self, buffer: &mut [u8]) -> io::Result<usize> {
+        match self {
+            Source::Input(input) => input.read(buffer),
+            Source::File(file) => file.read(buffer),
+        }
+    }
+}
+
+/// Whether a name stands for standard input.
+pub fn is_input(name: &[u8]) -> bool {
+    matches!(name, b"-")
+}
+
+/// A file that is read, and how far, if that is shown.
+#[derive(Drop)]
+pub struct Opened {
+    source: Source,
+    progress: Option<Progress>,
+}
+
+/// The files of the system, by their names.
+#[derive(Clone, Copy)]
+pub struct System<'a> {
+    rt: &'a HostRuntime,
+    progress: bool,
+}
+
+impl<'a> System<'a> {
+    /// With `progress`, standard error shows how far a file is read, if it is a terminal.
+    pub fn new(rt: &'a HostRuntime, progress: bool) -> System<'a> {
+        System {
+            rt,
+            progress: progress && rt.stderr().is_terminal(),
+        }
+    }
+}
+
+impl Folder for System<'_> {
+    type File = Opened;
+
+    ghost place = { λ system. any_files };
+
+    fn open(&self, name: &[u8]) -> io::Result<Opened> {
+        let source = Source::open(self.rt, name)?;
+        let progress = if self.progress {
+            Progress::new(self.rt, name, source.size()).ok()
+        } else {
+            None
+        };
+        Ok(Opened { source, progress })
+    }
+
+    fn read(&self, file: &mut Opened, buffer: &mut [u8]) -> io::Result<usize> {
+        let outcome = file.source.read(buffer);
+        if let Some(progress) = &mut file.progress {
+            match &outcome {
+                Ok(0) | Err(_) => progress.clear(),
+                Ok(count) => progress.advance(*count),
+            }
+        }
+        outcome
+    }
+}
