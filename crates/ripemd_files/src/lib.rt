@@ -17,8 +17,6 @@ pub mod outcome;
 mod piece;
 pub mod printing;
 pub mod reading;
-#[cfg(test)]
-mod tests;
 pub mod verdict;
 pub mod writing;
 
