@@ -134,12 +134,18 @@ fn push_complaint(
 // Adds a colon and the text of an error, without its number.
 fn push_error(rt: &HostRuntime, text: &mut Vec<u8>, error: io::Error) -> io::Result<()> {
     let whole = format!(in rt.alloc(); ": {error}")?;
-    let words = match whole.as_str().split_once(" (os error ") {
-        Some((words, _)) => words,
-        None => whole.as_str(),
-    };
-    text.extend_from_slice(words.as_bytes())?;
+    text.extend_from_slice(without_number(whole.as_bytes()))?;
     Ok(())
+}
+
+// The text of an error without its number.
+fn without_number(text: &[u8]) -> &[u8] {
+    for end in 0..text.len() {
+        if text[end..].starts_with(b" (os error ") {
+            return &text[..end];
+        }
+    }
+    text
 }
 
 /// The remarks of a run, on standard error.
