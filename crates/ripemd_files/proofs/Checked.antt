@@ -1,5 +1,5 @@
 -- What a check finds of the files of some lines.
-use Rattle.std.proofs.Common.{◌≡◌, ℕ, ◌+◌, ◌<◌, ◌*◌, List, [], ◌∷◌, ◌++◌, map, flat_map, length, take, get_or, Option, Bool, All, subst, sym, ap, ◌∙◌, arith, suc, append_assoc}
+use Rattle.std.proofs.Common.{rules, ◌≡◌, ℕ, ◌+◌, ◌<◌, List, [], ◌∷◌, ◌++◌, map, flat_map, length, take, get_or, Option, Bool, true, false, All, refl, subst, sym, ap, ◌∙◌, arith, suc, append_assoc}
 use Rattle.std.specs.List.{AllZip}
 use Rattle.ripemd.specs.Standard.Hashing.{ripemd}
 use Rattle.ripemd_files.specs.declared.line.Line.{Line}
@@ -9,8 +9,22 @@ use Rattle.ripemd_files.specs.Readings.{Place, ComesTo, parameters_of}
 use Rattle.ripemd_files.specs.declared.verdict.Verdict.{Verdict}
 use Rattle.ripemd_files.specs.declared.verdict.Options.{Options}
 use Rattle.ripemd_files.specs.declared.verdict.Tally.{Tally}
-use Rattle.ripemd_files.specs.Said.{Remark, Wrote}
-use Rattle.ripemd_files.specs.Checking.{ChecksLines, Event, IsOutcomeOf, IsTally, checked, line_of_event, remarks_on_event, verdict_of}
+use Rattle.ripemd_files.specs.Said.{Remark, Wrote, about_list}
+use Rattle.ripemd_files.specs.declared.line.Layout.{Layout}
+use Rattle.ripemd_files.specs.declared.list.Rules.{Rules}
+use Rattle.ripemd_files.specs.declared.list.Cursor.{Cursor}
+use Rattle.ripemd_files.specs.declared.list.Group.{Group}
+use Rattle.ripemd_files.specs.declared.list.Next.TheVariants as nexts
+use Rattle.ripemd_files.specs.declared.log.Complaint.TheVariants as complaints
+use Rattle.ripemd_files.specs.Lists.{ChecksList, Reports}
+use Rattle.ripemd_files.specs.Splitting.{lines_of}
+use Rattle.std.specs.Prelude.{IsFalse}
+use Rattle.std.specs.Io.KnownBytes.{Consumes}
+use Rattle.ripemd_files.proofs.Pieces.{consumed_more}
+use Rattle.ripemd_files.proofs.Cutting.{ended_since}
+use Rattle.ripemd_files.specs.Groups.{ChecksGroup, ChecksMisformatted, ChecksSoFar, EndsAs, ReadsGroup, ReportsFrom, goes_on, misformatted_events}
+use Rattle.std.proofs.KnownBytes.{Consumes-nil}
+use Rattle.ripemd_files.specs.Checking.{ChecksLines, Event, closing_remarks, is_success, IsOutcomeOf, IsTally, checked, line_of_event, remarks_on_event, verdict_of}
 use Rattle.ripemd_files.proofs.Zips.{all_zip_at, all_zip_length, all_zip_next}
 use Rattle.ripemd_files.proofs.Printed.{wrote_none, wrote_more}
 use Rattle.std.proofs.lemmas.List.{append-nil}
@@ -65,3 +79,128 @@ module _ {File : Type 0} (place : Place File) (options : Options) (lines : List 
         wrote = rw flat_map-append (rw flat_map-append (rw append-nil (rw append-nil (wrote_more a b c u v w _ _ _ _ before.wrote wrote))));
         counts = λ earlier counted. rw (← append_assoc) (counts (earlier ++ before.events) line.name.items (before.counts earlier counted));
       }
+
+-- a group: its lines, and the one behind them
+pub checks_group : {File : Type 0} (place : Place File) (options : Options) (group : Group) (a b c : Option (List ℕ))
+    (u v w : Option (List Remark)) (first now next : Tally) → ChecksLines place options group.lines.items a b u v first now
+    → ChecksMisformatted options group.misformatted b c v w now next → ChecksGroup place options group a c u w first next
+checks_group place options group a b c u v w first now next lines bad = record {
+  events = lines.events;
+  each = lines.each;
+  wrote = rw flat_map-append (rw flat_map-append (wrote_more a b c u v w _ _ _ _ lines.wrote bad.wrote));
+  counts = λ earlier counted. rw (← append_assoc) (bad.counts (earlier ++ lines.events) (lines.counts earlier counted));
+}
+
+-- nothing of a list yet
+pub checks_begin : {File : Type 0} (place : Place File) (options : Options) (kinds : Rules) (cursor : Cursor) (old : Option (List ℕ))
+    (written : Option (List ℕ)) (before : Option (List Remark)) (tally : Tally) → IsTally [] tally
+    → ChecksSoFar place options kinds cursor cursor old old written written before before tally
+checks_begin place options kinds cursor old written before tally counted = record {
+  bytes = [];
+  events = [];
+  consumed = Consumes-nil old;
+  counts = counted;
+  wrote = wrote_none written before;
+  told = λ behind more last report. report;
+}
+
+-- a group of a list, behind those before it
+module _ {File : Type 0} (place : Place File) (options : Options) (kinds : Rules) (first now after : Cursor)
+    (old read next : Option (List ℕ)) (a b c : Option (List ℕ)) (u v w : Option (List Remark)) (tally counted : Tally) (group : Group)
+    (so_far : ChecksSoFar place options kinds first now old read a b u v tally)
+    (reads : ReadsGroup place options.ignore_missing kinds read next now after group)
+    (checks : ChecksGroup place options group b c v w tally counted) where
+  abbrev found : List Event
+  found = checks.events ++ misformatted_events group.misformatted
+
+  wrote_all : Wrote a c u w (flat_map (line_of_event options) (so_far.events ++ found)) (flat_map (remarks_on_event options) (so_far.events ++ found))
+  wrote_all =
+      subst (λ t. Wrote a c u w t (flat_map (remarks_on_event options) (so_far.events ++ found)))
+      (sym (flat_map-append (line_of_event options) so_far.events found))
+      (subst (Wrote a c u w (flat_map (line_of_event options) so_far.events ++ flat_map (line_of_event options) found))
+      (sym (flat_map-append (remarks_on_event options) so_far.events found))
+      (wrote_more a b c u v w _ _ _ _ so_far.wrote checks.wrote))
+
+  counted_all : IsTally (so_far.events ++ found) counted
+  counted_all = checks.counts so_far.events so_far.counts
+
+  -- what comes of the lines so far, and of those behind them
+  told_all : (behind : List ℕ) (more : List Event) (last : Option Layout) → (IsFalse (goes_on group.next) → behind ≡ [])
+      → ReportsFrom place options.ignore_missing kinds after (lines_of behind) more last
+      → ReportsFrom place options.ignore_missing kinds first (lines_of ((so_far.bytes ++ reads.reads.bytes) ++ behind)) ((so_far.events ++ found) ++ more) last
+  told_all behind more last ends report =
+      subst (λ e. ReportsFrom place options.ignore_missing kinds first (lines_of ((so_far.bytes ++ reads.reads.bytes) ++ behind)) e last)
+      (ap (λ e. so_far.events ++ e) (sym (append_assoc checks.events (misformatted_events group.misformatted) more)) ∙ sym (append_assoc so_far.events found more))
+      (subst (λ t. ReportsFrom place options.ignore_missing kinds first (lines_of t) (so_far.events ++ (checks.events ++ (misformatted_events group.misformatted ++ more))) last)
+      (sym (append_assoc so_far.bytes reads.reads.bytes behind))
+      (so_far.told (reads.reads.bytes ++ behind) (checks.events ++ (misformatted_events group.misformatted ++ more)) last
+      (reads.reads.told checks.events checks.each behind more last ends report)))
+
+  consumed_all : Consumes old next ((so_far.bytes ++ reads.reads.bytes) ++ reads.rest)
+  consumed_all =
+      rw append_assoc (consumed_more old read next so_far.bytes (reads.reads.bytes ++ reads.rest) so_far.consumed reads.reads.consumed)
+
+  whole : reads.rest ≡ [] → Consumes old next (so_far.bytes ++ reads.reads.bytes)
+  whole none =
+      subst (Consumes old next) (append-nil (so_far.bytes ++ reads.reads.bytes))
+      (subst (λ r. Consumes old next ((so_far.bytes ++ reads.reads.bytes) ++ r)) none consumed_all)
+
+  -- the list goes on
+  pub checks_on : group.next ≡ nexts.More → ChecksSoFar place options kinds first after old next a c u w counted
+  checks_on on = record {
+    bytes = so_far.bytes ++ reads.reads.bytes;
+    events = so_far.events ++ found;
+    consumed =
+        let none : reads.rest ≡ [] = subst (λ n. EndsAs n read next reads.rest) on reads.ended in
+        whole none;
+    counts = counted_all;
+    wrote = wrote_all;
+    told = λ behind more last report. told_all behind more last (λ never. absurd (search (rules, rw on at never))) report;
+  }
+
+  module _ (begins : first.number ≡ 1) (ends : IsFalse (goes_on group.next)) (d : Option (List ℕ)) (x : Option (List Remark)) where
+    reported_all : Reports place options.ignore_missing kinds first.layout 1 (lines_of (so_far.bytes ++ reads.reads.bytes)) (so_far.events ++ found) after.layout
+    unfolding lines_of
+    reported_all =
+        subst (λ n. Reports place options.ignore_missing kinds first.layout n (lines_of (so_far.bytes ++ reads.reads.bytes)) (so_far.events ++ found) after.layout) begins
+        (rw append-nil at (rw append-nil at (told_all [] [] after.layout (λ _. refl) (refl, refl))))
+
+    closed : (last : List Remark) → Wrote c d w x [] last
+        → Wrote a d u x (flat_map (line_of_event options) (so_far.events ++ found))
+        (flat_map (remarks_on_event options) (so_far.events ++ found) ++ last)
+    closed last wrote =
+        subst (λ t. Wrote a d u x t (flat_map (remarks_on_event options) (so_far.events ++ found) ++ last))
+        (append-nil (flat_map (line_of_event options) (so_far.events ++ found)))
+        (wrote_more a c d u w x _ _ _ _ wrote_all wrote)
+
+    -- the list has ended
+    pub checks_ended : (success : Bool) → group.next ≡ nexts.Ended → Wrote c d w x [] (closing_remarks options counted)
+        → success ≡ is_success options counted → ChecksList place options kinds first.layout after.layout old next a d u x success
+    checks_ended success ended wrote answer = record {
+      whole = true;
+      bytes = so_far.bytes ++ reads.reads.bytes;
+      events = so_far.events ++ found;
+      tally = counted;
+      read =
+          let (none, at_end) : EndsAs nexts.Ended read next reads.rest = subst (λ n. EndsAs n read next reads.rest) ended reads.ended in
+          (whole none, ended_since old read next so_far.bytes so_far.consumed at_end);
+      reports = reported_all;
+      counts = counted_all;
+      wrote = closed _ wrote;
+      answer = answer;
+    }
+
+    -- a read of the list failed
+    pub checks_failed : Wrote c d w x [] (about_list complaints.Unreadable ∷ [])
+        → ChecksList place options kinds first.layout after.layout old next a d u x false
+    checks_failed wrote = record {
+      whole = false;
+      bytes = so_far.bytes ++ reads.reads.bytes;
+      events = so_far.events ++ found;
+      tally = counted;
+      read = (reads.rest, consumed_all);
+      reports = reported_all;
+      counts = counted_all;
+      wrote = closed _ wrote;
+      answer = refl;
+    }

@@ -1,7 +1,6 @@
 -- What comes of the lines of a list, one after another.
-use Rattle.std.proofs.Common.{rules, ◌≡◌, ◌≢◌, ◌↔◌, ℕ, ◌+◌, ◌*◌, List, [], ◌∷◌, ◌++◌, codes, Option, Some, None, unwrap_or, Bool, true, false, IsTrue, MatchBool, refl, sym, ap, subst, ◌∙◌, append_assoc}
+use Rattle.std.proofs.Common.{rules, ◌≡◌, ◌≢◌, ℕ, ◌+◌, List, [], ◌∷◌, ◌++◌, codes, Option, Some, None, unwrap_or, Bool, true, false, IsTrue, MatchBool, refl, sym, subst}
 use Rattle.std.specs.Prelude.{IsFalse}
-use Rattle.std.specs.List.{AllZip}
 use Rattle.std.proofs.lemmas.List.{append-nil}
 use Rattle.ripemd_files.specs.declared.line.Variant.{Variant}
 use Rattle.ripemd_files.specs.declared.line.Layout.{Layout}
@@ -12,7 +11,7 @@ use Rattle.ripemd_files.specs.declared.list.Cursor.{Cursor}
 use Rattle.ripemd_files.specs.declared.list.Entry.TheVariants.{Misformatted, Said}
 use Rattle.ripemd_files.specs.Lines.{IsLine, Says}
 use Rattle.ripemd_files.specs.Readings.{Place}
-use Rattle.ripemd_files.specs.Checking.{Event, IsEventOf, checked, misformatted}
+use Rattle.ripemd_files.specs.Checking.{Event, IsEventOf, misformatted}
 use Rattle.ripemd_files.specs.Lists.{AreEventsOn, IsEventOn, IsTaken, IsWanted, Reports, body_of_line, is_passed_over, layout_after}
 use Rattle.ripemd_files.proofs.Zips.{all_zip_last}
 use Rattle.ripemd_files.specs.Groups.{IsEntry, ReportsFrom, Takes}

@@ -1,5 +1,5 @@
 -- What comes of files, by what they gave.
-use Rattle.std.proofs.Common.{◌≡◌, ℕ, ◌*◌, List, subst, sym, ◌∙◌}
+use Rattle.std.proofs.Common.{ℕ, List, subst, sym, ◌∙◌}
 use Rattle.ripemd_files.specs.declared.digests.Content.{Content}
 use Rattle.ripemd_files.specs.declared.digests.Content.TheVariants.{Short, Long, Refused, Broken}
 use Rattle.ripemd_files.specs.declared.outcome.Outcome.{Outcome}

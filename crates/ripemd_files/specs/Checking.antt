@@ -1,5 +1,5 @@
 -- What a check says of the files that a list names, and how it ends.
-use Rattle.std.specs.Prelude.{◌≡◌, ◌*◌, ◌-◌, ◌^◌, ℕ, List, [], ◌∷◌, ◌++◌, codes, flat_map, Option, Bool, true, false, ◌&&◌, ◌||◌, ◌==◌, not, if◌then◌else◌, count_by, min}
+use Rattle.std.specs.Prelude.{◌≡◌, ◌-◌, ◌^◌, ℕ, List, [], ◌∷◌, ◌++◌, codes, flat_map, Option, Bool, true, false, ◌&&◌, ◌||◌, ◌==◌, not, if◌then◌else◌, count_by, min}
 use Rattle.std.specs.List.{list_any, AllZip}
 use Rattle.std.specs.Str.{bytes_eq}
 use Rattle.std.specs.IoError.{error_kind}

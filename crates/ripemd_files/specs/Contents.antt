@@ -1,5 +1,5 @@
 -- What a file gave, as it is read.
-use Rattle.std.specs.Prelude.{◌≡◌, ℕ, ◌*◌, List, [], Option, ⊤}
+use Rattle.std.specs.Prelude.{◌≡◌, ℕ, List, [], Option, ⊤}
 use Rattle.std.specs.Io.KnownBytes.{Consumes}
 use Rattle.ripemd_files.specs.declared.digests.Stop.{Stop}
 use Rattle.ripemd_files.specs.declared.digests.Stop.TheVariants.{Failed, NoMemory}

@@ -1,5 +1,5 @@
 -- How the code reads a list: some lines at once.
-use Rattle.std.specs.Prelude.{◌≡◌, ◌≢◌, ◌<◌, ◌*◌, ℕ, List, [], ◌∷◌, ◌++◌, flat_map, Option, Some, None, Bool, true, false, IsTrue, IsFalse}
+use Rattle.std.specs.Prelude.{◌≡◌, ◌<◌, ◌^◌, ℕ, List, [], ◌∷◌, ◌++◌, flat_map, Option, Some, None, Bool, true, false, IsTrue, IsFalse}
 use Rattle.std.specs.List.{AllZip}
 use Rattle.std.specs.Io.KnownBytes.{Consumes}
 use Rattle.ripemd_files.specs.declared.line.Line.{Line}
@@ -75,6 +75,7 @@ pub record ReadsGroup {File : Type 0} (place : Place File) (ignore_missing : Boo
       (goes_on group.next) rest
   pub ended : EndsAs group.next old new rest
   pub advanced : IsTrue (goes_on group.next) → before.number < after.number
+  pub bounded : IsTrue (goes_on group.next) → after.number < 2 ^ 64
 
 -- what comes of a group of lines was written and counted
 pub record ChecksGroup {File : Type 0} (place : Place File) (options : Options) (group : Group) (old new : Option (List ℕ))

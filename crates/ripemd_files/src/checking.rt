@@ -1,6 +1,6 @@
 //! The check of a list.
 
-ghost use Rattle.std.specs.Prelude.{◌≡◌, ◌<◌, ◌++◌, [], length, map, All, IfOk, IfSome, OnOk};
+ghost use Rattle.std.specs.Prelude.{◌≡◌, ◌&&◌, not, ◌<◌, ◌++◌, [], length, map, All, IfOk, IfSome, OnOk};
 ghost use Rattle.std.specs.Io.KnownBytes.{Appends};
 ghost use Rattle.std.specs.List.{AllZip};
 ghost use Rattle.ripemd.specs.Standard.Hashing.{ripemd};
@@ -130,7 +130,8 @@ fn check_group<F: Folder, W: Write, L: Log>(
         out,
         log,
     )?;
-    check_misformatted(options, group.misformatted, tally, out, log)
+    check_misformatted(options, group.misformatted, tally, out, log)?;
+    Ok(())
 }
 
 // Counts a line that says nothing that can be read, if there is one, and remarks on it.
@@ -189,8 +190,16 @@ fn remark_counts<W: Write, L: Log>(
     remark_if(out, log, tally.unreadable != 0, unreadable)?;
     let differing = Complaint::Mismatches(tally.differing);
     remark_if(out, log, tally.differing != 0, differing)?;
-    let nothing = options.ignore_missing && !tally.matched;
-    remark_if(out, log, nothing, Complaint::NothingVerified)
+    let nothing = verified_nothing(options, tally);
+    remark_if(out, log, nothing, Complaint::NothingVerified)?;
+    Ok(())
+}
+
+// Whether missing files were left out, and no other was verified.
+fn verified_nothing(options: Options, tally: &Tally) -> bool
+    ensures { result ≡ options.ignore_missing && not tally.now.matched }
+{
+    options.ignore_missing && !tally.matched
 }
 
 // Says what is wrong with a list, if it is.

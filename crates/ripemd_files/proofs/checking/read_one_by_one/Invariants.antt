@@ -1,4 +1,4 @@
-use Rattle.std.proofs.Common.{◌<◌, take, length}
+use Rattle.std.proofs.Common.{take}
 use Rattle.std.specs.List.{AllZip}
 use Rattle.ripemd_files.specs.Checking.{IsOutcomeOf}
 use Rattle.ripemd_files.proofs.checking.read_one_by_one.Given as goal

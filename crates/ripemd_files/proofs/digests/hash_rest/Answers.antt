@@ -1,4 +1,4 @@
-use Rattle.std.proofs.Common.{rules, refl, inl, inr, arith, sym}
+use Rattle.std.proofs.Common.{rules, refl, inl, inr, arith}
 use Rattle.ripemd_files.proofs.Pieces.{hashed_first, hashed_more, consumed_no_more}
 use Rattle.ripemd_files.proofs.digests.hash_rest.Goals as goal
 

@@ -1,4 +1,4 @@
-use Rattle.std.proofs.Common.{◌<◌, ◌*◌, take, length}
+use Rattle.std.proofs.Common.{◌<◌, take, length}
 use Rattle.ripemd_block.specs.Standard.Hashing.{hash}
 use Rattle.ripemd_batch.specs.Lanes.{targets}
 use Rattle.std.specs.List.{AllZip}

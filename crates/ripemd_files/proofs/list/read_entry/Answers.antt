@@ -1,4 +1,4 @@
-use Rattle.std.proofs.Common.{rules, arith}
+use Rattle.std.proofs.Common.{rules}
 use Rattle.ripemd_files.proofs.Listed.{not_taken, not_counted}
 use Rattle.ripemd_files.proofs.list.read_entry.Goals as goal
 

@@ -7,6 +7,7 @@ pub lines-init : goal.lines-init
 lines-init g c = record {
   reads = rw c.in_ok-lines.ensures.items (reads_none _ _ _ _ _);
   advanced = rw c.in_ok-lines.ensures.items (λ some. absurd (omega (arith, some)));
+  bounded = rw c.in_ok-lines.ensures.items (λ some. absurd (omega (arith, some)));
   behind = omega arith;
 }
 
@@ -19,6 +20,7 @@ returns-in-Nothing g c =
       reads = reads_nothing _ _ _ _ _ _ _ _ _ before piece.0;
       ended = (refl, ended_since _ _ _ _ (taken _ _ _ _ _ (g.R.Read.remaining c.read_piece.new.reader) _ _ _ before) piece.1);
       advanced = λ never. absurd (search (rules, never));
+      bounded = λ never. absurd (search (rules, never));
     }
 
 pub returns-in-Failed : goal.returns-in-Failed
@@ -29,6 +31,7 @@ returns-in-Failed g c =
       reads = reads_failed _ _ _ _ _ _ _ _ _ c.lines.invariant.reads _ piece.1;
       ended = tt;
       advanced = λ never. absurd (search (rules, never));
+      bounded = λ never. absurd (search (rules, never));
     }
 
 pub returns-in-Last : goal.returns-in-Last
@@ -40,6 +43,7 @@ returns-in-Last g c =
       reads = reads_last _ _ _ _ _ _ _ _ _ before _ _ _ _ (rw c.as_slice.ensures.value at c.in_ok-misformatted-in-Last.ensures.takes) piece;
       ended = (refl, ended_since _ _ _ _ (taken _ _ _ _ _ (g.R.Read.remaining c.read_piece.new.reader) _ _ _ before) piece.1);
       advanced = λ never. absurd (search (rules, never));
+      bounded = λ never. absurd (search (rules, never));
     }
 
 pub returns-in-Some : goal.returns-in-Some
@@ -51,6 +55,7 @@ returns-in-Some g c =
       reads = reads_line _ _ _ _ _ _ _ _ _ c.lines.invariant.reads _ _ _ (Some c.in-Some.number) (rw (c.as_slice-in-Line.ensures.value, c.in-Some.is) at line.ensures.takes) piece;
       ended = refl;
       advanced = λ _. omega (arith, line.ensures.advances, c.lines.invariant.behind);
+      bounded = λ _. line.ensures.bound;
     }
 
 pub lines-preserved : goal.lines-preserved
@@ -60,6 +65,7 @@ lines-preserved g c =
     record {
       reads = reads_line _ _ _ _ _ _ _ _ _ c.lines.invariant.reads _ _ _ None (rw (c.as_slice-in-Line.ensures.value, c.in-None.is) at line.ensures.takes) piece;
       advanced = λ _. omega (arith, line.ensures.advances, c.lines.invariant.behind);
+      bounded = λ _. line.ensures.bound;
       behind = omega (arith, line.ensures.advances, c.lines.invariant.behind);
     }
 
@@ -69,4 +75,5 @@ returns g c = record {
   reads = c.lines.invariant.reads;
   ended = refl;
   advanced = λ _. c.lines.invariant.advanced (omega (arith, c.lines-test.false));
+  bounded = λ _. c.lines.invariant.bounded (omega (arith, c.lines-test.false));
 }

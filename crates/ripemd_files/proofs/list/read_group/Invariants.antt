@@ -1,4 +1,4 @@
-use Rattle.std.proofs.Common.{◌-◌, ◌^◌, ◌+◌, ◌≤◌, ◌<◌, ◌≡◌, [], true, length}
+use Rattle.std.proofs.Common.{◌-◌, ◌^◌, ◌≤◌, ◌<◌, [], true, length}
 use Rattle.ripemd_files.specs.Groups.{ReadsLines}
 use Rattle.ripemd_files.proofs.list.read_group.Given as goal
 
@@ -7,6 +7,7 @@ invariant-lines g l = record {
   reads : ReadsLines (g.F.Folder.place l.folder) l.ignore_missing l.rules (g.R.Read.remaining l.initial.reader) (g.R.Read.remaining l.reader)
       l.initial.cursor l.cursor l.lines.items [] true [];
   advanced : 0 < length l.lines.items → l.initial.cursor.number < l.cursor.number;
+  bounded : 0 < length l.lines.items → l.cursor.number < 2 ^ 64;
   behind : l.initial.cursor.number ≤ l.cursor.number;
 }
 

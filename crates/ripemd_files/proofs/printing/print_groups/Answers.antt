@@ -1,4 +1,4 @@
-use Rattle.std.proofs.Common.{rules, arith}
+use Rattle.std.proofs.Common.{arith}
 use Rattle.std.proofs.lemmas.List.{take_all}
 use Rattle.ripemd_files.proofs.Printed.{prints_none, prints_on}
 use Rattle.ripemd_files.proofs.printing.print_groups.Goals as goal
