@@ -24,3 +24,5 @@ pub mod Layouts
 pub mod Lists
 -- How the code reads a list.
 pub mod Groups
+-- Lines that were printed, and are checked.
+pub mod Printed

@@ -1,5 +1,5 @@
 -- What reading a file to its end comes to.
-use Rattle.std.specs.Prelude.{◌≡◌, ℕ, ◌^◌, ◌≤◌, ◌⊎◌, List, length, Option}
+use Rattle.std.specs.Prelude.{◌≡◌, ℕ, ◌^◌, ◌≤◌, ◌⊎◌, List, length, Option, None, ⊤}
 use Rattle.std.specs.Io.KnownBytes.{Consumes, IsAtEnd}
 use Rattle.std.specs.declared.io.Error.{Error}
 use Rattle.ripemd.specs.Standard.Compression.{Parameters, ripemd128, ripemd160, ripemd256, ripemd320}
@@ -41,6 +41,10 @@ pub record Place (File : Type 0) : Type 1 where
   pub refuses : List ℕ → Error → Type 0
   pub left : File → Option (List ℕ)
   pub may_fail : File → Type 0
+
+-- a folder of which nothing is known
+abbrev pub any_place : {File : Type 0} → Place File
+any_place = record { opens = λ name file. ⊤; refuses = λ name error. ⊤; left = λ file. None; may_fail = λ file. ⊤ }
 
 -- reading the file of a name comes to this digest or error
 abbrev pub ComesTo : {File : Type 0} → Place File → (List ℕ → List ℕ) → List ℕ → Outcome → Type 0

@@ -2,6 +2,7 @@
 //! RIPEMD-256 and RIPEMD-320: a digest and the name of a file.
 #![tactic(auto)]
 
+pub mod agreement;
 pub mod checking;
 pub mod digests;
 pub mod facts;
@@ -16,8 +17,6 @@ pub mod outcome;
 mod piece;
 pub mod printing;
 pub mod reading;
-#[cfg(test)]
-mod tests;
 pub mod verdict;
 pub mod writing;
 

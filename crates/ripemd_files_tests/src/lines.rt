@@ -1,6 +1,6 @@
-// That lines are written and read where memory is left, which no clause says. The digest is that of
-// the empty message, by the authors.
-use crate::{Ending, Form, Layout, Line, Variant, parse_line, write_line};
+//! Lines, written and read. The digest is that of the empty message, by the authors.
+
+use ripemd_files::{Ending, Form, Layout, Line, Variant, parse_line, write_line};
 use std::alloc::{AllocError, Global};
 use std::test::Fail;
 

@@ -1,0 +1,125 @@
+-- Lines that were printed, and are checked.
+use Rattle.std.proofs.Common.{rules, ◌≡◌, ◌≢◌, ℕ, ◌-◌, ◌*◌, ◌==◌, ◌&&◌, Bool, true, false, List, [], ◌∷◌, length, take, get_or, cond, Option, unwrap_or, refl, sym, ap, subst, ◌∙◌, arith}
+use Rattle.std.specs.List.{list_any}
+use Rattle.std.specs.Str.{bytes_eq}
+use Rattle.std.specs.Io.BufRead.{ends_with_byte, strip_last}
+use Rattle.std.proofs.lemmas.Bool.{lt-ltb, eqb-true}
+use Rattle.std.proofs.lemmas.Slice.Eq.{bytes_eq-Decides}
+use Rattle.std.proofs.lemmas.List.Folds.{list_any_at}
+use Rattle.ripemd.specs.Standard.Hashing.{ripemd}
+use Rattle.ripemd_files.specs.declared.line.Form.{Form}
+use Rattle.ripemd_files.specs.declared.line.Layout.{Layout}
+use Rattle.ripemd_files.specs.declared.line.Layout.TheVariants.{Standard}
+use Rattle.ripemd_files.specs.declared.line.Ending.TheVariants.{Newline}
+use Rattle.ripemd_files.specs.declared.line.Variant.{Variant}
+use Rattle.ripemd_files.specs.declared.list.Rules.{Rules}
+use Rattle.ripemd_files.specs.declared.outcome.Outcome.{Outcome}
+use Rattle.ripemd_files.specs.declared.outcome.Outcome.TheVariants.{Digest, Refused, Broken}
+use Rattle.ripemd_files.specs.declared.verdict.Verdict.{Verdict}
+use Rattle.ripemd_files.specs.declared.verdict.Verdict.TheVariants.{Differs, Matches, Missing, Unreadable}
+use Rattle.ripemd_files.specs.Lines.{IsLine, is_end, line_of}
+use Rattle.ripemd_files.specs.Readings.{ComesTo, Gives, Place, parameters_of}
+use Rattle.ripemd_files.specs.Checking.{checked, is_missing, verdict_of, verdict_of_digest}
+use Rattle.ripemd_files.specs.Lists.{IsEventOn, IsTaken, body_of_line}
+use Rattle.ripemd_files.specs.Printed.{IsPrinted, printed_line}
+use Rattle.ripemd_files.proofs.Written.{IsLine-line_of}
+use Rattle.ripemd_files.proofs.Ends.{no_end}
+use Rattle.ripemd_files.proofs.Sayings.{one_line}
+
+not_true : (b : Bool) → (b ≡ true → ⊥) → b ≡ false
+not_true true never = absurd (never refl)
+not_true false never = refl
+
+-- a line without the bytes that end lines has no carriage return at its end
+no_return : (line : List ℕ) → list_any is_end line ≡ false → ends_with_byte 13 line ≡ false
+no_return [] lacks = refl
+no_return (x ∷ rest) lacks =
+    let line : List ℕ = x ∷ rest in
+    let last : ℕ = get_or line (length line - 1) 0 in
+    ap (λ (b : Bool). b && (last == 13)) (lt-ltb 0 (length line) (omega arith))
+    ∙ not_true (last == 13) (λ is.
+    let end : is_end last ≡ true = subst (λ b. is_end b ≡ true) (sym (eqb-true last 13 is)) refl in
+    let found : list_any is_end line ≡ true = list_any_at is_end line (length line - 1) 0 (omega arith) end in
+    absurd (search (rules, sym found ∙ lacks)))
+
+whole_line : (line : List ℕ) → list_any is_end line ≡ false → body_of_line line ≡ line
+whole_line line lacks = ap (λ (b : Bool). cond b (take (length line - 1) line) line) (no_return line lacks)
+
+chosen : (b : Bool) (x y z : Verdict) → cond b x y ≡ z → x ≢ z → b ≡ false
+chosen true x y z is other = absurd (other is)
+chosen false x y z is other = refl
+
+unchosen : (b : Bool) (x y z : Verdict) → z ≡ cond b x y → y ≢ z → b ≡ true
+unchosen true x y z is other = refl
+unchosen false x y z is other = absurd (other (sym is))
+
+-- what came of a file whose verdict is this
+module _ {File : Type 0} (place : Place File) (hash : List ℕ → List ℕ) (name digest message : List ℕ) (same : digest ≡ hash message)
+    (ignore_missing : Bool) where
+  not_different : (outcome : Outcome) → ComesTo place hash name outcome
+      → ((given : List ℕ) → Gives (place.opens name) place.left given → given ≡ message) → verdict_of ignore_missing digest outcome ≢ Differs
+  not_different (Digest d) comes gave is =
+      let equal : d.items ≡ digest = comes.2 ∙ ap hash (gave comes.0 comes.1) ∙ sym same in
+      let differ : bytes_eq d.items digest ≡ false = chosen (bytes_eq d.items digest) Matches Differs Differs is (λ e. cc) in
+      absurd (search (rules, sym differ ∙ (bytes_eq-Decides d.items digest).1 equal))
+  not_different (Refused e) comes gave is = elim (ignore_missing && is_missing e) as (λ b. cond b Missing (Unreadable e) ≢ Differs) [
+    | true ↦ λ h. cc
+    | false ↦ λ h. cc
+  ] is
+  not_different (Broken e) comes gave is = cc
+
+  same_digest : (outcome : Outcome) → ComesTo place hash name outcome → Matches ≡ verdict_of ignore_missing digest outcome
+      → (given : List ℕ) × Gives (place.opens name) place.left given × (hash given ≡ hash message)
+  same_digest (Digest d) comes is =
+      let equal : bytes_eq d.items digest ≡ true = unchosen (bytes_eq d.items digest) Matches Differs Matches is (λ e. cc) in
+      (comes.0, comes.1, sym comes.2 ∙ (bytes_eq-Decides d.items digest).0 equal ∙ same)
+  same_digest (Refused e) comes is = absurd (elim (ignore_missing && is_missing e) as (λ b. Matches ≢ cond b Missing (Unreadable e)) [
+    | true ↦ λ h. cc
+    | false ↦ λ h. cc
+  ] is)
+  same_digest (Broken e) comes is = absurd cc
+
+module _ (kinds : Rules) (layout : Option Layout) (form : Form) (variant : Variant) (message name : List ℕ)
+    (printed : IsPrinted kinds layout form variant message name) where
+  abbrev line : List ℕ
+  line = printed_line form variant message name
+
+  abbrev digest : List ℕ
+  digest = ripemd (parameters_of variant) message
+
+  -- the line counts
+  pub printed_is_taken : IsTaken kinds layout line variant digest name
+  printed_is_taken = record {
+    is_line = subst (λ b. IsLine (unwrap_or layout Standard) b variant digest name)
+        (sym (whole_line line (no_end (unwrap_or layout Standard) form variant digest name printed.readable)))
+        (IsLine-line_of (unwrap_or layout Standard) Newline form variant digest name printed.readable);
+    wanted = printed.wanted;
+    other = printed.other;
+  }
+
+  module _ {File : Type 0} (place : Place File) (ignore_missing : Bool) (number : ℕ) (found : List ℕ) (verdict : Verdict)
+      (event : IsEventOn place ignore_missing kinds layout number line (checked found verdict)) where
+    -- it is what the event is about
+    same_line : (event.0 ≡ variant) × (event.1 ≡ digest) × (found ≡ name)
+    same_line =
+        one_line (unwrap_or layout Standard) (body_of_line line) event.0 variant event.1 digest found name event.3.is_line printed_is_taken.is_line
+
+    -- reading its file came to this
+    came_to : ComesTo place (ripemd (parameters_of variant)) name event.2
+    came_to =
+        subst (λ n. ComesTo place (ripemd (parameters_of variant)) n event.2) same_line.2
+        (subst (λ v. ComesTo place (ripemd (parameters_of v)) found event.2) same_line.0 event.4)
+
+    is_verdict : verdict ≡ verdict_of ignore_missing digest event.2
+    is_verdict = event.5 ∙ ap (λ d. verdict_of ignore_missing d event.2) same_line.1
+
+    pub no_difference : ((given : List ℕ) → Gives (place.opens name) place.left given → given ≡ message) → (found ≡ name) × (verdict ≢ Differs)
+    no_difference gave = (
+      same_line.2,
+      λ differs. not_different place (ripemd (parameters_of variant)) name digest message refl ignore_missing event.2 came_to gave (sym is_verdict ∙ differs),
+    )
+
+    pub match_gives : verdict ≡ Matches
+        → (given : List ℕ) × Gives (place.opens name) place.left given × (ripemd (parameters_of variant) given ≡ digest)
+    match_gives matches =
+        same_digest place (ripemd (parameters_of variant)) name digest message refl ignore_missing event.2 came_to (sym matches ∙ is_verdict)
