@@ -125,6 +125,8 @@ class Rooms:
         wanted, found = results
         wanted.out = wanted.out and exchanged(wanted.out, self.hash)
         wanted.error = wanted.error and exchanged(wanted.error, self.hash)
+        # A name that is not UTF-8 is refused before it is looked for.
+        found.error = found.error and found.error.replace(b": invalid filename\n", b": No such file or directory\n")
         return wanted, found
 
     def same(self, words, text=None, **options):
@@ -823,9 +825,7 @@ def test_names_in_messages(rooms):
               b"\xe2\x82", b"%s%n",
               "a\u0085b".encode(), "\u00a0".encode(), b"\xed\xa0\x80", b"a\x01'b"]
     for start in range(0, len(names), 50):
-        wanted, found = rooms.run(["--", *names[start:start + 50]])
-        found.error = found.error.replace(b": invalid filename\n", b": No such file or directory\n")
-        assert wanted == found
+        rooms.same(["--", *names[start:start + 50]])
 
 
 def test_names_that_are_not_utf8(rooms):
