@@ -5,7 +5,7 @@
 #   LIBDIR=lib         the folder of the libraries below PREFIX
 #   MODULESDIR=PREFIX/LIBDIR/ossl-modules
 #                      where the provider for OpenSSL goes; OpenSSL looks in `pkg-config --variable=modulesdir libcrypto`
-#   CPU=x86-64-v3      builds the program, libnattizhu.a and the plain shared object for processors with AVX2,
+#   CPU=x86-64-v3      builds the programs, libnattizhu.a and the plain shared object for processors with AVX2,
 #                      not for every x86-64; give it to `make install` too
 #   TARGET=aarch64-unknown-linux-gnu
 #                      `make library`, `make install-library` and `make wheel` are for ARM64, by the compiler of
@@ -21,12 +21,14 @@ SECONDS = 600
 
 PROCESSOR = $(or $(TARGET),$(CPU),x86-64)
 PROGRAM = crates/ripemd_sum/out/$(PROCESSOR)/ripemd_sum
+FILES_PROGRAMS = crates/rmdsum/out
 
 BUILT = crates/ripemd_c/out$(if $(TARGET),/$(TARGET))
 HWCAPS = glibc-hwcaps/x86-64-v3
 AT = $(DESTDIR)$(PREFIX)
 LIBRARIES = $(AT)/$(LIBDIR)
 PAGES = $(AT)/share/man
+COMPLETIONS = $(AT)/share/bash-completion/completions
 # What nattizhu.pc names as the prefix, with a backslash before each space.
 PC_PREFIX = $(subst $(subst ,, ),\\ ,$(PREFIX))
 VERSION = $(shell sed -n 's/^\#define NATTIZHU_VERSION "\(.*\)"/\1/p' crates/ripemd_c/nattizhu.h)
@@ -41,9 +43,11 @@ SITE = $(shell python3 -c 'import sys; sys.version_info < (3, 11) or \
 
 # The libraries are proved first, where they have changed.
 all: toolchain
-	@[ -z '$(TARGET)' ] || { echo 'make: the program and make install are for x86-64: leave TARGET out' >&2; exit 1; }
-	@[ -e $(PROGRAM) ] || echo 'make: proving and building the program: some minutes the first time' >&2
+	@[ -z '$(TARGET)' ] || { echo 'make: the programs and make install are for x86-64: leave TARGET out' >&2; exit 1; }
+	@[ -e $(FILES_PROGRAMS)/$(PROCESSOR)/rmdsum ] || \
+	  echo 'make: proving and building the programs: some minutes the first time' >&2
 	@build/tell build/crate ripemd_sum $(PROCESSOR) >/dev/null
+	@build/tell build/crate rmdsum $(PROCESSOR) x86-64-v3 >/dev/null
 
 toolchain:
 	@rt version >/dev/null 2>&1 || { echo 'make: the command rt of the Rattle toolchain does not run;' \
@@ -105,8 +109,14 @@ filled = sed -e 's|@PREFIX@|$(PC_PREFIX)|' -e 's|@LIBDIR@|$(LIBDIR)|' -e 's|@VER
 # These copy what is built.
 install-program: prefix
 	install -D -m 755 $(PROGRAM) "$(AT)/bin/ripemd_sum"
+	install -D -m 755 $(FILES_PROGRAMS)/$(PROCESSOR)/rmdsum "$(AT)/bin/rmdsum"
+	install -D -m 755 $(FILES_PROGRAMS)/x86-64-v3/rmdsum "$(AT)/bin/rmdsum-v3"
+	install -D -m 644 crates/rmdsum/rmdsum.bash-completion "$(COMPLETIONS)/rmdsum"
+	ln -sf rmdsum "$(COMPLETIONS)/rmdsum-v3"
 	install -d "$(PAGES)/man1"
 	$(call filled,crates/ripemd_sum/ripemd_sum.1,$(PAGES)/man1/ripemd_sum.1)
+	$(call filled,crates/rmdsum/rmdsum.1,$(PAGES)/man1/rmdsum.1)
+	ln -sf rmdsum.1 "$(PAGES)/man1/rmdsum-v3.1"
 
 install-library: prefix
 	@[ -e $(BUILT)/libnattizhu.so.0 ] || { echo 'make: there is no libnattizhu.so: it needs a C compiler' \
@@ -139,7 +149,9 @@ install-python: prefix
 	fi
 
 uninstall: prefix
-	rm -f "$(AT)/bin/ripemd_sum" "$(PAGES)/man1/ripemd_sum.1" "$(AT)/include/nattizhu.h" \
+	rm -f "$(AT)/bin/ripemd_sum" "$(AT)/bin/rmdsum" "$(AT)/bin/rmdsum-v3" "$(PAGES)/man1/ripemd_sum.1" \
+	  "$(PAGES)/man1/rmdsum.1" "$(PAGES)/man1/rmdsum-v3.1" "$(COMPLETIONS)/rmdsum" "$(COMPLETIONS)/rmdsum-v3" \
+	  "$(AT)/include/nattizhu.h" \
 	  "$(LIBRARIES)/libnattizhu.a" "$(LIBRARIES)/libnattizhu_v3.a" "$(LIBRARIES)/libnattizhu.so" \
 	  "$(LIBRARIES)/libnattizhu.so.0" "$(LIBRARIES)/$(HWCAPS)/libnattizhu.so.0" \
 	  "$(LIBRARIES)/pkgconfig/nattizhu.pc" "$(PAGES)/man3/nattizhu.3" \

@@ -182,13 +182,13 @@ def program(once):
 
 @pytest.fixture(scope="session")
 def rmdsum(once):
-    """The program rmdsum, which build/crate makes as `make` does."""
-    once("rmdsum", lambda _: run("build/crate", "rmdsum", "x86-64"))
+    """The program rmdsum, which build/crate makes as `make` does, for each x86-64 and for x86-64-v3."""
+    once("rmdsum", lambda _: run("build/crate", "rmdsum", "x86-64", "x86-64-v3"))
     return FILES_PROGRAM
 
 
 @pytest.fixture(scope="session")
-def prefix(library, program, once):
+def prefix(library, program, rmdsum, once):
     """A folder into which `make install` copied what is built."""
     parts = ["install-library", "install-python", "install-program"]
     return once("prefix", lambda folder: run("make", *parts, f"PREFIX={folder}", "DESTDIR="))

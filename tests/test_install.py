@@ -26,8 +26,21 @@ def fixture_source(tmp_path):
     return tmp_path / "example.c"
 
 
-def test_program(program, prefix):
+def test_programs(prefix):
     assert run(prefix / "bin/ripemd_sum", input="abc").stdout == ABC + "\n"
+    assert run(prefix / "bin/rmdsum", input="abc").stdout == ABC + "  -\n"
+
+
+@pytest.mark.parametrize("words, options", [
+    ("--st", ["--status", "--strict"]), ("-a ''", ["128", "160", "256", "320"]), ("--algorithm = 1", ["128", "160"]),
+    ("--algorithm =", ["128", "160", "256", "320"]), ("--p", ["--progress"]), ("a", [])])
+def test_completion(prefix, words, options):
+    """What bash completes behind the name of the program."""
+    script = f"""compopt() {{ :; }}; . "$0"
+      COMP_WORDS=(rmdsum {words}) COMP_CWORD=$((${{#COMP_WORDS[@]}} - 1)); _rmdsum; printf '%s\\n' "${{COMPREPLY[@]}}" """
+    for name in ("rmdsum", "rmdsum-v3"):
+        ended = run("bash", "-c", script, prefix / "share/bash-completion/completions" / name)
+        assert ended.stdout.split() == options
 
 
 def by_pkg_config(prefix, source):
@@ -82,7 +95,10 @@ def test_shared_library_by_processor(prefix, source, processor):
 @pytest.mark.parametrize("processor", PROCESSORS)
 def test_program_by_processor(prefix, processor):
     need("qemu-x86_64", "qemu-user")
-    assert run("qemu-x86_64", "-cpu", processor, prefix / "bin/ripemd_sum", input="abc").stdout == ABC + "\n"
+    emulator = ["qemu-x86_64", "-cpu", processor]
+    assert run(*emulator, prefix / "bin/ripemd_sum", input="abc").stdout == ABC + "\n"
+    for name in ["rmdsum", "rmdsum-v3"] if PROCESSORS[processor] else ["rmdsum"]:
+        assert run(*emulator, prefix / f"bin/{name}", input="abc").stdout == ABC + "  -\n"
 
 
 def test_exported_names(prefix):

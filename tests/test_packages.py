@@ -12,7 +12,7 @@ from conftest import ABC, DATA, ROOT, need, need_arm64, programs, run, version
 from test_openssl import PAGE
 
 ARCHIVE = f"nattizhu-{version()}-linux-x86_64"
-PAGES = {"x86_64": ["nattizhu.3", "ripemd_sum.1"], "aarch64": ["nattizhu.3"]}
+PAGES = {"x86_64": ["nattizhu.3", "ripemd_sum.1", "rmdsum.1"], "aarch64": ["nattizhu.3"]}
 # For each machine and file, the version of the C library that it needs by docs/PACKAGES.md.
 OLDEST = [(machine, name, needed) for name, *versions in re.findall(
     r"^\| `([^`]+)`[^|]* \| ([0-9.]+) \| ([0-9.]*) ?\|$", (ROOT / "docs/PACKAGES.md").read_text("utf-8"), re.MULTILINE)
@@ -33,7 +33,7 @@ def bootstrap(folder):
 
 
 @pytest.fixture(name="debian", scope="session", autouse=True)
-def fixture_debian(request, library, program, once):
+def fixture_debian(request, library, program, rmdsum, once):
     """The root of a fresh Debian, which is made while other tests run, if one of those that are to run uses it."""
     used = any("shell" in test.fixturenames for test in request.session.items)
     with concurrent.futures.ThreadPoolExecutor() as pool:
@@ -44,7 +44,7 @@ def fixture_debian(request, library, program, once):
 
 
 @pytest.fixture(name="dist", scope="module")
-def fixture_dist(library, program, wasm, once):
+def fixture_dist(library, program, rmdsum, wasm, once):
     return once("dist", lambda folder: run("build/dist", folder))
 
 
@@ -52,7 +52,8 @@ def fixture_dist(library, program, wasm, once):
 def fixture_again(dist, once):
     """What build/dist makes of the same tree and of what is built, copied to another folder."""
     copy = """mkdir -p "$0" && { git ls-files -z --cached --others --exclude-standard &&
-      find .git crates/ripemd_{c/out/{lib,glibc,ossl,aarch64}*,js/out/wasm64*,sum/out/x86-64/ripemd_sum} -type f -print0; } |
+      find .git crates/{ripemd_{c/out/{lib,glibc,ossl,aarch64}*,js/out/wasm64*,sum/out/x86-64/ripemd_sum},rmdsum/out/x86-64*/rmdsum} \
+        -type f -print0; } |
       xargs -0 cp --parents -t "$0"; "$0/build/dist" "$0/dist" """
     return once("again", lambda folder: run("bash", "-c", copy, folder)) / "dist"
 
@@ -160,8 +161,9 @@ def uses_shared_library(shell, build, libraries, flags, environment=""):
     assert len(taken) == 1 and taken[0].endswith(f"/{place}/libnattizhu.so.0")
 
 
-def test_program_of_the_archive(shell):
+def test_programs_of_the_archive(shell):
     assert shell(f"printf abc | {ARCHIVE}/bin/ripemd_sum") == ABC + "\n"
+    assert shell(f"printf abc | {ARCHIVE}/bin/rmdsum") == ABC + "  -\n"
 
 
 def test_static_library_of_the_archive(shell):
@@ -227,6 +229,7 @@ def test_debian_packages(debian, shell, debs):
     debian.result()
     with installed(shell, [deb for deb in debs if deb.name.endswith("_amd64.deb")]):
         assert shell("printf abc | ripemd_sum") == ABC + "\n"
+        assert shell("printf abc | rmdsum") == ABC + "  -\n"
         for build in sorted({"x86-64", newest()}):
             uses_shared_library(shell, build, "lib/x86_64-linux-gnu", "$(pkg-config --cflags --libs nattizhu)")
         assert shell("python3 first.py") == ABC + "\n"

@@ -19,6 +19,7 @@ PROVED = {
 
 # What names the version beside nattizhu.h, from which everything else has it.
 VERSIONS = {
+    "crates/rmdsum/src/help.rt": r'"rmdsum \(Nattizhu\) (.*)$',
     "rust/Cargo.toml": r'^version = "(.*)"$',
     "js/package.json": r'^  "version": "(.*)",$',
     "CHANGELOG.md": r"^## (.*)$",

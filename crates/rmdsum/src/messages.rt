@@ -131,21 +131,19 @@ fn push_complaint(
     }
 }
 
-// Adds a colon and the text of an error, without its number.
+// Adds a colon and the text of an error.
 fn push_error(rt: &HostRuntime, text: &mut Vec<u8>, error: io::Error) -> io::Result<()> {
     let whole = format!(in rt.alloc(); ": {error}")?;
-    text.extend_from_slice(without_number(whole.as_bytes()))?;
+    text.extend_from_slice(without_number(whole.as_str()).as_bytes())?;
     Ok(())
 }
 
 // The text of an error without its number.
-fn without_number(text: &[u8]) -> &[u8] {
-    for end in 0..text.len() {
-        if text[end..].starts_with(b" (os error ") {
-            return &text[..end];
-        }
+fn without_number(text: &str) -> &str {
+    match text.split_once(" (os error ") {
+        Some((words, _)) => words,
+        None => text,
     }
-    text
 }
 
 /// The remarks of a run, on standard error.
