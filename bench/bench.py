@@ -19,11 +19,13 @@ import tempfile
 ROOT = pathlib.Path(__file__).resolve().parent.parent
 MIB = 256
 RUNS = 7
+SMALL_FILES = 10000
 DEFAULT = "x86-64"
 ROUNDS = 400000
 
 # What hashes its standard input: ours as built for a level, for each variant, and others by RIPEMD-160 alone.
 OURS = {"the library": "ripemd_bench", "ripemd_sum": "ripemd_sum"}
+FILES_PROGRAM = "rmdsum"
 OTHERS = [["openssl", "dgst", "-rmd160"], ["rhash", "--ripemd160", "-"], ["gpg", "--print-md", "RIPEMD160"]]
 
 
@@ -46,15 +48,17 @@ def machine():
 
 def build(levels):
     """The program and ripemd_bench as built for each level, by name and level."""
-    for name in OURS.values():
+    names = [*OURS.values(), FILES_PROGRAM]
+    for name in names:
         subprocess.run([ROOT / "build/tell", ROOT / "build/crate", name, *levels], stdout=subprocess.DEVNULL, check=True)
-    return {(name, level): ROOT / "crates" / name / "out" / level / name for name in OURS.values() for level in levels}
+    return {(name, level): ROOT / "crates" / name / "out" / level / name for name in names for level in levels}
 
 
-def processor_time(command, message):
+def processor_time(command, message=None):
     """Seconds of a run with this file as standard input."""
-    message.seek(0)
-    running = subprocess.Popen(command, stdin=message, stdout=subprocess.DEVNULL, stderr=subprocess.DEVNULL)
+    if message:
+        message.seek(0)
+    running = subprocess.Popen(command, stdin=message or subprocess.DEVNULL, stdout=subprocess.DEVNULL, stderr=subprocess.DEVNULL)
     _, status, used = os.wait4(running.pid, 0)
     running.returncode = os.waitstatus_to_exitcode(status)
     if running.returncode:
@@ -80,6 +84,29 @@ def by_program(levels, programs):
     table(["variant", "what", "processor time", "MB/s", "time, of the first row's"],
           *([variant, what, f"{time:.2f} s", f"{MIB * 2**20 / time / 1e6:.0f}", f"{time / first[variant]:.2f}"]
             for (variant, what, _), time in zip(rows, least)))
+
+
+def by_files(levels, programs):
+    """rmdsum beside other programs, on files in memory: the least of runs in turn."""
+    rows = [(f"rmdsum, built for {level}", [programs[FILES_PROGRAM, level]]) for level in levels]
+    rows += [(words[0], words) for words in (["rhash", "--ripemd160"], ["openssl", "dgst", "-rmd160"], ["sha256sum"])
+             if shutil.which(words[0])]
+    columns = []
+    with tempfile.TemporaryDirectory(dir="/dev/shm") as name:
+        folder = pathlib.Path(name)
+        small = [folder / f"{i:04}" for i in range(SMALL_FILES)]
+        for i, path in enumerate(small):
+            path.write_bytes(i.to_bytes(4, "little") * 1024)
+        large = folder / "large"
+        with large.open("wb") as file:
+            for _ in range(1024):
+                file.write(b"a" * 2**20)
+        for paths in small, [large]:
+            runs = [[processor_time([*words, *paths]) for _, words in rows] for _ in range(RUNS)]
+            columns.append([min(times) for times in zip(*runs)])
+    title("Files, RIPEMD-160, processor time in seconds")
+    table(["", f"{SMALL_FILES:,} files of 4 KiB", "one file of 1 GiB"],
+          *([name, f"{few:.3f}", f"{one:.2f}"] for (name, _), few, one in zip(rows, *columns)))
 
 
 def rows_of(program, what):
@@ -214,6 +241,7 @@ def main():
             by_rust(folder)
         by_javascript(folder)
         by_program(levels, programs)
+        by_files(levels, programs)
 
 
 if __name__ == "__main__":

@@ -130,10 +130,7 @@ fn argument(env: &impl Env, alloc: Global, place: usize) -> Result<Option<Vec<u8
     for bits in 8..48u32 {
         let mut buffer = vec![in alloc; 0; 1usize << bits]?;
         match env.arg(place, buffer.as_mut_slice()) {
-            Ok(length) => {
-                buffer.truncate(length);
-                return Ok(Some(buffer));
-            }
+            Ok(length) => return Ok(Some(Vec::from_slice(alloc, &buffer[..length])?)),
             Err(FillError::NotPresent) => return Ok(None),
             Err(FillError::TooLong) => {}
         }
