@@ -14,13 +14,13 @@ ghost use Rattle.ripemd_files.specs.Checking.{ChecksLines, IsOutcomeOf, checked,
 use crate::digests::{read_digest, read_digests};
 use crate::fault::Fault;
 use crate::folder::Folder;
-use crate::line::{Ending, Layout, Line, Variant};
+use crate::line::{Layout, Line, Variant};
 use crate::list::{Cursor, Group, Next, Rules, read_group};
 use crate::log::{Complaint, Log};
 use crate::outcome::Outcome;
 use crate::printing::{BUFFER, new_buffer, put, remark, remark_unreadable};
 use crate::verdict::{Options, Tally, Verdict};
-use crate::writing::{needs_mark, push_text};
+use crate::writing::push_text;
 use std::alloc::{AllocError, Global};
 use std::io::{BufRead, Write};
 
@@ -342,7 +342,7 @@ fn report(alloc: Global, quiet: bool, name: &[u8], verdict: Verdict) -> Result<V
 fn shown_with(alloc: Global, name: &[u8], behind: &[u8]) -> Result<Vec<u8>, AllocError>
     ensures { IfOk result (λ line. line.items ≡ shown name.now ++ behind.now) }
 {
-    let marked = needs_mark(Ending::Newline, name);
+    let marked = name.iter().any(|byte| *byte == b'\n');
     let mut line = Vec::new(alloc);
     if marked {
         line.push(b'\\')?;
