@@ -24,3 +24,5 @@ pub mod Layouts
 pub mod Lists
 -- How the code reads a list.
 pub mod Groups
+-- Checks of lists, worked.
+pub mod WorkedChecks

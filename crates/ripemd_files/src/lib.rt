@@ -2,6 +2,7 @@
 //! RIPEMD-256 and RIPEMD-320: a digest and the name of a file.
 #![tactic(auto)]
 
+pub mod check_facts;
 pub mod checking;
 pub mod digests;
 pub mod facts;

@@ -1,0 +1,45 @@
+//! What is proved of the definitions of checks: worked cases. The functions do nothing; their contracts
+//! are the facts.
+
+ghost use Rattle.std.specs.Prelude.{ℕ, List, [], ◌∷◌, Bool};
+ghost use Rattle.std.specs.declared.io.Error.{Error};
+ghost use Rattle.ripemd_files.specs.declared.outcome.Outcome.{Outcome};
+ghost use Rattle.ripemd_files.specs.declared.printing.Style.{Style};
+ghost use Rattle.ripemd_files.specs.Contents.{IsDigest};
+ghost use Rattle.ripemd_files.specs.Checking.{Event};
+ghost use Rattle.ripemd_files.specs.WorkedChecks.{DigestVerdicts, ErrorVerdicts, LinesOfEvents, RemarksOnEvents, Tallies, OtherTallies, LongCounts, ClosingRemarks, Answers, PassedOver, Bodies, NextLayouts, Wanted, PrintedLines, PrintedErrors};
+
+/// What a check finds of files.
+pub fn worked_verdicts()
+    ensures digests { (ignore_missing : Bool) (outcome : Outcome) → IsDigest outcome (1 ∷ 2 ∷ 3 ∷ []) → DigestVerdicts ignore_missing outcome }
+    ensures errors { (error : Error) → ErrorVerdicts error }
+{}
+
+/// What is said of them.
+pub fn worked_events()
+    ensures lines { (error : Error) → LinesOfEvents error }
+    ensures remarks { (error : Error) → RemarksOnEvents error }
+{}
+
+/// What is counted, said at the end, and answered.
+pub fn worked_counts()
+    ensures tallies { (error : Error) → Tallies error }
+    ensures others { (error : Error) → OtherTallies error }
+    ensures long { (events : List Event) → LongCounts events }
+    ensures remarks { ClosingRemarks }
+    ensures answers { Answers }
+{}
+
+/// Which lines of a list are passed over, what the others say, and the layout of a list.
+pub fn worked_lists()
+    ensures passed { PassedOver }
+    ensures bodies { Bodies }
+    ensures layouts { NextLayouts }
+    ensures wanted { Wanted }
+{}
+
+/// What is printed of files.
+pub fn worked_prints()
+    ensures lines { (outcome : Outcome) → IsDigest outcome (0x01 ∷ 0xab ∷ []) → PrintedLines outcome }
+    ensures errors { (style : Style) (error : Error) → PrintedErrors style error }
+{}
