@@ -13,3 +13,4 @@ pub mod Cutting
 pub mod Layouts
 pub mod Listed
 pub mod Grouped
+pub mod Toys

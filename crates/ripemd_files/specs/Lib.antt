@@ -26,3 +26,5 @@ pub mod Lists
 pub mod Groups
 -- Checks of lists, worked.
 pub mod WorkedChecks
+-- Reports on lists, worked.
+pub mod WorkedReports

@@ -1,13 +1,16 @@
 //! What is proved of the definitions of checks: worked cases. The functions do nothing; their contracts
 //! are the facts.
 
-ghost use Rattle.std.specs.Prelude.{ℕ, List, [], ◌∷◌, Bool};
+ghost use Rattle.std.specs.Prelude.{ℕ, List, [], ◌∷◌, Bool, codes};
 ghost use Rattle.std.specs.declared.io.Error.{Error};
 ghost use Rattle.ripemd_files.specs.declared.outcome.Outcome.{Outcome};
 ghost use Rattle.ripemd_files.specs.declared.printing.Style.{Style};
 ghost use Rattle.ripemd_files.specs.Contents.{IsDigest};
 ghost use Rattle.ripemd_files.specs.Checking.{Event};
 ghost use Rattle.ripemd_files.specs.WorkedChecks.{DigestVerdicts, ErrorVerdicts, LinesOfEvents, RemarksOnEvents, Tallies, OtherTallies, LongCounts, ClosingRemarks, Answers, PassedOver, Bodies, NextLayouts, Wanted, PrintedLines, PrintedErrors};
+ghost use Rattle.ripemd_files.specs.WorkedReports.{toy, DigestsOfAbc, ErrorsOfAbc, LongFiles, TakenLines, OtherReports, ReadLists, CheckedLists, FailedList};
+ghost use Rattle.ripemd_files.specs.Worked.{digest_of};
+ghost use Rattle.ripemd_files.specs.declared.line.Variant.TheVariants.{R128};
 
 /// What a check finds of files.
 pub fn worked_verdicts()
@@ -42,4 +45,20 @@ pub fn worked_lists()
 pub fn worked_prints()
     ensures lines { (outcome : Outcome) → IsDigest outcome (0x01 ∷ 0xab ∷ []) → PrintedLines outcome }
     ensures errors { (style : Style) (error : Error) → PrintedErrors style error }
+{}
+
+/// What reading files comes to.
+pub fn worked_readings()
+    ensures digests { (outcome : Outcome) → IsDigest outcome (toy (codes "abc")) → DigestsOfAbc outcome }
+    ensures errors { (error : Error) → ErrorsOfAbc error }
+    ensures long { (bytes : List ℕ) (error : Error) → LongFiles bytes error }
+{}
+
+/// What the lines of lists say, and what comes of them.
+pub fn worked_reports()
+    ensures taken { TakenLines }
+    ensures others { OtherReports }
+    ensures read { ReadLists }
+    ensures checked { (outcome : Outcome) → IsDigest outcome (digest_of R128) → CheckedLists outcome }
+    ensures failed { FailedList }
 {}
