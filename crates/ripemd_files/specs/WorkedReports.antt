@@ -4,7 +4,10 @@ use Rattle.std.specs.Prelude.{◌≡◌, ℕ, List, [], ◌∷◌, ◌++◌, cod
 use Rattle.std.specs.IoError.{error_kind}
 use Rattle.std.specs.declared.io.Error.{Error}
 use Rattle.std.specs.declared.io.ErrorKind.TheVariants as kinds
-use Rattle.ripemd_files.specs.declared.line.Variant.TheVariants.{R128, R160}
+use Rattle.ripemd_files.specs.declared.line.Variant.TheVariants.{R128, R160, R256, R320}
+use Rattle.ripemd.specs.Standard.Hashing.{ripemd}
+use Rattle.ripemd_files.specs.declared.line.Form.TheVariants.{Text}
+use Rattle.ripemd_files.specs.declared.line.Ending.TheVariants.{Newline}
 use Rattle.ripemd_files.specs.declared.line.Layout.{Layout}
 use Rattle.ripemd_files.specs.declared.line.Layout.TheVariants.{Standard, Reversed}
 use Rattle.ripemd_files.specs.declared.list.Rules.{Rules}
@@ -12,9 +15,10 @@ use Rattle.ripemd_files.specs.declared.log.Complaint.TheVariants as complaints
 use Rattle.ripemd_files.specs.declared.outcome.Outcome.{Outcome}
 use Rattle.ripemd_files.specs.declared.outcome.Outcome.TheVariants.{Refused, Broken}
 use Rattle.ripemd_files.specs.declared.verdict.Options.{Options}
-use Rattle.ripemd_files.specs.declared.verdict.Verdict.TheVariants.{Matches, Differs}
-use Rattle.ripemd_files.specs.Readings.{Place, ComesTo}
-use Rattle.ripemd_files.specs.Said.{Remark, about_list}
+use Rattle.ripemd_files.specs.declared.verdict.Verdict.TheVariants.{Matches, Differs, Missing, Unreadable}
+use Rattle.ripemd_files.specs.Readings.{Place, ComesTo, parameters_of}
+use Rattle.ripemd_files.specs.Said.{Adds, Remark, about_list, unreadable}
+use Rattle.ripemd_files.specs.Printing.{PrintsAll}
 use Rattle.ripemd_files.specs.Checking.{Event, checked, misformatted}
 use Rattle.ripemd_files.specs.Lists.{ChecksList, IsTaken, Reports, WasRead}
 use Rattle.ripemd_files.specs.Worked.{digest_of, digits_of, digits_then}
@@ -64,6 +68,13 @@ pub record ErrorsOfAbc (error : Error) : Type 0 where
   pub broken_elsewhere : ¬ ComesTo (folder (codes "abc") (λ file. file ≡ codes "abcd")) toy (codes "a") (Broken error)
   pub broken_by_name : ¬ ComesTo (folder (codes "abc") (λ file. file ≡ codes "c")) toy (codes "b") (Broken error)
   pub not_broken : ¬ Comes (codes "abc") (codes "a") (Broken error)
+
+-- the digests of "abc", by the authors
+pub record Hashes : Type 0 where
+  pub of128 : ripemd (parameters_of R128) (codes "abc") ≡ digest_of R128
+  pub of160 : ripemd (parameters_of R160) (codes "abc") ≡ digest_of R160
+  pub of256 : ripemd (parameters_of R256) (codes "abc") ≡ digest_of R256
+  pub of320 : ripemd (parameters_of R320) (codes "abc") ≡ digest_of R320
 
 -- files whose length in bits fits into 64 bits, or does not
 pub record LongFiles (bytes : List ℕ) (error : Error) : Type 0 where
@@ -159,3 +170,67 @@ pub record CheckedLists (outcome : Outcome) : Type 0 where
 -- a list that has an end that was not read does not succeed
 abbrev pub FailedList : Type 0
 FailedList = (last : Option Layout) (text : List ℕ) (remarks : List Remark) → ¬ Checks plain (good_list ++ codes "x") (codes "x") last text remarks true
+
+-- and a list of one good line says and answers nothing else
+pub record OtherChecks : Type 0 where
+  pub nothing_said : ¬ Checks plain good_list [] (Some Standard) [] (about_list complaints.NoLines ∷ []) false
+  pub other_text : ¬ Checks plain good_list [] (Some Standard) (codes "a: FAILED\n") [] true
+  pub other_remark : ¬ Checks plain good_list [] (Some Standard) (codes "a: OK\n") (about_list (complaints.Mismatches 1) ∷ []) false
+  pub other_answer : ¬ Checks plain good_list [] (Some Standard) (codes "a: OK\n") [] false
+  pub other_layout : ¬ Checks plain good_list [] None (codes "a: OK\n") [] true
+
+-- ---- other lists
+
+abbrev pub reversed_line : List ℕ
+reversed_line = digits_of R128 ++ codes " a"
+
+-- a line of the file that is not there
+abbrev pub missing_line : List ℕ
+missing_line = digits_of R128 ++ codes "  b"
+
+-- this event comes of a line alone
+abbrev pub ComesOf : Bool → List ℕ → Event → Option Layout → Type 0
+ComesOf ignore_missing line event last = Reports (sound (codes "abc")) ignore_missing all_lines None 1 (line ∷ []) (event ∷ []) last
+
+-- in a list of reversed lines, two spaces are one and the first byte of a name
+pub record ReversedLists (outcome : Outcome) : Type 0 where
+  pub first : ComesOf false reversed_line good (Some Reversed)
+  pub later : ¬ Reports (sound (codes "abc")) false all_lines None 1 (reversed_line ∷ good_line ∷ []) (good ∷ good ∷ []) (Some Reversed)
+
+pub record MissingFiles (error : Error) : Type 0 where
+  pub said : ComesOf false missing_line (checked (codes "b") (Unreadable error)) (Some Standard)
+  pub left_out : ComesOf true missing_line (checked (codes "b") Missing) (Some Standard)
+  pub not_left_out : ¬ ComesOf false missing_line (checked (codes "b") Missing) (Some Standard)
+
+-- ---- what is written and remarked
+
+pub record Growths : Type 0 where
+  pub added : Adds {A = ℕ} (Some (1 ∷ [])) (Some (1 ∷ 2 ∷ 3 ∷ [])) (2 ∷ 3 ∷ [])
+  pub added_in_front : ¬ Adds {A = ℕ} (Some (1 ∷ [])) (Some (2 ∷ 1 ∷ [])) (2 ∷ [])
+  pub not_added : ¬ Adds {A = ℕ} (Some (1 ∷ [])) (Some (1 ∷ [])) (2 ∷ [])
+  pub lost : ¬ Adds {A = ℕ} (Some []) None []
+  pub never_known : Adds {A = ℕ} None (Some (1 ∷ [])) []
+
+-- ---- what is printed
+
+-- the lines of the files of these names by RIPEMD-128, with what is remarked, and whether all were read
+abbrev pub Prints : List (List ℕ) → List ℕ → List Remark → Bool → Type 0
+Prints names text remarks all =
+    PrintsAll (sound (codes "abc")) (record { variant = R128; form = Text; ending = Newline }) names (Some []) (Some text) (Some []) (Some remarks)
+    all
+
+abbrev pub printed_line : List ℕ
+printed_line = good_line ++ codes "\n"
+
+pub record PrintedFiles (outcome : Outcome) (error : Error) : Type 0 where
+  pub no_files : Prints [] [] [] true
+  pub one : Prints (codes "a" ∷ []) printed_line [] true
+  pub one_is_missing : Prints (codes "a" ∷ codes "b" ∷ []) printed_line (unreadable (codes "b") error ∷ []) false
+
+pub record OtherPrints : Type 0 where
+  pub not_all : ¬ Prints (codes "a" ∷ []) printed_line [] false
+  pub no_line : ¬ Prints (codes "a" ∷ []) [] [] true
+  pub twice : ¬ Prints (codes "a" ∷ []) (printed_line ++ printed_line) [] true
+  pub wrong_line : ¬ Prints (codes "a" ∷ []) (wrong_line ++ codes "\n") [] true
+  pub not_said : ¬ Prints (codes "b" ∷ []) [] [] false
+  pub missing : ¬ Prints (codes "b" ∷ []) [] [] true

@@ -1,14 +1,16 @@
 //! What is proved of the definitions of checks: worked cases. The functions do nothing; their contracts
 //! are the facts.
 
-ghost use Rattle.std.specs.Prelude.{ℕ, List, [], ◌∷◌, Bool, codes};
+ghost use Rattle.std.specs.Prelude.{◌≡◌, ℕ, List, [], ◌∷◌, Bool, codes};
 ghost use Rattle.std.specs.declared.io.Error.{Error};
+ghost use Rattle.std.specs.declared.io.ErrorKind.TheVariants.{NotFound};
+ghost use Rattle.std.specs.IoError.{error_kind};
 ghost use Rattle.ripemd_files.specs.declared.outcome.Outcome.{Outcome};
 ghost use Rattle.ripemd_files.specs.declared.printing.Style.{Style};
 ghost use Rattle.ripemd_files.specs.Contents.{IsDigest};
 ghost use Rattle.ripemd_files.specs.Checking.{Event};
 ghost use Rattle.ripemd_files.specs.WorkedChecks.{DigestVerdicts, ErrorVerdicts, LinesOfEvents, RemarksOnEvents, Tallies, OtherTallies, LongCounts, ClosingRemarks, Answers, PassedOver, Bodies, NextLayouts, Wanted, PrintedLines, PrintedErrors};
-ghost use Rattle.ripemd_files.specs.WorkedReports.{toy, DigestsOfAbc, ErrorsOfAbc, LongFiles, TakenLines, OtherReports, ReadLists, CheckedLists, FailedList};
+ghost use Rattle.ripemd_files.specs.WorkedReports.{Hashes, OtherChecks, Growths, ReversedLists, MissingFiles, PrintedFiles, OtherPrints, toy, DigestsOfAbc, ErrorsOfAbc, LongFiles, TakenLines, OtherReports, ReadLists, CheckedLists, FailedList};
 ghost use Rattle.ripemd_files.specs.Worked.{digest_of};
 ghost use Rattle.ripemd_files.specs.declared.line.Variant.TheVariants.{R128};
 
@@ -49,6 +51,7 @@ pub fn worked_prints()
 
 /// What reading files comes to.
 pub fn worked_readings()
+    ensures hashes { Hashes }
     ensures digests { (outcome : Outcome) → IsDigest outcome (toy (codes "abc")) → DigestsOfAbc outcome }
     ensures errors { (error : Error) → ErrorsOfAbc error }
     ensures long { (bytes : List ℕ) (error : Error) → LongFiles bytes error }
@@ -61,4 +64,19 @@ pub fn worked_reports()
     ensures read { ReadLists }
     ensures checked { (outcome : Outcome) → IsDigest outcome (digest_of R128) → CheckedLists outcome }
     ensures failed { FailedList }
+    ensures other_checks { OtherChecks }
+{}
+
+/// What comes of reversed lines, and of files that are not there.
+pub fn worked_rest()
+    ensures growths { Growths }
+    ensures reversed { (outcome : Outcome) → IsDigest outcome (digest_of R128) → ReversedLists outcome }
+    ensures missing { (error : Error) → error_kind error ≡ NotFound → MissingFiles error }
+{}
+
+/// What is printed of several files.
+pub fn worked_files()
+    ensures printed { (outcome : Outcome) (error : Error) → IsDigest outcome (digest_of R128) → error_kind error ≡ NotFound
+        → PrintedFiles outcome error }
+    ensures others { OtherPrints }
 {}

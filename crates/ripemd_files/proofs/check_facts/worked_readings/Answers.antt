@@ -1,11 +1,17 @@
 use Rattle.std.proofs.Common.{ℕ, List, [], codes, length, refl, sym, ap, ◌∙◌, arith, inl, inr}
 use Rattle.std.specs.Prelude.{slice_index}
 use Rattle.std.proofs.lemmas.List.{append-nil, length-append}
+use Rattle.ripemd.specs.Standard.Compression.{registers_after, lines_after, compress}
+use Rattle.ripemd.specs.Standard.Hashing.{with_padding, blocks, hash}
 use Rattle.ripemd_files.specs.declared.outcome.Outcome.TheVariants.{Digest, Refused, Broken}
 use Rattle.ripemd_files.specs.Checking.{is_not_found}
 use Rattle.ripemd_files.specs.WorkedReports.{toy}
 use Rattle.ripemd_files.proofs.Toys.{gave_all, not_broken}
 use Rattle.ripemd_files.proofs.check_facts.worked_readings.Goals as goal
+
+pub returns-clause-hashes : goal.returns-clause-hashes
+unfolding registers_after lines_after compress with_padding blocks hash
+returns-clause-hashes c = record { of128 = refl; of160 = refl; of256 = refl; of320 = refl }
 
 pub returns-clause-digests : goal.returns-clause-digests
 returns-clause-digests c (Digest digest) is = record {

@@ -1,30 +1,26 @@
-use Rattle.std.proofs.Common.{rules, get_or, ◌≡◌, ℕ, List, [], ◌∷◌, ◌++◌, codes, length, Option, Some, None, Bool, true, false, refl, sym, ap, subst, ◌∙◌, arith}
-use Rattle.std.specs.Prelude.{slice_index, is_some, ◌&&◌}
-use Rattle.std.proofs.lemmas.List.{length-append}
+use Rattle.std.proofs.Common.{rules, inl, inr, get_or, ◌≡◌, ℕ, List, [], ◌∷◌, ◌++◌, codes, length, Option, Some, None, Bool, true, false, refl, sym, ap, subst, ◌∙◌, arith}
+use Rattle.std.specs.Prelude.{slice_index, is_some, flat_map, ◌&&◌, ◌⊎◌}
+use Rattle.ripemd_files.specs.declared.log.Complaint.{Complaint}
+use Rattle.ripemd_files.specs.declared.log.Complaint.TheVariants as complaints
+use Rattle.ripemd_files.specs.Said.{Remark, about_list, unreadable}
+use Rattle.std.proofs.lemmas.List.{append-nil, length-append}
 use Rattle.hex.specs.Hex.{decode_pairs}
-use Rattle.ripemd.specs.Standard.Compression.{registers_after, lines_after, compress}
-use Rattle.ripemd.specs.Standard.Hashing.{with_padding, blocks, hash, ripemd}
 use Rattle.ripemd_files.specs.declared.line.Layout.{Layout}
 use Rattle.ripemd_files.specs.declared.line.Layout.TheVariants.{Standard}
-use Rattle.ripemd_files.specs.declared.line.Variant.{Variant}
 use Rattle.ripemd_files.specs.declared.line.Variant.TheVariants.{R128}
 use Rattle.ripemd_files.specs.declared.outcome.Outcome.{Outcome}
-use Rattle.ripemd_files.specs.declared.outcome.Outcome.TheVariants.{Digest, Refused, Broken}
 use Rattle.ripemd_files.specs.declared.verdict.Tally.{Tally}
-use Rattle.ripemd_files.specs.declared.verdict.Verdict.{Verdict}
-use Rattle.ripemd_files.specs.Lines.{IsLine}
 use Rattle.ripemd_files.specs.Reading.{skip_blanks, split_blank, split_close, strip_tag, untagged_at, tagged_at, found_at, digest_at, unescaped, name_at, said_by}
 use Rattle.ripemd_files.specs.Layouts.{layout_at}
 use Rattle.ripemd_files.specs.Splitting.{lines_of}
-use Rattle.ripemd_files.specs.Readings.{ComesTo, parameters_of}
-use Rattle.ripemd_files.specs.Checking.{Event, checked, misformatted, is_match, is_success, verdict_of, verdict_of_digest}
+use Rattle.ripemd_files.specs.Checking.{Event, checked, misformatted, is_match, is_success, IsTally, closing_remarks, line_of_event, remarks_on_event}
 use Rattle.ripemd_files.specs.Contents.{IsDigest}
-use Rattle.ripemd_files.specs.Lists.{IsEventOn, IsTaken, Reports, WasRead, body_of_line}
+use Rattle.ripemd_files.specs.Lists.{IsEventOn, Reports, WasRead, last_remarks}
 use Rattle.ripemd_files.specs.Worked.{digest_of}
 use Rattle.ripemd_files.specs.WorkedChecks.{all_lines, plain, tally}
-use Rattle.ripemd_files.specs.WorkedReports.{Come, good, good_line, good_list, wrong, wrong_line, some_list, sound}
-use Rattle.ripemd_files.proofs.Sayings.{IsLine-said, no_line, one_line}
-use Rattle.ripemd_files.proofs.Toys.{gave_all, not_broken}
+use Rattle.ripemd_files.specs.WorkedReports.{Checks, Come, good, good_line, good_list, wrong, wrong_line, some_list, sound}
+use Rattle.ripemd_files.proofs.Sayings.{IsLine-said, no_line}
+use Rattle.ripemd_files.proofs.Toys.{good_is, wrong_is, bad_is, wrong_digest, taken, judged, judged_so}
 use Rattle.ripemd_files.proofs.check_facts.worked_reports.Goals as goal
 
 pub returns-clause-taken : goal.returns-clause-taken
@@ -55,76 +51,6 @@ returns-clause-read c = record {
   not_the_front = λ all. omega (arith, ap (λ (bytes : List ℕ). slice_index bytes 0) all.1);
   too_much = λ all. omega (arith, ap (λ (bytes : List ℕ). length bytes) all.1, length-append all.0 (codes "c"));
 }
-
--- ---- what the lines say
-
-good_is : IsLine Standard good_line R128 (digest_of R128) (codes "a")
-unfolding skip_blanks split_blank split_close strip_tag untagged_at tagged_at found_at digest_at unescaped name_at said_by decode_pairs
-good_is = IsLine-said _ _ _ refl
-
-abbrev wrong_digest : List ℕ
-wrong_digest = 0xd1 ∷ 0x4a ∷ 0x12 ∷ 0x19 ∷ 0x9c ∷ 0x66 ∷ 0xe4 ∷ 0xba ∷ 0x84 ∷ 0x63 ∷ 0x6b ∷ 0x0f ∷ 0x69 ∷ 0x14 ∷ 0x4c ∷ 0x77 ∷ []
-
-wrong_is : IsLine Standard wrong_line R128 wrong_digest (codes "a")
-unfolding skip_blanks split_blank split_close strip_tag untagged_at tagged_at found_at digest_at unescaped name_at said_by decode_pairs
-wrong_is = IsLine-said _ _ _ refl
-
-bad_is : (variant : Variant) (digest name : List ℕ) → ¬ IsLine Standard (codes "bad") variant digest name
-unfolding skip_blanks split_blank split_close strip_tag untagged_at tagged_at found_at digest_at unescaped name_at said_by decode_pairs
-bad_is = no_line _ _ refl
-
-hash_of_abc : ripemd (parameters_of R128) (codes "abc") ≡ digest_of R128
-unfolding registers_after lines_after compress with_padding blocks hash
-hash_of_abc = refl
-
--- ---- what comes of them
-
-outcome_is : (outcome : Outcome) → ComesTo (sound (codes "abc")) (ripemd (parameters_of R128)) (codes "a") outcome
-    → IsDigest outcome (digest_of R128)
-outcome_is (Digest digest) comes = comes.2 ∙ ap (ripemd (parameters_of R128)) (gave_all _ _ _ comes.1) ∙ hash_of_abc
-outcome_is (Refused error) comes = omega (arith, ap (λ (bytes : List ℕ). slice_index bytes 0) comes.0)
-outcome_is (Broken error) comes = absurd (not_broken _ _ (omega arith) comes)
-
-comes : (outcome : Outcome) → IsDigest outcome (digest_of R128)
-    → ComesTo (sound (codes "abc")) (ripemd (parameters_of R128)) (codes "a") outcome
-comes (Digest digest) is = (
-  codes "abc",
-  record { ended = []; gave = record { opened = codes "abc"; is_opened = (refl, refl); given = refl }; at_end = refl },
-  is ∙ sym hash_of_abc,
-)
-comes (Refused error) is = absurd is
-comes (Broken error) is = absurd is
-
-verdict_is : (outcome : Outcome) (wanted : List ℕ) → IsDigest outcome (digest_of R128)
-    → verdict_of false wanted outcome ≡ verdict_of_digest (digest_of R128) wanted
-verdict_is (Digest digest) wanted is = ap (λ (items : List ℕ). verdict_of_digest items wanted) is
-verdict_is (Refused error) wanted is = absurd is
-verdict_is (Broken error) wanted is = absurd is
-
--- a line of a digest is taken
-taken : (text digest : List ℕ) → IsLine Standard (body_of_line text) R128 digest (codes "a")
-    → IsTaken all_lines (Some Standard) text R128 digest (codes "a")
-taken text digest line = record { is_line = line; wanted = tt; other = λ input. absurd (search (rules, input)) }
-
--- and has this verdict
-judged_so : (text digest : List ℕ) (number : ℕ) (outcome : Outcome) → IsLine Standard (body_of_line text) R128 digest (codes "a")
-    → IsDigest outcome (digest_of R128)
-    → IsEventOn (sound (codes "abc")) false all_lines (Some Standard) number text
-    (checked (codes "a") (verdict_of_digest (digest_of R128) digest))
-judged_so text digest number outcome line is =
-    (R128, digest, outcome, taken text digest line, comes outcome is, sym (verdict_is outcome digest is))
-
--- and no other
-judged : (text digest : List ℕ) (number : ℕ) (name : List ℕ) (verdict : Verdict)
-    → IsLine Standard (body_of_line text) R128 digest (codes "a")
-    → IsEventOn (sound (codes "abc")) false all_lines (Some Standard) number text (checked name verdict)
-    → (name ≡ codes "a") × (verdict ≡ verdict_of_digest (digest_of R128) digest)
-judged text digest number name verdict line (variant, said, outcome, is_taken, is_comes, same) =
-    let one = one_line Standard (body_of_line text) variant R128 said digest name (codes "a") is_taken.is_line line in
-    let named : ComesTo (sound (codes "abc")) (ripemd (parameters_of variant)) (codes "a") outcome =
-    subst (λ n. ComesTo (sound (codes "abc")) (ripemd (parameters_of variant)) n outcome) one.2 is_comes in
-    let is = outcome_is outcome (subst (λ v. ComesTo (sound (codes "abc")) (ripemd (parameters_of v)) (codes "a") outcome) one.0 named) in
-    (one.2, same ∙ ap (λ (w : List ℕ). verdict_of false w outcome) one.1 ∙ verdict_is outcome digest is)
 
 record Parts (events : List Event) (last : Option Layout) : Type 0 where
   second : Event
@@ -183,7 +109,7 @@ returns-clause-others c = record {
   one_twice = λ come. omega (arith, ap (λ (es : List Event). length es) (parts _ _ come).are);
   exchanged = λ come. omega (arith, (at_second _ _ _ _ come).0);
   other_number = λ come. omega (arith, (at_third _ _ _ _ come).0);
-  good_one_damaged = λ come. (at_second _ _ _ _ come).1 _ _ _ (taken good_line (digest_of R128) good_is);
+  good_one_damaged = λ come. (at_second _ _ _ _ come).1 _ _ _ (taken Standard good_line (digest_of R128) (codes "a") good_is);
   damaged_one_good = λ come. bad_is _ _ _ (at_third _ _ _ _ come).3.is_line;
   good_one_wrong = λ come. cc (ap is_match (judged good_line (digest_of R128) 2 _ _ good_is (at_second _ _ _ _ come)).1);
   wrong_one_good = λ come. cc (ap is_match (judged wrong_line wrong_digest 4 _ _ wrong_is (at_fourth _ _ _ _ come)).1);
@@ -209,13 +135,13 @@ events_of outcome is = (
     good ∷ [],
     misformatted 3 ∷ wrong ∷ [],
     refl,
-    (good, refl, judged_so good_line (digest_of R128) 2 outcome good_is is),
+    (good, refl, judged_so Standard good_line (digest_of R128) 2 outcome good_is is),
     (
       misformatted 3 ∷ [],
       wrong ∷ [],
       refl,
       (misformatted 3, refl, (refl, λ variant digest name is_taken. bad_is variant digest name is_taken.is_line)),
-      (wrong ∷ [], [], refl, (wrong, refl, judged_so wrong_line wrong_digest 4 outcome wrong_is is), (refl, refl)),
+      (wrong ∷ [], [], refl, (wrong, refl, judged_so Standard wrong_line wrong_digest 4 outcome wrong_is is), (refl, refl)),
     ),
   ),
 )
@@ -223,7 +149,7 @@ events_of outcome is = (
 good_event : (outcome : Outcome) → IsDigest outcome (digest_of R128)
     → Reports (sound (codes "abc")) false all_lines None 1 (good_line ∷ []) (good ∷ []) (Some Standard)
 unfolding skip_blanks split_blank strip_tag untagged_at layout_at
-good_event outcome is = (good ∷ [], [], refl, (good, refl, judged_so good_line (digest_of R128) 1 outcome good_is is), (refl, refl))
+good_event outcome is = (good ∷ [], [], refl, (good, refl, judged_so Standard good_line (digest_of R128) 1 outcome good_is is), (refl, refl))
 
 pub returns-clause-checked : goal.returns-clause-checked
 unfolding lines_of
@@ -271,3 +197,116 @@ no_success false bytes counts read answer = cc (answer)
 
 pub returns-clause-failed : goal.returns-clause-failed
 returns-clause-failed c last text remarks checks = no_success checks.whole checks.bytes checks.tally checks.read checks.answer
+
+-- ---- one good line
+
+good_one : (event : Event) → IsEventOn (sound (codes "abc")) false all_lines (Some Standard) 1 good_line event → event ≡ good
+good_one (misformatted number) is = absurd (is.1 _ _ _ (taken Standard good_line (digest_of R128) (codes "a") good_is))
+good_one (checked name verdict) is =
+    let both = judged good_line (digest_of R128) 1 name verdict good_is is in
+    ap (λ (n : List ℕ). checked n verdict) both.0 ∙ ap (checked (codes "a")) both.1
+
+good_alone : (events : List Event) (last : Option Layout)
+    → Reports (sound (codes "abc")) false all_lines None 1 (good_line ∷ []) events last → (events ≡ good ∷ []) × (last ≡ Some Standard)
+unfolding skip_blanks split_blank strip_tag untagged_at layout_at
+good_alone events last come = (
+  come.2 ∙ ap (λ (es : List Event). es ++ come.1) come.3.1
+      ∙ (ap (λ (es : List Event). come.3.0 ∷ es) come.4.0 ∙ ap (λ (e : Event). e ∷ []) (good_one come.3.0 come.3.2)),
+  come.4.1,
+)
+
+no_closing : (counts : Tally) → IsTally (good ∷ []) counts → closing_remarks plain counts ≡ []
+no_closing counts is = rw is.checked (rw is.misformatted (rw is.unreadable (rw is.differing refl)))
+
+succeeds : (counts : Tally) → IsTally (good ∷ []) counts → is_success plain counts ≡ true
+succeeds counts is = rw is.checked (rw is.differing (rw is.unreadable refl))
+
+-- what the check of a good list says if it is whole, and how it ends if not
+record Whole (text : List ℕ) (remarks : List Remark) (success : Bool) (last : Option Layout) : Type 0 where
+  said : text ≡ codes "a: OK\n"
+  remarked : remarks ≡ []
+  answered : success ≡ true
+  standard : last ≡ Some Standard
+
+record NotWhole (remarks : List Remark) (success : Bool) : Type 0 where
+  earlier : List Remark
+  remarked : remarks ≡ earlier ++ about_list complaints.Unreadable ∷ []
+  answered : success ≡ false
+
+either : (whole : Bool) (bytes : List ℕ) (events : List Event) (counts : Tally) (last : Option Layout) (text : List ℕ)
+    (remarks : List Remark) (success : Bool) → WasRead whole (Some good_list) (Some []) bytes
+    → Reports (sound (codes "abc")) false all_lines None 1 (lines_of bytes) events last → IsTally events counts
+    → text ≡ flat_map (line_of_event plain) events
+    → remarks ≡ flat_map (remarks_on_event plain) events ++ last_remarks whole plain counts
+    → success ≡ whole && is_success plain counts → Whole text remarks success last ⊎ NotWhole remarks success
+unfolding lines_of
+either true bytes events counts last text remarks success read reports is written said answer =
+    let whole : bytes ≡ good_list = sym (append-nil bytes) ∙ sym read.0 in
+    let alone = good_alone events last (subst
+    (λ (b : List ℕ). Reports (sound (codes "abc")) false all_lines None 1 (lines_of b) events last) whole reports) in
+    let counted = subst (λ (es : List Event). IsTally es counts) alone.0 is in
+    inl (record {
+      said = written ∙ ap (flat_map (line_of_event plain)) alone.0;
+      remarked = said ∙ ap (λ (es : List Event). flat_map (remarks_on_event plain) es ++ closing_remarks plain counts) alone.0
+          ∙ no_closing counts counted;
+      answered = answer ∙ succeeds counts counted;
+      standard = alone.1;
+    })
+either false bytes events counts last text remarks success read reports is written said answer =
+    inr (record { earlier = flat_map (remarks_on_event plain) events; remarked = said; answered = answer })
+
+module _ (last : Option Layout) (text : List ℕ) (remarks : List Remark) (success : Bool)
+    (checks : Checks plain good_list [] last text remarks success) where
+  ends : Whole text remarks success last ⊎ NotWhole remarks success
+  ends =
+      either checks.whole checks.bytes checks.events checks.tally last text remarks success checks.read checks.reports checks.counts
+      checks.wrote.written checks.wrote.said checks.answer
+
+abbrev complaint_of : Complaint → Bool
+complaint_of complaints.Unreadable = true
+complaint_of _ = false
+
+abbrev is_unread : Remark → Bool
+is_unread (unreadable name error) = false
+is_unread (about_list complaint) = complaint_of complaint
+
+-- the last remark is another
+about_another : (complaint : Complaint) (earlier : List Remark) → complaint_of complaint ≡ false
+    → ¬ (about_list complaint ∷ [] ≡ earlier ++ about_list complaints.Unreadable ∷ [])
+about_another complaint [] other same =
+    cc (sym other ∙ ap (λ (rs : List Remark). is_unread (get_or rs 0 (about_list complaints.Unreadable))) same)
+about_another complaint (r ∷ earlier) other same =
+    omega (arith, ap (λ (rs : List Remark). length rs) same, length-append earlier (about_list complaints.Unreadable ∷ []))
+
+pub returns-clause-other_checks : goal.returns-clause-other_checks
+returns-clause-other_checks c = record {
+  nothing_said = λ checks.
+      elim (ends _ _ _ _ checks) [
+        | inl whole ↦ omega (arith, ap (λ (bytes : List ℕ). length bytes) whole.said)
+        | inr part ↦ about_another complaints.NoLines part.earlier refl part.remarked
+      ];
+  other_text = λ checks.
+      elim (ends _ _ _ _ checks) [
+        | inl whole ↦ omega (arith, ap (λ (bytes : List ℕ). length bytes) whole.said)
+        | inr part ↦ cc (part.answered)
+      ];
+  other_remark = λ checks.
+      elim (ends _ _ _ _ checks) [
+        | inl whole ↦ omega (arith, ap (λ (rs : List Remark). length rs) whole.remarked)
+        | inr part ↦ about_another (complaints.Mismatches 1) part.earlier refl part.remarked
+      ];
+  other_answer = λ checks.
+      elim (ends _ _ _ _ checks) [
+        | inl whole ↦ cc (whole.answered)
+        | inr part ↦ omega (
+          arith,
+          ap (λ (rs : List Remark). length rs) part.remarked,
+          length-append part.earlier (about_list complaints.Unreadable ∷ []),
+        )
+      ];
+  other_layout = λ checks.
+      elim (ends _ _ _ _ checks) [
+        | inl whole ↦ cc (ap (λ (layout : Option Layout). is_some layout) whole.standard)
+        | inr part ↦ cc (part.answered)
+      ];
+}

@@ -1,0 +1,116 @@
+use Rattle.std.proofs.Common.{get_or, ◌≡◌, ℕ, List, [], ◌∷◌, ◌++◌, codes, length, Some, Bool, true, false, refl, sym, ap, subst, ◌∙◌, arith}
+use Rattle.std.specs.Prelude.{slice_index, if◌then◌else◌}
+use Rattle.std.specs.declared.io.ErrorKind.{ErrorKind}
+use Rattle.hex.specs.Hex.{decode_pairs}
+use Rattle.ripemd_files.specs.declared.line.Layout.TheVariants.{Standard, Reversed}
+use Rattle.ripemd_files.specs.declared.line.Variant.TheVariants.{R128}
+use Rattle.ripemd_files.specs.declared.outcome.Outcome.{Outcome}
+use Rattle.ripemd_files.specs.declared.outcome.Outcome.TheVariants.{Digest, Refused, Broken}
+use Rattle.ripemd_files.specs.declared.verdict.Verdict.{Verdict}
+use Rattle.ripemd_files.specs.declared.verdict.Verdict.TheVariants.{Matches, Differs, Missing, Unreadable}
+use Rattle.ripemd_files.specs.Lines.{IsLine}
+use Rattle.ripemd_files.specs.Reading.{skip_blanks, split_blank, split_close, strip_tag, untagged_at, tagged_at, found_at, digest_at, unescaped, name_at, said_by}
+use Rattle.ripemd_files.specs.Layouts.{layout_at}
+use Rattle.ripemd_files.specs.Checking.{Event, checked, is_not_found, verdict_of}
+use Rattle.ripemd_files.specs.Lists.{IsEventOn}
+use Rattle.ripemd_files.specs.Worked.{digest_of}
+use Rattle.ripemd_files.specs.WorkedChecks.{all_lines}
+use Rattle.ripemd_files.specs.WorkedReports.{good, good_line, missing_line, reversed_line, sound}
+use Rattle.ripemd_files.proofs.Sayings.{IsLine-said, one_line}
+use Rattle.ripemd_files.proofs.Toys.{taken, judged_so}
+use Rattle.ripemd_files.proofs.check_facts.worked_rest.Goals as goal
+
+pub returns-clause-growths : goal.returns-clause-growths
+returns-clause-growths c = record {
+  added = refl;
+  added_in_front = λ all. omega (arith, ap (λ (xs : List ℕ). slice_index xs 0) all);
+  not_added = λ all. omega (arith, ap (λ (xs : List ℕ). length xs) all);
+  lost = λ all. all;
+  never_known = tt;
+}
+
+reversed_is : IsLine Reversed reversed_line R128 (digest_of R128) (codes "a")
+unfolding skip_blanks split_blank split_close strip_tag untagged_at tagged_at found_at digest_at unescaped name_at said_by decode_pairs
+reversed_is = IsLine-said _ _ _ refl
+
+standard_is : IsLine Reversed good_line R128 (digest_of R128) (codes " a")
+unfolding skip_blanks split_blank split_close strip_tag untagged_at tagged_at found_at digest_at unescaped name_at said_by decode_pairs
+standard_is = IsLine-said _ _ _ refl
+
+missing_is : IsLine Standard missing_line R128 (digest_of R128) (codes "b")
+unfolding skip_blanks split_blank split_close strip_tag untagged_at tagged_at found_at digest_at unescaped name_at said_by decode_pairs
+missing_is = IsLine-said _ _ _ refl
+
+not_good : ¬ IsEventOn (sound (codes "abc")) false all_lines (Some Reversed) 2 good_line good
+not_good (variant, digest, outcome, is_taken, comes, same) =
+    let one = one_line Reversed good_line variant R128 digest (digest_of R128) (codes "a") (codes " a") is_taken.is_line standard_is in
+    omega (arith, ap (λ (bytes : List ℕ). length bytes) one.2)
+
+pub returns-clause-reversed : goal.returns-clause-reversed
+unfolding skip_blanks split_blank strip_tag untagged_at layout_at
+returns-clause-reversed c outcome is = record {
+  first = (
+    good ∷ [],
+    [],
+    refl,
+    (good, refl, judged_so Reversed reversed_line (digest_of R128) 1 outcome reversed_is is),
+    (refl, refl),
+  );
+  later = λ come.
+      let same = come.2 ∙ ap (λ (es : List Event). es ++ come.1) come.3.1
+      ∙ ap (λ (es : List Event). come.3.0 ∷ es) (come.4.2 ∙ ap (λ (es : List Event). es ++ come.4.1) come.4.3.1) in
+      not_good (subst (IsEventOn (sound (codes "abc")) false all_lines (Some Reversed) 2 good_line)
+      (sym (ap (λ (es : List Event). get_or es 1 good) same)) come.4.3.2);
+}
+
+is_left_out : Verdict → Bool
+is_left_out Missing = true
+is_left_out _ = false
+
+never_left_out : (digest : List ℕ) (outcome : Outcome) → ¬ (Missing ≡ verdict_of false digest outcome)
+unfolding is_left_out
+never_left_out digest (Digest d) same = cc (either _ ∙ ap is_left_out (sym same)) where
+  either : (b : Bool) → false ≡ is_left_out (if b then Matches else Differs)
+  either true = refl
+  either false = refl
+never_left_out digest (Refused error) same = cc (ap is_left_out same)
+never_left_out digest (Broken error) same = cc (ap is_left_out same)
+
+pub returns-clause-missing : goal.returns-clause-missing
+unfolding skip_blanks split_blank strip_tag untagged_at layout_at
+returns-clause-missing c error not_found = record {
+  said = (
+    checked (codes "b") (Unreadable error) ∷ [],
+    [],
+    refl,
+    (
+      checked (codes "b") (Unreadable error),
+      refl,
+      (R128, digest_of R128, Refused error, taken Standard missing_line (digest_of R128) (codes "b") missing_is, (refl, not_found), refl),
+    ),
+    (refl, refl),
+  );
+  left_out = (
+    checked (codes "b") Missing ∷ [],
+    [],
+    refl,
+    (
+      checked (codes "b") Missing,
+      refl,
+      (
+        R128,
+        digest_of R128,
+        Refused error,
+        taken Standard missing_line (digest_of R128) (codes "b") missing_is,
+        (refl, not_found),
+        ap (λ (kind : ErrorKind). if is_not_found kind then Missing else Unreadable error) (sym not_found),
+      ),
+    ),
+    (refl, refl),
+  );
+  not_left_out = λ come.
+      let same = come.2 ∙ ap (λ (es : List Event). es ++ come.1) come.3.1 in
+      let event = subst (IsEventOn (sound (codes "abc")) false all_lines (Some Standard) 1 missing_line)
+      (sym (ap (λ (es : List Event). get_or es 0 good) same)) come.3.2 in
+      never_left_out event.1 event.2 event.5;
+}
