@@ -4,7 +4,6 @@ use Rattle.std.proofs.lemmas.List.{append-nil, length-append}
 use Rattle.ripemd.specs.Standard.Compression.{registers_after, lines_after, compress}
 use Rattle.ripemd.specs.Standard.Hashing.{with_padding, blocks, hash}
 use Rattle.ripemd_files.specs.declared.outcome.Outcome.TheVariants.{Digest, Refused, Broken}
-use Rattle.ripemd_files.specs.Checking.{is_not_found}
 use Rattle.ripemd_files.specs.WorkedReports.{toy}
 use Rattle.ripemd_files.proofs.Toys.{gave_all, not_broken}
 use Rattle.ripemd_files.proofs.check_facts.worked_readings.Goals as goal
@@ -32,7 +31,7 @@ returns-clause-digests c (Broken error) is = absurd is
 pub returns-clause-errors : goal.returns-clause-errors
 returns-clause-errors c error = record {
   refused = λ missing. (refl, missing);
-  other_error = λ denied all. cc (ap is_not_found (sym denied ∙ all.1));
+  other_error = λ denied all. cc (denied, all.1);
   not_refused = λ all. omega (arith, ap (λ (bytes : List ℕ). slice_index bytes 0) all.0);
   broken = record {
     bytes = codes "ab";

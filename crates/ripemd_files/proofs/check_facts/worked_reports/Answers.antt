@@ -306,7 +306,7 @@ returns-clause-other_checks c = record {
       ];
   other_layout = λ checks.
       elim (ends _ _ _ _ checks) [
-        | inl whole ↦ cc (ap (λ (layout : Option Layout). is_some layout) whole.standard)
+        | inl whole ↦ cc (whole.standard)
         | inr part ↦ cc (part.answered)
       ];
 }

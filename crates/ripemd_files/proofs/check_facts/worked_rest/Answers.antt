@@ -73,8 +73,8 @@ never_left_out digest (Digest d) same = cc (either _ ∙ ap is_left_out (sym sam
   either : (b : Bool) → false ≡ is_left_out (if b then Matches else Differs)
   either true = refl
   either false = refl
-never_left_out digest (Refused error) same = cc (ap is_left_out same)
-never_left_out digest (Broken error) same = cc (ap is_left_out same)
+never_left_out digest (Refused error) same = cc (same)
+never_left_out digest (Broken error) same = cc (same)
 
 pub returns-clause-missing : goal.returns-clause-missing
 unfolding skip_blanks split_blank strip_tag untagged_at layout_at
