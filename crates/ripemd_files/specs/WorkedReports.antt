@@ -22,7 +22,7 @@ use Rattle.ripemd_files.specs.Printing.{PrintsAll}
 use Rattle.ripemd_files.specs.Checking.{Event, checked, misformatted}
 use Rattle.ripemd_files.specs.Lists.{ChecksList, IsTaken, Reports, WasRead}
 use Rattle.ripemd_files.specs.Worked.{digest_of, digits_of, digits_then}
-use Rattle.ripemd_files.specs.WorkedChecks.{all_lines, lines_of_128, plain, warning}
+use Rattle.ripemd_files.specs.WorkedChecks.{all_lines, ignoring, lines_of_128, plain, warning}
 
 -- ---- a folder
 
@@ -188,6 +188,9 @@ reversed_line = digits_of R128 ++ codes " a"
 abbrev pub missing_line : List ℕ
 missing_line = digits_of R128 ++ codes "  b"
 
+abbrev pub missing_list : List ℕ
+missing_list = missing_line ++ codes "\n"
+
 -- this event comes of a line alone
 abbrev pub ComesOf : Bool → List ℕ → Event → Option Layout → Type 0
 ComesOf ignore_missing line event last = Reports (sound (codes "abc")) ignore_missing all_lines None 1 (line ∷ []) (event ∷ []) last
@@ -201,6 +204,15 @@ pub record MissingFiles (error : Error) : Type 0 where
   pub said : ComesOf false missing_line (checked (codes "b") (Unreadable error)) (Some Standard)
   pub left_out : ComesOf true missing_line (checked (codes "b") Missing) (Some Standard)
   pub not_left_out : ¬ ComesOf false missing_line (checked (codes "b") Missing) (Some Standard)
+  pub list : Checks plain missing_list [] (Some Standard) (codes "b: FAILED open or read\n")
+      (unreadable (codes "b") error ∷ about_list (complaints.UnreadableFiles 1) ∷ []) false
+  pub list_left_out : Checks ignoring missing_list [] (Some Standard) [] (about_list complaints.NothingVerified ∷ []) false
+
+-- behind a list of another layout
+abbrev pub SecondList : Type 0
+SecondList =
+    ChecksList (sound (codes "abc")) plain all_lines (Some Standard) (Some Standard) (Some (reversed_line ++ codes "\n")) (Some []) (Some [])
+    (Some []) (Some []) (Some (about_list complaints.NoLines ∷ [])) false
 
 -- ---- what is written and remarked
 

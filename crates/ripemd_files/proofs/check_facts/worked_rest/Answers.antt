@@ -11,12 +11,17 @@ use Rattle.ripemd_files.specs.declared.verdict.Verdict.TheVariants.{Matches, Dif
 use Rattle.ripemd_files.specs.Lines.{IsLine}
 use Rattle.ripemd_files.specs.Reading.{skip_blanks, split_blank, split_close, strip_tag, untagged_at, tagged_at, found_at, digest_at, unescaped, name_at, said_by}
 use Rattle.ripemd_files.specs.Layouts.{layout_at}
-use Rattle.ripemd_files.specs.Checking.{Event, checked, is_not_found, verdict_of}
+use Rattle.ripemd_files.specs.Splitting.{lines_of}
+use Rattle.ripemd_files.specs.declared.line.Variant.{Variant}
+use Rattle.std.specs.IoError.{error_kind}
+use Rattle.std.specs.declared.io.Error.{Error}
+use Rattle.std.specs.declared.io.ErrorKind.TheVariants.{NotFound}
+use Rattle.ripemd_files.specs.Checking.{Event, checked, misformatted, is_not_found, verdict_of}
 use Rattle.ripemd_files.specs.Lists.{IsEventOn}
 use Rattle.ripemd_files.specs.Worked.{digest_of}
-use Rattle.ripemd_files.specs.WorkedChecks.{all_lines}
-use Rattle.ripemd_files.specs.WorkedReports.{good, good_line, missing_line, reversed_line, sound}
-use Rattle.ripemd_files.proofs.Sayings.{IsLine-said, one_line}
+use Rattle.ripemd_files.specs.WorkedChecks.{all_lines, tally}
+use Rattle.ripemd_files.specs.WorkedReports.{good, good_line, missing_line, missing_list, reversed_line, ComesOf, sound}
+use Rattle.ripemd_files.proofs.Sayings.{IsLine-said, no_line, one_line}
 use Rattle.ripemd_files.proofs.Toys.{taken, judged_so}
 use Rattle.ripemd_files.proofs.check_facts.worked_rest.Goals as goal
 
@@ -76,41 +81,96 @@ never_left_out digest (Digest d) same = cc (either _ ∙ ap is_left_out (sym sam
 never_left_out digest (Refused error) same = cc (same)
 never_left_out digest (Broken error) same = cc (same)
 
-pub returns-clause-missing : goal.returns-clause-missing
+missing_said : (error : Error) → error_kind error ≡ NotFound
+    → ComesOf false missing_line (checked (codes "b") (Unreadable error)) (Some Standard)
 unfolding skip_blanks split_blank strip_tag untagged_at layout_at
+missing_said error not_found = (
+  checked (codes "b") (Unreadable error) ∷ [],
+  [],
+  refl,
+  (
+    checked (codes "b") (Unreadable error),
+    refl,
+    (R128, digest_of R128, Refused error, taken Standard missing_line (digest_of R128) (codes "b") missing_is, (refl, not_found), refl),
+  ),
+  (refl, refl),
+)
+
+missing_left_out : (error : Error) → error_kind error ≡ NotFound → ComesOf true missing_line (checked (codes "b") Missing) (Some Standard)
+unfolding skip_blanks split_blank strip_tag untagged_at layout_at
+missing_left_out error not_found = (
+  checked (codes "b") Missing ∷ [],
+  [],
+  refl,
+  (
+    checked (codes "b") Missing,
+    refl,
+    (
+      R128,
+      digest_of R128,
+      Refused error,
+      taken Standard missing_line (digest_of R128) (codes "b") missing_is,
+      (refl, not_found),
+      ap (λ (kind : ErrorKind). if is_not_found kind then Missing else Unreadable error) (sym not_found),
+    ),
+  ),
+  (refl, refl),
+)
+
+pub returns-clause-missing : goal.returns-clause-missing
+unfolding lines_of skip_blanks split_blank strip_tag untagged_at layout_at
 returns-clause-missing c error not_found = record {
-  said = (
-    checked (codes "b") (Unreadable error) ∷ [],
-    [],
-    refl,
-    (
-      checked (codes "b") (Unreadable error),
-      refl,
-      (R128, digest_of R128, Refused error, taken Standard missing_line (digest_of R128) (codes "b") missing_is, (refl, not_found), refl),
-    ),
-    (refl, refl),
-  );
-  left_out = (
-    checked (codes "b") Missing ∷ [],
-    [],
-    refl,
-    (
-      checked (codes "b") Missing,
-      refl,
-      (
-        R128,
-        digest_of R128,
-        Refused error,
-        taken Standard missing_line (digest_of R128) (codes "b") missing_is,
-        (refl, not_found),
-        ap (λ (kind : ErrorKind). if is_not_found kind then Missing else Unreadable error) (sym not_found),
-      ),
-    ),
-    (refl, refl),
-  );
+  said = missing_said error not_found;
+  left_out = missing_left_out error not_found;
   not_left_out = λ come.
       let same = come.2 ∙ ap (λ (es : List Event). es ++ come.1) come.3.1 in
       let event = subst (IsEventOn (sound (codes "abc")) false all_lines (Some Standard) 1 missing_line)
       (sym (ap (λ (es : List Event). get_or es 0 good) same)) come.3.2 in
       never_left_out event.1 event.2 event.5;
+  list = record {
+    whole = true;
+    bytes = missing_list;
+    events = checked (codes "b") (Unreadable error) ∷ [];
+    tally = tally 0 0 1 false true;
+    read = (refl, refl);
+    reports = missing_said error not_found;
+    counts = record { misformatted = refl; differing = refl; unreadable = refl; matched = refl; checked = refl };
+    wrote = record { written = refl; said = refl };
+    answer = refl;
+  };
+  list_left_out = record {
+    whole = true;
+    bytes = missing_list;
+    events = checked (codes "b") Missing ∷ [];
+    tally = tally 0 0 0 false true;
+    read = (refl, refl);
+    reports = missing_left_out error not_found;
+    counts = record { misformatted = refl; differing = refl; unreadable = refl; matched = refl; checked = refl };
+    wrote = record { written = refl; said = refl };
+    answer = refl;
+  };
+}
+
+reversed_is_none : (variant : Variant) (digest name : List ℕ) → ¬ IsLine Standard reversed_line variant digest name
+unfolding skip_blanks split_blank split_close strip_tag untagged_at tagged_at found_at digest_at unescaped name_at said_by decode_pairs
+reversed_is_none = no_line _ _ refl
+
+pub returns-clause-second : goal.returns-clause-second
+unfolding lines_of
+returns-clause-second c = record {
+  whole = true;
+  bytes = reversed_line ++ codes "\n";
+  events = misformatted 1 ∷ [];
+  tally = tally 1 0 0 false false;
+  read = (refl, refl);
+  reports = (
+    misformatted 1 ∷ [],
+    [],
+    refl,
+    (misformatted 1, refl, (refl, λ variant digest name is_taken. reversed_is_none variant digest name is_taken.is_line)),
+    (refl, refl),
+  );
+  counts = record { misformatted = refl; differing = refl; unreadable = refl; matched = refl; checked = refl };
+  wrote = record { written = refl; said = refl };
+  answer = refl;
 }
