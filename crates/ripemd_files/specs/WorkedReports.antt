@@ -208,6 +208,12 @@ pub record MissingFiles (error : Error) : Type 0 where
       (unreadable (codes "b") error ∷ about_list (complaints.UnreadableFiles 1) ∷ []) false
   pub list_left_out : Checks ignoring missing_list [] (Some Standard) [] (about_list complaints.NothingVerified ∷ []) false
 
+-- a line of RIPEMD-160, checked and printed
+pub record OtherHashes (outcome : Outcome) : Type 0 where
+  pub of_a_line : ComesOf false (digits_then (codes "  a")) good (Some Standard)
+  pub printed : PrintsAll (sound (codes "abc")) (record { variant = R160; form = Text; ending = Newline }) (codes "a" ∷ []) (Some [])
+      (Some (digits_then (codes "  a\n"))) (Some []) (Some []) true
+
 -- behind a list of another layout
 abbrev pub SecondList : Type 0
 SecondList =

@@ -10,9 +10,9 @@ ghost use Rattle.ripemd_files.specs.declared.printing.Style.{Style};
 ghost use Rattle.ripemd_files.specs.Contents.{IsDigest};
 ghost use Rattle.ripemd_files.specs.Checking.{Event};
 ghost use Rattle.ripemd_files.specs.WorkedChecks.{DigestVerdicts, ErrorVerdicts, LinesOfEvents, RemarksOnEvents, Tallies, OtherTallies, LongCounts, ClosingRemarks, Answers, PassedOver, Bodies, NextLayouts, Wanted, PrintedLines, PrintedErrors};
-ghost use Rattle.ripemd_files.specs.WorkedReports.{Hashes, OtherChecks, Growths, ReversedLists, MissingFiles, SecondList, PrintedFiles, OtherPrints, toy, DigestsOfAbc, ErrorsOfAbc, LongFiles, TakenLines, OtherReports, ReadLists, CheckedLists, FailedList};
+ghost use Rattle.ripemd_files.specs.WorkedReports.{Hashes, OtherChecks, Growths, ReversedLists, MissingFiles, SecondList, OtherHashes, PrintedFiles, OtherPrints, toy, DigestsOfAbc, ErrorsOfAbc, LongFiles, TakenLines, OtherReports, ReadLists, CheckedLists, FailedList};
 ghost use Rattle.ripemd_files.specs.Worked.{digest_of};
-ghost use Rattle.ripemd_files.specs.declared.line.Variant.TheVariants.{R128};
+ghost use Rattle.ripemd_files.specs.declared.line.Variant.TheVariants.{R128, R160};
 
 /// What a check finds of files.
 pub fn worked_verdicts()
@@ -71,6 +71,7 @@ pub fn worked_reports()
 pub fn worked_rest()
     ensures growths { Growths }
     ensures reversed { (outcome : Outcome) → IsDigest outcome (digest_of R128) → ReversedLists outcome }
+    ensures of160 { (outcome : Outcome) → IsDigest outcome (digest_of R160) → OtherHashes outcome }
     ensures second { SecondList }
     ensures missing { (error : Error) → error_kind error ≡ NotFound → MissingFiles error }
 {}

@@ -1,9 +1,19 @@
-use Rattle.std.proofs.Common.{get_or, ◌≡◌, ℕ, List, [], ◌∷◌, ◌++◌, codes, length, Some, Bool, true, false, refl, sym, ap, subst, ◌∙◌, arith}
+use Rattle.std.proofs.Common.{rules, get_or, ◌≡◌, ℕ, List, [], ◌∷◌, ◌++◌, codes, length, Some, Bool, true, false, refl, sym, ap, subst, ◌∙◌, arith}
 use Rattle.std.specs.Prelude.{slice_index, if◌then◌else◌}
 use Rattle.std.specs.declared.io.ErrorKind.{ErrorKind}
-use Rattle.hex.specs.Hex.{decode_pairs}
+use Rattle.hex.specs.Hex.{decode_pairs, encode_with}
+use Rattle.ripemd.specs.Standard.Compression.{registers_after, lines_after, compress}
+use Rattle.ripemd.specs.Standard.Hashing.{with_padding, blocks, hash, ripemd}
+use Rattle.ripemd_files.specs.declared.line.Form.TheVariants.{Text}
+use Rattle.ripemd_files.specs.declared.line.Ending.TheVariants.{Newline}
+use Rattle.ripemd_files.specs.declared.printing.Style.{Style}
+use Rattle.ripemd_files.specs.Contents.{IsDigest}
+use Rattle.ripemd_files.specs.Readings.{ComesTo, parameters_of}
+use Rattle.ripemd_files.specs.Said.{Wrote}
+use Rattle.ripemd_files.specs.Printing.{line_for, remarks_on, was_read}
+use Rattle.ripemd_files.proofs.Printed.{prints_one}
 use Rattle.ripemd_files.specs.declared.line.Layout.TheVariants.{Standard, Reversed}
-use Rattle.ripemd_files.specs.declared.line.Variant.TheVariants.{R128}
+use Rattle.ripemd_files.specs.declared.line.Variant.TheVariants.{R128, R160}
 use Rattle.ripemd_files.specs.declared.outcome.Outcome.{Outcome}
 use Rattle.ripemd_files.specs.declared.outcome.Outcome.TheVariants.{Digest, Refused, Broken}
 use Rattle.ripemd_files.specs.declared.verdict.Verdict.{Verdict}
@@ -16,9 +26,9 @@ use Rattle.ripemd_files.specs.declared.line.Variant.{Variant}
 use Rattle.std.specs.IoError.{error_kind}
 use Rattle.std.specs.declared.io.Error.{Error}
 use Rattle.std.specs.declared.io.ErrorKind.TheVariants.{NotFound}
-use Rattle.ripemd_files.specs.Checking.{Event, checked, misformatted, is_not_found, verdict_of}
+use Rattle.ripemd_files.specs.Checking.{Event, checked, misformatted, is_not_found, verdict_of, verdict_of_digest}
 use Rattle.ripemd_files.specs.Lists.{IsEventOn}
-use Rattle.ripemd_files.specs.Worked.{digest_of}
+use Rattle.ripemd_files.specs.Worked.{digest_of, digits_then}
 use Rattle.ripemd_files.specs.WorkedChecks.{all_lines, tally}
 use Rattle.ripemd_files.specs.WorkedReports.{good, good_line, missing_line, missing_list, reversed_line, ComesOf, sound}
 use Rattle.ripemd_files.proofs.Sayings.{IsLine-said, no_line, one_line}
@@ -173,4 +183,65 @@ returns-clause-second c = record {
   counts = record { misformatted = refl; differing = refl; unreadable = refl; matched = refl; checked = refl };
   wrote = record { written = refl; said = refl };
   answer = refl;
+}
+
+-- ---- by RIPEMD-160
+
+hash_of_abc : ripemd (parameters_of R160) (codes "abc") ≡ digest_of R160
+unfolding registers_after lines_after compress with_padding blocks hash
+hash_of_abc = refl
+
+line160_is : IsLine Standard (digits_then (codes "  a")) R160 (digest_of R160) (codes "a")
+unfolding skip_blanks split_blank split_close strip_tag untagged_at tagged_at found_at digest_at unescaped name_at said_by decode_pairs
+line160_is = IsLine-said _ _ _ refl
+
+comes160 : (outcome : Outcome) → IsDigest outcome (digest_of R160)
+    → ComesTo (sound (codes "abc")) (ripemd (parameters_of R160)) (codes "a") outcome
+comes160 (Digest digest) is = (
+  codes "abc",
+  record { ended = []; gave = record { opened = codes "abc"; is_opened = (refl, refl); given = refl }; at_end = refl },
+  is ∙ sym hash_of_abc,
+)
+comes160 (Refused error) is = absurd is
+comes160 (Broken error) is = absurd is
+
+matches160 : (outcome : Outcome) → IsDigest outcome (digest_of R160) → Matches ≡ verdict_of false (digest_of R160) outcome
+matches160 (Digest digest) is = ap (λ (items : List ℕ). verdict_of_digest items (digest_of R160)) (sym is)
+matches160 (Refused error) is = absurd is
+matches160 (Broken error) is = absurd is
+
+abbrev style160 : Style
+style160 = record { variant = R160; form = Text; ending = Newline }
+
+prints160 : (outcome : Outcome) → IsDigest outcome (digest_of R160)
+    → Wrote (Some []) (Some (digits_then (codes "  a\n"))) (Some []) (Some []) (line_for style160 (codes "a") outcome)
+    (remarks_on (codes "a") outcome) × (true ≡ was_read outcome)
+unfolding encode_with
+prints160 (Digest digest) is = (record { written = rw is refl; said = refl }, refl)
+prints160 (Refused error) is = absurd is
+prints160 (Broken error) is = absurd is
+
+pub returns-clause-of160 : goal.returns-clause-of160
+unfolding skip_blanks split_blank strip_tag untagged_at layout_at
+returns-clause-of160 c outcome is = record {
+  of_a_line = (
+    good ∷ [],
+    [],
+    refl,
+    (
+      good,
+      refl,
+      (
+        R160,
+        digest_of R160,
+        outcome,
+        record { is_line = line160_is; wanted = tt; other = λ input. absurd (search (rules, input)) },
+        comes160 outcome is,
+        matches160 outcome is,
+      ),
+    ),
+    (refl, refl),
+  );
+  printed = prints_one (sound (codes "abc")) style160 (codes "a") outcome (Some []) (Some (digits_then (codes "  a\n"))) (Some []) (Some [])
+      true (comes160 outcome is) (prints160 outcome is).0 (prints160 outcome is).1;
 }
