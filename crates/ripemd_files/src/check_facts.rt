@@ -67,8 +67,8 @@ pub fn worked_reports()
     ensures other_checks { OtherChecks }
 {}
 
-/// What comes of reversed lines, and of files that are not there.
-pub fn worked_rest()
+/// What comes of reversed lines, of files that are not there, of another variant, and of a second list.
+pub fn worked_other_lists()
     ensures growths { Growths }
     ensures reversed { (outcome : Outcome) → IsDigest outcome (digest_of R128) → ReversedLists outcome }
     ensures of160 { (outcome : Outcome) → IsDigest outcome (digest_of R160) → OtherHashes outcome }

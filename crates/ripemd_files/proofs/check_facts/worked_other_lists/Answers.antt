@@ -33,7 +33,7 @@ use Rattle.ripemd_files.specs.WorkedChecks.{all_lines, tally}
 use Rattle.ripemd_files.specs.WorkedReports.{good, good_line, missing_line, missing_list, reversed_line, ComesOf, sound}
 use Rattle.ripemd_files.proofs.Sayings.{IsLine-said, no_line, one_line}
 use Rattle.ripemd_files.proofs.Toys.{taken, judged_so}
-use Rattle.ripemd_files.proofs.check_facts.worked_rest.Goals as goal
+use Rattle.ripemd_files.proofs.check_facts.worked_other_lists.Goals as goal
 
 pub returns-clause-growths : goal.returns-clause-growths
 returns-clause-growths c = record {
