@@ -24,12 +24,9 @@ pub mod Layouts
 pub mod Lists
 -- How the code reads a list.
 pub mod Groups
-<<<<<<< HEAD
 -- Lines that were printed, and are checked.
 pub mod Printed
-=======
 -- Checks of lists, worked.
 pub mod WorkedChecks
 -- Reports on lists, worked.
 pub mod WorkedReports
->>>>>>> 791f41714f0956075d4b11b16a8494e9cf89d3d9
