@@ -84,6 +84,8 @@ pub record LinesOfEvents (error : Error) : Type 0 where
   pub ignoring_match : says_of_a ignoring Matches ≡ codes "a: OK\n"
   pub warned : says_of_a warning Matches ≡ codes "a: OK\n"
   pub no_name : line_of_event plain (checked [] (Unreadable error)) ≡ codes ": FAILED open or read\n"
+  pub backslash : line_of_event plain (checked (codes "b\\c") Matches) ≡ codes "b\\c: OK\n"
+  pub carriage_return : line_of_event plain (checked (codes "c\rd") Matches) ≡ codes "c\rd: OK\n"
   pub newline : line_of_event plain (checked (codes "a\nb") Differs) ≡ codes "\\a\\nb: FAILED\n"
   pub all_special : line_of_event plain (checked (codes "a\nb\\c\rd") Matches) ≡ codes "\\a\\nb\\\\c\\rd: OK\n"
 

@@ -9,7 +9,7 @@ ghost use Rattle.ripemd_files.specs.Readings.{ComesTo, parameters_of};
 ghost use Rattle.ripemd_files.specs.Said.{Wrote};
 ghost use Rattle.ripemd_files.specs.Lists.{ChecksList};
 ghost use Rattle.ripemd_files.specs.Groups.{ChecksGroup, ChecksMisformatted};
-ghost use Rattle.ripemd_files.specs.Checking.{ChecksLines, IsOutcomeOf, checked, closing_remarks, count_remarks, is_success, remark_where, line_of_event, remarks_on_event, report_of, shown};
+ghost use Rattle.ripemd_files.specs.Checking.{ChecksLines, IsOutcomeOf, checked, closing_remarks, count_remarks, has_lines, is_success, remark_where, line_of_event, remarks_on_event, report_of, shown};
 
 use crate::digests::{read_digest, read_digests};
 use crate::fault::Fault;
@@ -338,11 +338,18 @@ fn report(alloc: Global, quiet: bool, name: &[u8], verdict: Verdict) -> Result<V
     }
 }
 
+// Whether a name has several lines.
+fn has_newline(name: &[u8]) -> bool
+    ensures { result ≡ has_lines name.now }
+{
+    name.iter().any(|byte| *byte == b'\n')
+}
+
 // A name as it is shown, and what stands behind it.
 fn shown_with(alloc: Global, name: &[u8], behind: &[u8]) -> Result<Vec<u8>, AllocError>
     ensures { IfOk result (λ line. line.items ≡ shown name.now ++ behind.now) }
 {
-    let marked = name.iter().any(|byte| *byte == b'\n');
+    let marked = has_newline(name);
     let mut line = Vec::new(alloc);
     if marked {
         line.push(b'\\')?;
