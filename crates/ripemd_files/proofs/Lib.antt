@@ -14,3 +14,4 @@ pub mod Layouts
 pub mod Listed
 pub mod Grouped
 pub mod Agreeing
+pub mod Toys

@@ -8,7 +8,6 @@ use Rattle.std.specs.declared.io.ErrorKind.{ErrorKind}
 use Rattle.std.specs.declared.io.ErrorKind.TheVariants.{NotFound}
 use Rattle.ripemd.specs.Standard.Hashing.{ripemd}
 use Rattle.ripemd_files.specs.declared.line.Line.{Line}
-use Rattle.ripemd_files.specs.declared.line.Ending.TheVariants.{Newline}
 use Rattle.ripemd_files.specs.declared.outcome.Outcome.{Outcome}
 use Rattle.ripemd_files.specs.declared.outcome.Outcome.TheVariants.{Digest, Refused, Broken}
 use Rattle.ripemd_files.specs.declared.log.Complaint.{Complaint}
@@ -17,7 +16,7 @@ use Rattle.ripemd_files.specs.declared.verdict.Verdict.{Verdict}
 use Rattle.ripemd_files.specs.declared.verdict.Verdict.TheVariants.{Matches, Differs, Missing, Unreadable}
 use Rattle.ripemd_files.specs.declared.verdict.Options.{Options}
 use Rattle.ripemd_files.specs.declared.verdict.Tally.{Tally}
-use Rattle.ripemd_files.specs.Lines.{is_marked, mark_of, text_of}
+use Rattle.ripemd_files.specs.Lines.{mark_of, text_of}
 use Rattle.ripemd_files.specs.Readings.{Place, ComesTo, parameters_of}
 use Rattle.ripemd_files.specs.Said.{Remark, Wrote, about_list, unreadable}
 
@@ -47,9 +46,12 @@ pub data Event : Type 0 where
   misformatted : ℕ → Event
   checked : List ℕ → Verdict → Event
 
--- a name, escaped and marked if it has to be
+-- a name of several lines, by bytes 10, is escaped and marked, so that it stands in one; any other stands as it is
+abbrev pub has_lines : List ℕ → Bool
+has_lines name = list_any (λ byte. byte == 10) name
+
 abbrev pub shown : List ℕ → List ℕ
-shown name = mark_of (is_marked Newline name) ++ text_of (is_marked Newline name) name
+shown name = mark_of (has_lines name) ++ text_of (has_lines name) name
 
 abbrev pub report_of : Bool → List ℕ → Verdict → List ℕ
 report_of quiet name Matches = if quiet then [] else shown name ++ codes ": OK\n"

@@ -26,3 +26,7 @@ pub mod Lists
 pub mod Groups
 -- Lines that were printed, and are checked.
 pub mod Printed
+-- Checks of lists, worked.
+pub mod WorkedChecks
+-- Reports on lists, worked.
+pub mod WorkedReports

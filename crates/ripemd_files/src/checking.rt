@@ -9,18 +9,18 @@ ghost use Rattle.ripemd_files.specs.Readings.{ComesTo, parameters_of};
 ghost use Rattle.ripemd_files.specs.Said.{Wrote};
 ghost use Rattle.ripemd_files.specs.Lists.{ChecksList};
 ghost use Rattle.ripemd_files.specs.Groups.{ChecksGroup, ChecksMisformatted};
-ghost use Rattle.ripemd_files.specs.Checking.{ChecksLines, IsOutcomeOf, checked, closing_remarks, count_remarks, is_success, remark_where, line_of_event, remarks_on_event, report_of, shown};
+ghost use Rattle.ripemd_files.specs.Checking.{ChecksLines, IsOutcomeOf, checked, closing_remarks, count_remarks, has_lines, is_success, remark_where, line_of_event, remarks_on_event, report_of, shown};
 
 use crate::digests::{read_digest, read_digests};
 use crate::fault::Fault;
 use crate::folder::Folder;
-use crate::line::{Ending, Layout, Line, Variant};
+use crate::line::{Layout, Line, Variant};
 use crate::list::{Cursor, Group, Next, Rules, read_group};
 use crate::log::{Complaint, Log};
 use crate::outcome::Outcome;
 use crate::printing::{BUFFER, new_buffer, put, remark, remark_unreadable};
 use crate::verdict::{Options, Tally, Verdict};
-use crate::writing::{needs_mark, push_text};
+use crate::writing::push_text;
 use std::alloc::{AllocError, Global};
 use std::io::{BufRead, Write};
 
@@ -338,11 +338,18 @@ fn report(alloc: Global, quiet: bool, name: &[u8], verdict: Verdict) -> Result<V
     }
 }
 
+// Whether a name has several lines.
+fn has_newline(name: &[u8]) -> bool
+    ensures { result ≡ has_lines name.now }
+{
+    name.iter().any(|byte| *byte == b'\n')
+}
+
 // A name as it is shown, and what stands behind it.
 fn shown_with(alloc: Global, name: &[u8], behind: &[u8]) -> Result<Vec<u8>, AllocError>
     ensures { IfOk result (λ line. line.items ≡ shown name.now ++ behind.now) }
 {
-    let marked = needs_mark(Ending::Newline, name);
+    let marked = has_newline(name);
     let mut line = Vec::new(alloc);
     if marked {
         line.push(b'\\')?;

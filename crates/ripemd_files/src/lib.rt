@@ -3,6 +3,7 @@
 #![tactic(auto)]
 
 pub mod agreement;
+pub mod check_facts;
 pub mod checking;
 pub mod digests;
 pub mod facts;

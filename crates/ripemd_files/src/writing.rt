@@ -34,7 +34,7 @@ fn has_special(name: &[u8]) -> bool
 }
 
 // Whether a line is marked, and its name escaped.
-pub(crate) fn needs_mark(ending: Ending, name: &[u8]) -> bool
+fn needs_mark(ending: Ending, name: &[u8]) -> bool
     ensures { result ≡ is_marked ending name.now }
 {
     match ending {
