@@ -252,9 +252,10 @@ def draw_spelling(rng, name):
         return b"\\", name
     if choice < 0.92:
         return b"\\", escaped(name)
-    place = rng.randint(0, len(name))
-    return rng.choice([b"\\", b"\\", b""]), name[:place] + rng.choice(
-        [b"\\", b"\\x", b"\\\\", b"\\n", b"\\r", b"\\0", b"\\t", b"\\ ", b"\\'"]) + name[place:]
+    text = name.decode()
+    place = rng.randint(0, len(text))
+    return rng.choice([b"\\", b"\\", b""]), text[:place].encode() + rng.choice(
+        [b"\\", b"\\x", b"\\\\", b"\\n", b"\\r", b"\\0", b"\\t", b"\\ ", b"\\'"]) + text[place:].encode()
 
 
 # What is made of a digest, by its digits and a place among them, with how often that is drawn.
