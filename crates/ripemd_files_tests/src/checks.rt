@@ -70,7 +70,14 @@ fn a_list_is_checked(rt: HostRuntime) -> Result<(), Fail> {
         ..PLAIN
     };
     let list = List::new(LIST, 0);
-    let success = check(alloc, options, list, Calls::failing_at(0), &mut page, &mut remarks)?;
+    let success = check(
+        alloc,
+        options,
+        list,
+        Calls::failing_at(0),
+        &mut page,
+        &mut remarks,
+    )?;
     assert!(rt; !success);
     assert_eq!(rt; page.bytes.as_slice(), REPORT);
     assert_eq!(rt; remarks.unreadable, 1);
@@ -93,14 +100,24 @@ fn missing_files_are_left_out(rt: HostRuntime) -> Result<(), Fail> {
         ..PLAIN
     };
     let lists: [(&[u8], bool); 2] = [
-        (b"8eb208f7e05d987a9b044a8e98c6b087f15a0bfc  abc\n8eb208f7e05d987a9b044a8e98c6b087f15a0bfc  b\n", true),
+        (
+            b"8eb208f7e05d987a9b044a8e98c6b087f15a0bfc  abc\n8eb208f7e05d987a9b044a8e98c6b087f15a0bfc  b\n",
+            true,
+        ),
         (b"8eb208f7e05d987a9b044a8e98c6b087f15a0bfc  b\n", false),
     ];
     for (list, wanted) in lists {
         let mut page = Page::new(alloc, 0);
         let mut remarks = Remarks::new(alloc);
         let list = List::new(list, 0);
-        let success = check(alloc, options, list, Calls::failing_at(0), &mut page, &mut remarks)?;
+        let success = check(
+            alloc,
+            options,
+            list,
+            Calls::failing_at(0),
+            &mut page,
+            &mut remarks,
+        )?;
         assert_eq!(rt; success, wanted);
         assert!(rt; page.bytes.is_empty());
         assert_eq!(rt; remarks.complaints.is_empty(), wanted);
@@ -117,14 +134,24 @@ fn each_read_of_a_list_may_fail(rt: HostRuntime) -> Result<(), Fail> {
         let mut page = Page::new(alloc, 0);
         let mut remarks = Remarks::new(alloc);
         let list = List::new(LIST, failing);
-        let success = check(alloc, PLAIN, list, Calls::failing_at(0), &mut page, &mut remarks)?;
+        let success = check(
+            alloc,
+            PLAIN,
+            list,
+            Calls::failing_at(0),
+            &mut page,
+            &mut remarks,
+        )?;
         assert!(rt; !success);
         assert!(rt; REPORT.starts_with(page.bytes.as_slice()));
         if page.bytes.as_slice() == REPORT {
             break;
         }
         failed = failed.saturating_add(1);
-        assert_eq!(rt; remarks.complaints.as_slice(), [Complaint::Unreadable].as_slice());
+        assert_eq!(rt;
+            remarks.complaints.as_slice(),
+            [Complaint::Unreadable].as_slice()
+        );
     }
     assert!(rt; failed > 10);
     Ok(())
@@ -134,7 +161,8 @@ fn each_read_of_a_list_may_fail(rt: HostRuntime) -> Result<(), Fail> {
 #[test]
 fn each_call_of_a_folder_may_fail(rt: HostRuntime) -> Result<(), Fail> {
     let alloc = rt.alloc();
-    let list = b"8eb208f7e05d987a9b044a8e98c6b087f15a0bfc  abc\n9c1185a5c5e9fc54612808977ee8f548b2258d31  empty\n";
+    let list =
+        b"8eb208f7e05d987a9b044a8e98c6b087f15a0bfc  abc\n9c1185a5c5e9fc54612808977ee8f548b2258d31  empty\n";
     for failing in 1..7 {
         let mut page = Page::new(alloc, 0);
         let mut remarks = Remarks::new(alloc);
@@ -159,7 +187,14 @@ fn each_write_may_fail(rt: HostRuntime) -> Result<(), Fail> {
         let mut page = Page::new(alloc, failing);
         let mut remarks = Remarks::new(alloc);
         let list = List::new(LIST, 0);
-        let outcome = check(alloc, PLAIN, list, Calls::failing_at(0), &mut page, &mut remarks);
+        let outcome = check(
+            alloc,
+            PLAIN,
+            list,
+            Calls::failing_at(0),
+            &mut page,
+            &mut remarks,
+        );
         assert!(rt; matches!(outcome, Err(Fault::Write(_))), "write {failing}");
     }
     Ok(())

@@ -39,7 +39,8 @@ fn files_are_printed_in_order(rt: HostRuntime) -> Result<(), Fail> {
         calls: Calls::failing_at(0),
     };
     let listed: [&[u8]; 11] = [
-        b"abc", b"empty", b"long", b"abc", b"abc", b"missing", b"abc", b"abc", b"abc", b"long", b"abc",
+        b"abc", b"empty", b"long", b"abc", b"abc", b"missing", b"abc", b"abc", b"abc", b"long",
+        b"abc",
     ];
     let mut page = Page::new(alloc, 0);
     let mut remarks = Remarks::new(alloc);
