@@ -1,6 +1,7 @@
 //! A folder, a writer and a log in memory, which fail when they are told to.
 
 ghost use Rattle.std.specs.Prelude.{None};
+ghost use Rattle.std.specs.Io.{ReadsAtMost};
 ghost use Rattle.ripemd_files.specs.Readings.{any_place};
 
 use ripemd_files::folder::Folder;
@@ -76,7 +77,9 @@ impl<'a> Folder for Memory<'a> {
 }
 
 // Takes bytes from the front, as many as there is room for.
-fn take(rest: &mut &[u8], buffer: &mut [u8]) -> io::Result<usize> {
+fn take(rest: &mut &[u8], buffer: &mut [u8]) -> io::Result<usize>
+    ensures { ReadsAtMost result buffer.new }
+{
     rest.read(buffer)
 }
 
