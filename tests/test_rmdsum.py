@@ -1,5 +1,6 @@
 """Compares the program rmdsum with sha256sum of coreutils. Over the same files, with digests and tags of RIPEMD
 in place of those of SHA-256 in every list, it prints the same to both outputs and ends with the same status."""
+import contextlib
 import dataclasses
 import hashlib
 import itertools
@@ -795,6 +796,41 @@ def test_fifo(stocked):
         wanted, found = results
         wanted.out = exchanged(wanted.out, stocked.hash)
         assert wanted == found
+
+
+def test_file_that_shrinks(tmp_path, rmdsum):
+    """A file that is cut short while it is read ends with what was read."""
+    need("openssl", "openssl")
+    file = tmp_path / "zeros"
+    file.touch()
+    os.truncate(file, 2**30)
+    with subprocess.Popen([rmdsum, "zeros"], cwd=tmp_path, stdout=subprocess.PIPE) as running:
+        count = 0
+        while count < 2**24:
+            assert running.poll() is None
+            count = position(running.pid, file)
+        running.send_signal(signal.SIGSTOP)
+        os.waitpid(running.pid, os.WUNTRACED)
+        count = position(running.pid, file)
+        os.truncate(file, 1000)
+        running.send_signal(signal.SIGCONT)
+        printed, _ = running.communicate(timeout=60)
+    assert running.returncode == 0 and count < 2**30
+    other = run("openssl", "dgst", "-r", "-provider", "legacy", "-provider", "default", "-rmd160", input=bytes(count),
+                status=None, text=False)
+    if other.returncode:
+        pytest.skip("openssl has no RIPEMD-160 here")
+    assert printed == other.stdout.split()[0] + b"  zeros\n"
+
+
+def position(process, file):
+    """How much of a file a process has read."""
+    for number in os.listdir(f"/proc/{process}/fd"):
+        with contextlib.suppress(FileNotFoundError):  # those of libraries are closed
+            if os.readlink(f"/proc/{process}/fd/{number}") == os.path.realpath(file):
+                with open(f"/proc/{process}/fdinfo/{number}", encoding="ascii") as about:
+                    return int(about.readline().split()[1])
+    return 0
 
 
 @pytest.mark.skipif(os.geteuid() == 0, reason="root reads every file")
