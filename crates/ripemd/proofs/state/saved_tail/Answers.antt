@@ -1,7 +1,7 @@
-use Rattle.std.proofs.Common.{◌≡◌, true, rules}
+use Rattle.std.proofs.Common.{◌≡◌, true}
 use Rattle.ripemd_block.proofs.Absorbing.{slice_from}
 use Rattle.ripemd.proofs.Saved.{tail_loaded, rest_of_tail}
-use Rattle.ripemd.proofs.state.load_tail.Goals as goal
+use Rattle.ripemd.proofs.state.saved_tail.Goals as goal
 
 pub returns-then-not-are_zeros-clause-none : goal.returns-then-not-are_zeros-clause-none
 returns-then-not-are_zeros-clause-none c tail valid same =
@@ -19,5 +19,4 @@ returns-clause-some c =
     let front = rw (slice_from 1 saved) at c.split_at.ensures.front in
     let back = rw (slice_from 1 saved) at c.split_at.ensures.back in
     let zeros = c.are_zeros.ensures.0 c.if-not-are_zeros.false in
-    let is = tail_loaded saved tail rest c.requires c.if-len-ge64.false front back zeros in
-    search (rules, is, c.try_new.ensures)
+    tail_loaded saved tail rest c.requires c.if-len-ge64.false front back zeros
