@@ -3,7 +3,7 @@ use Rattle.std.proofs.Common.{◌≡◌, ℕ, ◌+◌, ◌-◌, ◌<◌, refl, s
 use Rattle.std.proofs.Common.{List, [], ◌∷◌, ◌++◌, length, take, drop, get_or, replicate}
 use Rattle.std.proofs.Common.{All, length-append, slice_set, suc, Result, Ok, Err, IfErr}
 use Rattle.std.specs.Result.{IsOk}
-use Rattle.std.proofs.lemmas.List.Elements.{All-append, All-tail}
+use Rattle.std.proofs.lemmas.List.Elements.{All-append}
 use Rattle.std.proofs.lemmas.List.{append_assoc, drop-replicate, length-replicate, length-drop}
 use Rattle.std.proofs.lemmas.List.{length-take-le, take-append-drop}
 use Rattle.std.proofs.Math.Seq.{take-append_seam, drop-append_seam}
@@ -115,4 +115,3 @@ pub both_saved : (output : List ℕ → List ℕ) (h : HashState) (n : ℕ) (byt
     → tail ≡ drop n bytes → output_and_count output h ≡ core → tail_bytes h.tail ≡ tail → core_and_tail output h ≡ bytes
 both_saved output h n bytes core tail front back of_core of_tail =
     core_and_tail-split output h ∙ rw (of_core, of_tail, front, back) (take-append-drop n bytes)
-

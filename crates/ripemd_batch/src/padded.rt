@@ -80,7 +80,7 @@ fn last_blocks<'b>(tail: &[u8], bit_len: u64, zeros: &'b mut [[u8; 64]; 2]) -> &
     ensures value { result.now ≡ blocks (with_padding tail.now bit_len) }
     ensures some { 0 < length result.now }
 {
-    write_marked(tail, &mut zeros[0]);
+    write_marked(&mut zeros[0], tail);
     if tail.len() < 56 {
         write_length(&mut zeros[0], bit_len);
         &zeros[..1]

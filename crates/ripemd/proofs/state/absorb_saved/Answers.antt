@@ -1,4 +1,4 @@
-use Rattle.std.proofs.Common.{◌≡◌, ◌∙◌, ◌+◌, [], ◌++◌, length, take, drop, arith, refl, sym, rules}
+use Rattle.std.proofs.Common.{◌≡◌, ◌∙◌, [], ◌++◌, length, arith, refl, sym}
 use Rattle.std.proofs.lemmas.List.{append-nil, take_all, drop_all}
 use Rattle.std.proofs.lemmas.Result.{IfOk-at_ok}
 use Rattle.ripemd_block.specs.States.{HashState, core_and_tail, fed, with_tail, tail_bytes, output_and_count}

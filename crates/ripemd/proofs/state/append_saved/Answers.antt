@@ -1,5 +1,4 @@
-use Rattle.std.proofs.Common.{◌≡◌, ◌∙◌, ◌+◌, ◌<◌, length, arith}
-use Rattle.std.proofs.lemmas.List.{length-drop}
+use Rattle.std.proofs.Common.{◌∙◌, ◌+◌, ◌<◌, length, arith}
 use Rattle.ripemd.proofs.Saved.{whole, tail_back, tail_appended, both_appended}
 use Rattle.ripemd.proofs.state.append_saved.Goals as goal
 

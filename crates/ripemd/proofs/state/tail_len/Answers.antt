@@ -1,5 +1,5 @@
-use Rattle.std.proofs.Common.{◌≡◌, ap, ◌∙◌, ◌++◌, arith, [], length, refl, sym}
-use Rattle.ripemd_block.specs.States.{HashState, core_and_tail, with_tail, output_and_count}
+use Rattle.std.proofs.Common.{ap, ◌∙◌, arith, [], length, refl}
+use Rattle.ripemd_block.specs.States.{HashState, with_tail, output_and_count}
 use Rattle.ripemd_block.specs.Laws.Saved.{length-core_and_tail}
 use Rattle.ripemd.proofs.Saved.{core_front, tail_back, both_saved, own_core}
 use Rattle.ripemd.proofs.state.tail_len.Goals as goal

@@ -1,4 +1,4 @@
-use Rattle.std.proofs.Common.{◌≡◌, ℕ, ◌+◌, ◌-◌, ◌≤◌, List, ◌++◌, length, take, drop, arith, sym, ◌∙◌}
+use Rattle.std.proofs.Common.{◌≡◌, ℕ, ◌-◌, ◌≤◌, List, ◌++◌, length, take, drop, arith, sym, ◌∙◌}
 use Rattle.std.proofs.lemmas.List.{length-append, length-take-le, length-drop, take_all}
 use Rattle.std.proofs.lemmas.Simd.{put_chunk_whole}
 use Rattle.ripemd_block.proofs.Writing.{ends_written}

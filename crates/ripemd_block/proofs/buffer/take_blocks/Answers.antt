@@ -1,4 +1,4 @@
-use Rattle.std.proofs.Common.{◌≡◌, ℕ, ◌-◌, ◌≤◌, List, [], ◌++◌, length, take, drop, replicate, arith, refl, sym}
+use Rattle.std.proofs.Common.{◌≡◌, ℕ, ◌-◌, ◌≤◌, [], ◌++◌, length, take, drop, replicate, arith, refl, sym}
 use Rattle.std.proofs.lemmas.List.{nil_from_length, length-drop, length-take-le}
 use Rattle.ripemd_block.specs.Standard.Hashing.{blocks}
 use Rattle.ripemd_block.proofs.Absorbing.{filled_block, blocks_filled, left_over_filled}

@@ -1,4 +1,4 @@
-use Rattle.std.proofs.Common.{◌≡◌, ◌+◌, ◌<◌, ◌++◌, length, drop, arith, refl, sym, ◌∙◌}
+use Rattle.std.proofs.Common.{◌≡◌, ◌+◌, ◌<◌, length, drop, arith, refl, sym, ◌∙◌}
 use Rattle.std.proofs.lemmas.List.{length-take-le}
 use Rattle.std.proofs.Math.Seq.{take-append_seam}
 use Rattle.ripemd_block.proofs.Absorbing.{take_put, blocks_unfilled, left_over_unfilled}
@@ -37,12 +37,12 @@ returns-clause-buffer g c =
 
 pub returns-clause-valid_old : goal.returns-clause-valid_old
 returns-clause-valid_old g c = elim c.if-bytes-len.branch [
-    | then-bytes-len w ↦ w.update_blocks.ensures.valid_old
-    | else-bytes-len w ↦ w.take_blocks-rest.ensures.valid_old
-  ]
+  | then-bytes-len w ↦ w.update_blocks.ensures.valid_old
+  | else-bytes-len w ↦ w.take_blocks-rest.ensures.valid_old
+]
 
 pub returns-clause-valid_new : goal.returns-clause-valid_new
 returns-clause-valid_new g c = elim c.if-bytes-len.branch [
-    | then-bytes-len w ↦ rw w.core-is w.update_blocks.ensures.valid_new
-    | else-bytes-len w ↦ rw w.core-is w.take_blocks-rest.ensures.valid_new
-  ]
+  | then-bytes-len w ↦ rw w.core-is w.update_blocks.ensures.valid_new
+  | else-bytes-len w ↦ rw w.core-is w.take_blocks-rest.ensures.valid_new
+]
