@@ -188,7 +188,8 @@ fn digest_group<D: BatchDigest>(
     ensures { map D.bytes_of digests.new
         ≡ map (hash_after before (D.Function.list first) D.step D.output) (targets messages.now) }
 {
-    if messages.len() > 4 && fill_lanes(messages, 5) {
+    let (all, longest) = count_blocks(messages);
+    if all / 5 >= longest {
         digest_lanes::<D::Eight>(first, before, messages, digests);
     } else {
         digest_fours::<D>(first, before, messages, digests);
@@ -232,27 +233,27 @@ fn digest_four<D: BatchDigest>(
     ensures { map D.bytes_of digests.new
         ≡ map (hash_after before (D.Function.list first) D.step D.output) (targets messages.now) }
 {
-    if fill_lanes(messages, 2) {
+    let (all, longest) = count_blocks(messages);
+    if all.div_ceil(2) > longest {
         digest_lanes::<D::Four>(first, before, messages, digests);
     } else {
         ListHasher::<D>::after(first, before).hash_one_by_one(messages, digests);
     }
 }
 
-// Whether to hash some messages at once: if all of them have so many times the blocks of the longest, or
-// more. It has no contract, since both ways give the same digests: any answer is right, and this one is
-// the faster.
-fn fill_lanes(messages: &[&[u8]], times: usize) -> bool {
-    let mut most = 0;
-    let mut sum: usize = 0;
+// How many blocks some messages have together, and how many the longest has. It has no contract, since the
+// digests are the same at any answer: by this one it is seen which way is the faster.
+fn count_blocks(messages: &[&[u8]]) -> (usize, usize) {
+    let mut all: usize = 0;
+    let mut longest = 0;
     for message in messages {
         let blocks = block_count(message);
-        sum = sum.wrapping_add(blocks);
-        if most < blocks {
-            most = blocks;
+        all = all.wrapping_add(blocks);
+        if longest < blocks {
+            longest = blocks;
         }
     }
-    sum >= most.saturating_mul(times)
+    (all, longest)
 }
 
 // Writes the digests of some messages, all at once.

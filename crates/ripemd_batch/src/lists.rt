@@ -107,8 +107,8 @@ impl<D: BatchDigest> ListHasher<D> {
         ensures { map D.bytes_of outputs.new
             ≡ map (made_by D.step D.output self.now) (targets messages.now) }
     {
-        // A message alone leaves all other lanes without work.
-        if messages.len() < 2 {
+        // So few leave most lanes without work.
+        if messages.len() < 3 {
             self.hash_one_by_one(messages, outputs);
         } else {
             self.hash_groups(messages, outputs);
