@@ -46,6 +46,17 @@ impl<'a, 'b> MessageBlocks<'a, 'b> {
         }
     }
 
+    /// Where there is no message, a block of zero bytes.
+    #[inline(always)]
+    pub(crate) fn none(zeros: &'b mut [[u8; 64]; 2]) -> MessageBlocks<'a, 'b>
+        requires { zeros.old ≡ replicate 2 (replicate block_size 0) }
+    {
+        MessageBlocks {
+            whole: &[],
+            last: &zeros[..1],
+        }
+    }
+
     /// How many there are.
     #[inline(always)]
     pub(crate) fn count(&self) -> usize
