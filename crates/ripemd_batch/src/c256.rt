@@ -13,7 +13,8 @@ use crate::lines::{Lines, exchange, round};
 // Where the lines start.
 #[inline(always)]
 fn lines_from<V: Lanes>(state: [V; 8]) -> Lines<[V; 4]>
-    ensures { (j : ℕ) → j < V.COUNT → both_lines (lane_of 4 j (map V.words result.left)) (lane_of 4 j (map V.words result.right))
+    ensures { (j : ℕ) → j < V.COUNT → both_lines (lane_of 4 j (map V.words result.left))
+        (lane_of 4 j (map V.words result.right))
         ≡ lines_from ripemd256 (lane_of 8 j (map V.words state)) }
 {
     Lines {
