@@ -9,6 +9,7 @@ use crate::lanes::Lanes;
 use crate::lines::{Lines, round};
 
 // The states that take the registers of both lines in.
+#[tactic(auto, using(crate::proofs::OneLane::word_in))]
 #[inline(always)]
 fn joint_state<V: Lanes>(state: [V; 5], lines: Lines<[V; 5]>) -> [V; 5]
     ensures { (j : ℕ) → j < V.COUNT → lane_of 5 j (map V.words result)

@@ -13,7 +13,8 @@ use crate::lines::{Lines, exchange, round};
 // Where the lines start.
 #[inline(always)]
 fn lines_from<V: Lanes>(state: [V; 8]) -> Lines<[V; 4]>
-    ensures { (j : ℕ) → j < V.COUNT → both_lines (lane_of 4 j (map V.words result.left)) (lane_of 4 j (map V.words result.right))
+    ensures { (j : ℕ) → j < V.COUNT → both_lines (lane_of 4 j (map V.words result.left))
+        (lane_of 4 j (map V.words result.right))
         ≡ lines_from ripemd256 (lane_of 8 j (map V.words state)) }
 {
     Lines {
@@ -23,6 +24,7 @@ fn lines_from<V: Lanes>(state: [V; 8]) -> Lines<[V; 4]>
 }
 
 // The states that take the registers of both lines in.
+#[tactic(auto, using(crate::proofs::OneLane::word_in))]
 #[inline(always)]
 fn double_state<V: Lanes>(state: [V; 8], lines: Lines<[V; 4]>) -> [V; 8]
     ensures { (j : ℕ) → j < V.COUNT → lane_of 8 j (map V.words result)

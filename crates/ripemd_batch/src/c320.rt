@@ -13,7 +13,8 @@ use crate::lines::{Lines, exchange, round};
 // Where the lines start.
 #[inline(always)]
 fn lines_from<V: Lanes>(state: [V; 10]) -> Lines<[V; 5]>
-    ensures { (j : ℕ) → j < V.COUNT → both_lines (lane_of 5 j (map V.words result.left)) (lane_of 5 j (map V.words result.right))
+    ensures { (j : ℕ) → j < V.COUNT → both_lines (lane_of 5 j (map V.words result.left))
+        (lane_of 5 j (map V.words result.right))
         ≡ lines_from ripemd320 (lane_of 10 j (map V.words state)) }
 {
     Lines {
@@ -23,6 +24,7 @@ fn lines_from<V: Lanes>(state: [V; 10]) -> Lines<[V; 5]>
 }
 
 // The states that take the registers of both lines in.
+#[tactic(auto, using(crate::proofs::OneLane::word_in))]
 #[inline(always)]
 fn double_state<V: Lanes>(state: [V; 10], lines: Lines<[V; 5]>) -> [V; 10]
     ensures { (j : ℕ) → j < V.COUNT → lane_of 10 j (map V.words result)

@@ -32,6 +32,7 @@ pub trait BatchDigest: BlockDigest<Output: ByteArray> {
     /// The states of eight messages.
     type Eight: LaneStates<Function = Self::Function>;
 
+    // So many messages have a word in their vectors.
     ghost four: { Self.Four.Vector.COUNT ≡ 4 };
 
     ghost eight: { Self.Eight.Vector.COUNT ≡ 8 };

@@ -32,13 +32,15 @@ pub trait LaneStates: Copy {
 
     // The states after one more block of each message, of which these are the message words.
     fn compress(self, words: &[Self::Vector; 16]) -> Self
-        ensures { (j : ℕ) → j < Self.Vector.COUNT → (block : List ℕ) → HasWords (map Self.Vector.words words.now) j block
+        ensures { (j : ℕ) → j < Self.Vector.COUNT → (block : List ℕ)
+            → HasWords (map Self.Vector.words words.now) j block
             → words_of j result ≡ Self.Function.step (words_of j self) block };
 
     // The message words of the outputs with their padding, as messages after one block: a block each.
     fn last_words(self) -> [Self::Vector; 16]
         ensures words { (j : ℕ) → j < Self.Vector.COUNT
-            → HasWords (map Self.Vector.words result) j (padded_after 64 (Self.Function.output (words_of j self))) }
+            → HasWords (map Self.Vector.words result) j
+            (padded_after 64 (Self.Function.output (words_of j self))) }
         ensures size { (j : ℕ) → j < Self.Vector.COUNT
             → length (padded_after 64 (Self.Function.output (words_of j self))) ≡ 64 };
 
@@ -51,9 +53,11 @@ pub trait LaneStates: Copy {
     // The new states of the messages whose word in `live` has all bits set, and the old ones of
     // those where it is 0.
     fn select(live: Self::Vector, new: Self, old: Self) -> Self
-        ensures taken { (j : ℕ) → j < Self.Vector.COUNT → slice_index (Self.Vector.words live) j ≡ 0xffff_ffff
+        ensures taken { (j : ℕ) → j < Self.Vector.COUNT
+            → slice_index (Self.Vector.words live) j ≡ 0xffff_ffff
             → words_of j result ≡ words_of j new }
-        ensures kept { (j : ℕ) → j < Self.Vector.COUNT → slice_index (Self.Vector.words live) j ≡ 0
+        ensures kept { (j : ℕ) → j < Self.Vector.COUNT
+            → slice_index (Self.Vector.words live) j ≡ 0
             → words_of j result ≡ words_of j old };
 
     // The digest of message `j`, which is the output of its state.
@@ -97,7 +101,8 @@ fn select_each<V: Lanes, const N: usize>(live: V, new: [V; N], old: [V; N]) -> [
 fn last_words_of<V: Lanes, const N: usize>(states: [V; N]) -> [V; 16]
     requires { N ≤ 13 }
     ensures words { (j : ℕ) → j < V.COUNT
-        → HasWords (map V.words result) j (padded_after 64 (word_bytes (lane_of N j (map V.words states)))) }
+        → HasWords (map V.words result) j
+        (padded_after 64 (word_bytes (lane_of N j (map V.words states)))) }
     ensures size { (j : ℕ) → j < V.COUNT
         → length (padded_after 64 (word_bytes (lane_of N j (map V.words states)))) ≡ 64 }
 {
@@ -146,7 +151,8 @@ fn padding_word(n: usize, i: usize) -> u32
 #[inline(always)]
 fn xor_each<V: Lanes, const N: usize>(a: [V; N], b: [V; N]) -> [V; N]
     ensures { (j : ℕ) → j < V.COUNT → word_bytes (lane_of N j (map V.words result))
-        ≡ zip2 bit_xor (word_bytes (lane_of N j (map V.words a))) (word_bytes (lane_of N j (map V.words b))) }
+        ≡ zip2 bit_xor (word_bytes (lane_of N j (map V.words a)))
+        (word_bytes (lane_of N j (map V.words b))) }
 {
     let mut differ = a;
     for i in 0..N {

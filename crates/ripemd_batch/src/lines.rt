@@ -48,7 +48,8 @@ pub(crate) trait LineRegisters: Copy {
         requires round { r < ROUNDS }
         requires amount { (0 < s) × (s < 32) }
         ensures { (j : ℕ) → j < Self.Vector.COUNT → lane j result
-            ≡ step ((line_of ROUNDS side).function r) (slice_index (Self.Vector.words x) j) k s (lane j self) };
+            ≡ step ((line_of ROUNDS side).function r) (slice_index (Self.Vector.words x) j) k s
+            (lane j self) };
 
     /// The registers of two lines with register `k` exchanged between them.
     fn exchange(k: usize, left: Self, right: Self) -> (Self, Self)
@@ -124,7 +125,8 @@ fn function<V: Lanes>(side: Side, rounds: usize, r: usize, x: V, y: V, z: V) -> 
     requires round { r < rounds }
     requires most { rounds ≤ 5 }
     ensures { (j : ℕ) → j < V.COUNT → slice_index (V.words result) j
-        ≡ (line_of rounds side).function r (slice_index (V.words x) j) (slice_index (V.words y) j) (slice_index (V.words z) j) }
+        ≡ (line_of rounds side).function r (slice_index (V.words x) j) (slice_index (V.words y) j)
+        (slice_index (V.words z) j) }
 {
     match side {
         Side::Left => boolean_function(r, x, y, z),
@@ -138,7 +140,8 @@ fn function<V: Lanes>(side: Side, rounds: usize, r: usize, x: V, y: V, z: V) -> 
 fn boolean_function<V: Lanes>(k: usize, x: V, y: V, z: V) -> V
     requires { k < 5 }
     ensures { (j : ℕ) → j < V.COUNT → slice_index (V.words result) j
-        ≡ boolean_function k (slice_index (V.words x) j) (slice_index (V.words y) j) (slice_index (V.words z) j) }
+        ≡ boolean_function k (slice_index (V.words x) j) (slice_index (V.words y) j)
+        (slice_index (V.words z) j) }
 {
     match k {
         0 => x.xor(y.xor(z)),
@@ -175,7 +178,8 @@ fn step_at<R: LineRegisters>(
     requires round { r < R.ROUNDS }
     requires most { R.ROUNDS ≤ 5 }
     requires step { i < 16 }
-    ensures { (j : ℕ) → j < R.Vector.COUNT → (block first : List ℕ) → HasWords (map R.Vector.words words.now) j block
+    ensures { (j : ℕ) → j < R.Vector.COUNT → (block first : List ℕ)
+        → HasWords (map R.Vector.words words.now) j block
         → R.lane j registers ≡ registers_after (line_of R.ROUNDS side) block r i first
         → R.lane j result ≡ registers_after (line_of R.ROUNDS side) block r (i + 1) first }
 {
@@ -197,7 +201,8 @@ fn four_steps<R: LineRegisters>(
     requires round { r < R.ROUNDS }
     requires most { R.ROUNDS ≤ 5 }
     requires steps { from + 4 ≤ 16 }
-    ensures { (j : ℕ) → j < R.Vector.COUNT → (block first : List ℕ) → HasWords (map R.Vector.words words.now) j block
+    ensures { (j : ℕ) → j < R.Vector.COUNT → (block first : List ℕ)
+        → HasWords (map R.Vector.words words.now) j block
         → R.lane j start ≡ registers_after (line_of R.ROUNDS side) block r from first
         → R.lane j result ≡ registers_after (line_of R.ROUNDS side) block r (from + 4) first }
 {
@@ -218,9 +223,11 @@ pub(crate) fn round<R: LineRegisters, const N: usize>(
 ) -> Lines<R>
     requires round { N < R.ROUNDS }
     requires most { R.ROUNDS ≤ 5 }
-    ensures left { (j : ℕ) → j < R.Vector.COUNT → (block : List ℕ) → HasWords (map R.Vector.words words.now) j block
+    ensures left { (j : ℕ) → j < R.Vector.COUNT → (block : List ℕ)
+        → HasWords (map R.Vector.words words.now) j block
         → R.lane j result.left ≡ round left_line block N (R.lane j lines.left) }
-    ensures right { (j : ℕ) → j < R.Vector.COUNT → (block : List ℕ) → HasWords (map R.Vector.words words.now) j block
+    ensures right { (j : ℕ) → j < R.Vector.COUNT → (block : List ℕ)
+        → HasWords (map R.Vector.words words.now) j block
         → R.lane j result.right ≡ round (right_line R.ROUNDS) block N (R.lane j lines.right) }
 {
     let left = four_steps(Side::Left, N, 0, words, lines.left);

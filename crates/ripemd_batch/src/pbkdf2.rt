@@ -402,8 +402,10 @@ fn tag_after<S: LaneStates>(inner: S, outer: S, text: S) -> S
 // The states from which a half of a tag starts.
 #[inline(always)]
 fn first_of_half<S: LaneStates>(half: usize, inner: S, outer: S) -> S
-    ensures inner { (j : ℕ) → j < S.Vector.COUNT → half ≡ 0 → S.words_of j result ≡ S.words_of j inner }
-    ensures outer { (j : ℕ) → j < S.Vector.COUNT → half ≡ 1 → S.words_of j result ≡ S.words_of j outer }
+    ensures inner { (j : ℕ) → j < S.Vector.COUNT → half ≡ 0
+        → S.words_of j result ≡ S.words_of j inner }
+    ensures outer { (j : ℕ) → j < S.Vector.COUNT → half ≡ 1
+        → S.words_of j result ≡ S.words_of j outer }
 {
     if half == 0 { inner } else { outer }
 }
