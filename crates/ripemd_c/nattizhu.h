@@ -86,7 +86,7 @@ NATTIZHU_CHECKED size_t nattizhu_hmac_state_size(void);
 NATTIZHU_CHECKED bool nattizhu_digest(nattizhu_variant variant, const uint8_t *message,
                                       size_t length, uint8_t *digest, size_t digest_length);
 
-/* ---- Digests of many messages, eight at once */
+/* ---- Digests of many messages, up to eight at once */
 
 /* Writes the digests of records of `size` bytes, one after another. For n records, which lie one
  * after another too, `length` has to be n * size, without overflow, and `digests_length` n digests.
@@ -189,10 +189,10 @@ NATTIZHU_CHECKED bool nattizhu_pbkdf2(nattizhu_variant variant, const uint8_t *p
                                       size_t salt_length, uint32_t rounds, uint8_t *key,
                                       size_t key_length);
 
-/* Derives a key of `size` bytes from each password and the salt at its place, eight at once, and
- * writes one after another. It returns false too if `rounds` is 0, or `size` is more than 2^32 - 1
- * digests, or the counts differ, or `keys_length` is not `count * size`, as a product without
- * overflow. */
+/* Derives a key of `size` bytes from each password and the salt at its place, up to eight at once,
+ * and writes one after another. It returns false too if `rounds` is 0, or `size` is more than
+ * 2^32 - 1 digests, or the counts differ, or `keys_length` is not `count * size`, as a product
+ * without overflow. */
 NATTIZHU_CHECKED bool nattizhu_pbkdf2_list(nattizhu_variant variant,
                                            const nattizhu_message *passwords, size_t count,
                                            const nattizhu_message *salts, size_t salt_count,

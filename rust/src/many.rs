@@ -1,4 +1,4 @@
-//! Records and lists of messages, eight at once.
+//! Records and lists of messages, up to eight at once.
 
 use crate::sys::{self, taken, Message};
 use crate::Ripemd;
@@ -25,7 +25,7 @@ fn fits(answer: bool) -> Result<(), InvalidLength> {
 }
 
 /// Writes the digest of each record of `size` bytes to its place in `digests`. The records lie one after
-/// another. They are hashed eight at once.
+/// another. They are hashed up to eight at once.
 ///
 /// # Errors
 ///
@@ -76,7 +76,7 @@ pub fn digest_list<D: Ripemd>(
 }
 
 /// Writes the tag (HMAC, RFC 2104) of each record of `size` bytes under the key to its place in `tags`.
-/// The records lie one after another. The tags are made eight at once.
+/// The records lie one after another. The tags are made up to eight at once.
 ///
 /// # Errors
 ///
@@ -100,7 +100,7 @@ pub fn hmac_each<D: Ripemd>(
 }
 
 /// Writes the tag (HMAC, RFC 2104) of each text, of any lengths, under the key to its place in `tags`.
-/// The tags are made eight at once.
+/// The tags are made up to eight at once.
 ///
 /// # Errors
 ///

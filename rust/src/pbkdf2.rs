@@ -71,8 +71,8 @@ pub fn pbkdf2_hmac<D: Ripemd>(
     allowed(answer, rounds)
 }
 
-/// Derives a key of `size` bytes from each password and the salt at its place, as [`pbkdf2_hmac`] does, eight
-/// at once, and writes the keys one after another to `keys`.
+/// Derives a key of `size` bytes from each password and the salt at its place, as [`pbkdf2_hmac`] does, up
+/// to eight at once, and writes the keys one after another to `keys`.
 ///
 /// # Errors
 ///

@@ -136,6 +136,7 @@ impl<F: ResumableFunction> Resumable for BlockHasher<F> {
         BlockHasher::load_slice(bytes)
     }
 
+    #[inline(always)]
     fn update_saved(saved: &mut [u8], bytes: &[u8]) -> bool {
         update_saved::<F>(saved, bytes)
     }

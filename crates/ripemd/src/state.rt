@@ -1,18 +1,18 @@
 //! Hashers saved as bytes, and loaded again.
 
-ghost use Rattle.std.specs.Prelude.{◌≡◌, ◌≢◌, ℕ, ◌<◌, ◌≤◌, ◌↔◌, List, ◌++◌, length, drop, replicate, IfSome, IfNone, IsTrue, IsFalse};
+ghost use Rattle.std.specs.Prelude.{◌≡◌, ◌≢◌, ℕ, ◌+◌, ◌<◌, ◌≤◌, ◌↔◌, List, ◌++◌, length, drop, replicate, IfSome, IfNone, IsTrue, IsFalse};
 ghost use Rattle.std.specs.List.{All};
 ghost use Rattle.std.specs.Int.{to_le_bytes, w64};
 ghost use Rattle.ripemd_block.specs.Standard.Words.{block_size};
 ghost use Rattle.ripemd_block.specs.States.{HashState, IsHashState, IsTail, core_and_tail, fed, tail_bytes};
-ghost use Rattle.ripemd.specs.Saved.{IsAppended, IsTailAppended};
+ghost use Rattle.ripemd.specs.Saved.{HasTail, IsAppended};
 
 use crate::hashers::BlockHasher;
 pub use ripemd_block::block_api::DeserializeStateError;
 use ripemd_block::block_api::{
     BlockCore, ByteArray, ResumableFunction, SerializableState, write_short,
 };
-use ripemd_block::buffer::Buffer;
+use ripemd_block::buffer::{Buffer, take_blocks};
 
 impl<F: ResumableFunction> SerializableState for BlockHasher<F> {
     type Saved = F::SavedHasher;
@@ -76,6 +76,20 @@ fn load_tail(saved: &[u8]) -> Option<Buffer>
     ensures valid { IfSome result IsTail }
     ensures none { IfNone result ((tail : List ℕ) → IsTail tail → tail_bytes tail ≢ saved.now) }
 {
+    match saved_tail(saved) {
+        Some(tail) => Buffer::try_new(tail),
+        None => None,
+    }
+}
+
+// The same, where it lies.
+#[inline(always)]
+fn saved_tail(saved: &[u8]) -> Option<&[u8]>
+    requires { length saved.now ≡ block_size }
+    ensures some { IfSome result (λ tail. tail_bytes tail.now ≡ saved.now) }
+    ensures valid { IfSome result (λ tail. IsTail tail.now) }
+    ensures none { IfNone result ((tail : List ℕ) → IsTail tail → tail_bytes tail ≢ saved.now) }
+{
     let len = saved[0] as usize;
     if len >= 64 {
         return None;
@@ -84,11 +98,13 @@ fn load_tail(saved: &[u8]) -> Option<Buffer>
     if !are_zeros(rest) {
         return None;
     }
-    Buffer::try_new(tail)
+    bytes_in_range(tail);
+    Some(tail)
 }
 
 /// Appends bytes to the message of a saved hasher: makes its saved bytes those of the hasher after them.
 /// False, and nothing is written, exactly if no hasher is saved as these.
+#[inline(always)]
 pub fn update_saved<F: ResumableFunction>(saved: &mut [u8], bytes: &[u8]) -> bool
     ensures appended { IsTrue result → IsAppended (IsHashState F.are_words) (core_and_tail F.output)
         (fed F.step) saved.old bytes.now saved.new }
@@ -96,76 +112,70 @@ pub fn update_saved<F: ResumableFunction>(saved: &mut [u8], bytes: &[u8]) -> boo
         → core_and_tail F.output h ≢ saved.old }
     ensures unchanged { IsFalse result → saved.new ≡ saved.old }
 {
-    append_saved::<F>(saved, bytes) || absorb_saved::<F>(saved, bytes)
+    let Some(len) = tail_len::<F>(saved) else {
+        return false;
+    };
+    if len + bytes.len() < 64 {
+        append_saved::<F>(saved, len, bytes);
+    } else {
+        absorb_saved::<F>(saved, len, bytes);
+    }
+    true
 }
 
-// The same of bytes that end no block, which takes only the tail. Where it answers false, `absorb_saved` has
-// to be asked.
+// How many bytes the tail of the hasher has that was saved as these bytes; `None` exactly if none was.
 #[inline(always)]
-fn append_saved<F: ResumableFunction>(saved: &mut [u8], bytes: &[u8]) -> bool
-    ensures appended { IsTrue result → IsAppended (IsHashState F.are_words) (core_and_tail F.output)
-        (fed F.step) saved.old bytes.now saved.new }
-    ensures unchanged { IsFalse result → saved.new ≡ saved.old }
+fn tail_len<F: ResumableFunction>(saved: &[u8]) -> Option<usize>
+    ensures some { IfSome result (HasTail (IsHashState F.are_words) (core_and_tail F.output) saved.now) }
+    ensures none { IfNone result ((h : HashState) → IsHashState F.are_words h
+        → core_and_tail F.output h ≢ saved.now) }
 {
     if saved.len() != <F::SavedHasher as ByteArray>::LEN {
-        return false;
+        return None;
     }
-    let (core, tail) = saved.split_at_mut(<F::SavedCore as ByteArray>::LEN);
-    match BlockCore::<F>::load_slice(core) {
-        Ok(_core) => append_tail(tail, bytes),
-        Err(_) => false,
-    }
+    let (core, tail) = saved.split_at(<F::SavedCore as ByteArray>::LEN);
+    let Ok(_core) = BlockCore::<F>::load_slice(core) else {
+        return None;
+    };
+    let Some(held) = saved_tail(tail) else {
+        return None;
+    };
+    Some(held.len())
 }
 
-// The same of any bytes. Not inlined, so that short pieces take none of its stack.
-#[inline(never)]
-#[tactic(auto, unfolding(ripemd_block::specs::States::fed))]
-fn absorb_saved<F: ResumableFunction>(saved: &mut [u8], bytes: &[u8]) -> bool
-    ensures appended { IsTrue result → IsAppended (IsHashState F.are_words) (core_and_tail F.output)
-        (fed F.step) saved.old bytes.now saved.new }
-    ensures refused { IsFalse result → (h : HashState) → IsHashState F.are_words h
-        → core_and_tail F.output h ≢ saved.old }
-    ensures unchanged { IsFalse result → saved.new ≡ saved.old }
+// Appends bytes that end no block to the message of a saved hasher with so long a tail.
+#[inline(always)]
+fn append_saved<F: ResumableFunction>(saved: &mut [u8], len: usize, bytes: &[u8])
+    requires saved { HasTail (IsHashState F.are_words) (core_and_tail F.output) saved.old len }
+    requires short { len + length bytes.now < block_size }
+    ensures { IsAppended (IsHashState F.are_words) (core_and_tail F.output) (fed F.step)
+        saved.old bytes.now saved.new }
 {
-    if saved.len() != <F::SavedHasher as ByteArray>::LEN {
-        return false;
-    }
-    let (front, back) = saved.split_at_mut(<F::SavedCore as ByteArray>::LEN);
-    let Ok(loaded) = BlockCore::<F>::load_slice(front) else {
-        return false;
-    };
-    let mut core = loaded;
-    let Some(tail) = load_tail(back) else {
-        return false;
-    };
-    let mut buffer = tail;
-    buffer.absorb(&mut core, bytes);
+    bytes_in_range(bytes);
+    let (_, tail) = saved.split_at_mut(<F::SavedCore as ByteArray>::LEN);
+    let (held, room) = tail.split_at_mut(1 + len);
+    write_short(room, bytes);
+    held[0] = (len + bytes.len()) as u8;
+}
+
+// Appends bytes that end a block or more. Not inlined, so that short pieces take none of its stack.
+#[inline(never)]
+fn absorb_saved<F: ResumableFunction>(saved: &mut [u8], len: usize, bytes: &[u8])
+    requires saved { HasTail (IsHashState F.are_words) (core_and_tail F.output) saved.old len }
+    requires filled { block_size ≤ len + length bytes.now }
+    ensures { IsAppended (IsHashState F.are_words) (core_and_tail F.output) (fed F.step)
+        saved.old bytes.now saved.new }
+{
+    let (front, behind) = saved.split_at_mut(<F::SavedCore as ByteArray>::LEN);
+    // All of them, but so the compiler knows how many.
+    let (back, _) = behind.split_at_mut(64);
+    let mut core = BlockCore::<F>::load_slice(front).unwrap();
+    let (_, behind) = back.split_at(1);
+    let (tail, _) = behind.split_at(len);
+    let rest = take_blocks(&mut core, tail, bytes);
     let after = core.serialize();
     front.copy_from_slice(after.as_bytes());
-    save_tail(buffer.get_data(), back);
-    true
-}
-
-// The same of a saved tail, if they end no block.
-#[inline(always)]
-fn append_tail(saved: &mut [u8], bytes: &[u8]) -> bool
-    requires { length saved.old ≡ block_size }
-    ensures appended { IsTrue result → IsTailAppended saved.old bytes.now saved.new }
-    ensures unchanged { IsFalse result → saved.new ≡ saved.old }
-{
-    let len = saved[0] as usize;
-    if len >= 64 || bytes.len() >= 64 - len {
-        return false;
-    }
-    let (front, room) = saved.split_at_mut(1 + len);
-    if !are_zeros(room) {
-        return false;
-    }
-    bytes_in_range(front);
-    bytes_in_range(bytes);
-    write_short(room, bytes);
-    front[0] = (len + bytes.len()) as u8;
-    true
+    save_tail(rest, back);
 }
 
 // Proof only: bytes are below 256.

@@ -1,8 +1,8 @@
 -- The whole blocks of a message and the blocks of its tail with the padding are all its blocks.
-use Rattle.std.proofs.Common.{◌≡◌, ℕ, ◌+◌, ◌<◌, ◌*◌, ◌%◌, ◌^◌, List, ◌++◌, length, sym}
+use Rattle.std.proofs.Common.{◌≡◌, ℕ, ◌+◌, ◌*◌, ◌%◌, ◌^◌, List, ◌++◌, length, sym}
 use Rattle.ripemd_block.specs.Standard.Hashing.{with_padding, blocks, partial_block}
 use Rattle.ripemd_block.specs.Laws.Pieces.{with_padding_rest}
-use Rattle.ripemd_batch.specs.Lanes.{padded_after, list_at}
+use Rattle.ripemd_batch.specs.Lanes.{padded_after}
 
 pub joined_blocks : (before : ℕ) (m tail : List ℕ) (n : ℕ) (whole last : List (List ℕ))
     → whole ≡ blocks m
@@ -12,10 +12,3 @@ pub joined_blocks : (before : ℕ) (m tail : List ℕ) (n : ℕ) (whole last : L
     → whole ++ last ≡ blocks (padded_after before m)
 joined_blocks before m tail n whole last of_whole of_tail bits of_last =
     rw (of_whole, of_last, of_tail, bits) (sym (with_padding_rest m (8 * (before + length m) % 2 ^ 64)))
-
--- where some blocks are those of the message at place i of a list, if it has that place
-pub blocks_at : (before : ℕ) (messages : List (List ℕ)) (count i : ℕ) (m : List ℕ) (bs : List (List ℕ))
-    → (i < count → m ≡ list_at messages i) → bs ≡ blocks (padded_after before m)
-    → i < count → bs ≡ blocks (padded_after before (list_at messages i))
-blocks_at before messages count i m bs message blocks_are within =
-    rw (message within) at blocks_are

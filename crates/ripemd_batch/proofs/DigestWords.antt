@@ -1,6 +1,6 @@
 -- Words and their bytes: exclusive or, and the message words of a block.
 use Rattle.std.proofs.Common.{◌≡◌, ℕ, zero, suc, ◌+◌, ◌*◌, ◌/◌, ◌%◌, ◌^◌, ◌-◌, ◌<◌, ◌≤◌, zero-add, refl, ap, sym, ◌∙◌, arith}
-use Rattle.std.proofs.Common.{List, [], ◌∷◌, ◌++◌, length, length-append, replicate, slice_index}
+use Rattle.std.proofs.Common.{List, [], ◌∷◌, ◌++◌, get_or, length, length-append, map, replicate, slice_index}
 use Rattle.std.specs.Int.{w32, w64, to_le_bytes}
 use Rattle.std.specs.Int.Bits.{bit_xor}
 use Rattle.std.specs.Simd.Lanes.{zip2}
@@ -9,11 +9,12 @@ use Rattle.std.proofs.lemmas.Simd.{zip2-map}
 use Rattle.std.proofs.lemmas.Nat.{from_le_bytes-to_le_bytes_4, xor_shr, xor_mod}
 use Rattle.std.proofs.lemmas.Grind.{flat_map-append}
 use Rattle.std.proofs.lemmas.List.{append_assoc, get_or_append_left, length-replicate}
-use Rattle.std.proofs.lemmas.List.FromFn.{fill_by_all, length-map-range_with_len, get_or-map-range_with_len}
+use Rattle.std.proofs.lemmas.List.FromFn.{length-map-range_with_len, get_or-map-range_with_len}
 use Rattle.std.proofs.Math.Seq.{get_or-append_right}
 use Rattle.ripemd_block.specs.Standard.Words.{message_word, word_bytes}
 use Rattle.ripemd_block.specs.Standard.Hashing.{with_padding, zero_count}
 use Rattle.ripemd_block.specs.Laws.WordBytes.{length-word_bytes}
+use Rattle.ripemd_batch.proofs.OneLane.{lane_is, word_in, word_is}
 use Rattle.ripemd_batch.specs.Lanes.{HasWords, lane_at, lane_of, padded_after, padding_words}
 
 -- byte k of an exclusive or is that of the bytes
@@ -37,17 +38,20 @@ xor_word_bytes (x ∷ xs) (y ∷ ys) same =
     ∙ ap (λ rest. zip2 bit_xor (to_le_bytes w32 x) (to_le_bytes w32 y) ++ rest) (xor_word_bytes xs ys (omega (arith, same)))
 
 -- and of all words of a message
-pub xor_lane : (v a b : List (List ℕ)) (n j : ℕ)
-    → ((i : ℕ) → i < n → lane_at v i j ≡ bit_xor (lane_at a i j) (lane_at b i j))
-    → word_bytes (lane_of n j v) ≡ zip2 bit_xor (word_bytes (lane_of n j a)) (word_bytes (lane_of n j b))
-xor_lane v a b n j same =
-    let at : List (List ℕ) → ℕ → ℕ = λ v i. lane_at v i j in
-    let size : (v : List (List ℕ)) → length (lane_of n j v) ≡ n = λ v. length-map-range_with_len (at v) 0 n in
-    let differ : lane_of n j v ≡ zip2 bit_xor (lane_of n j a) (lane_of n j b) =
-    fill_by_all (λ i. bit_xor (at a i) (at b i)) (lane_of n j v) n 0 (size v)
-    (λ i h. get_or-map-range_with_len (at v) 0 n i i 0 h (zero-add i) ∙ same i h)
-    ∙ sym (zip2-map bit_xor (at a) (at b) (range_with_len 0 n)) in
-    ap word_bytes differ ∙ xor_word_bytes (lane_of n j a) (lane_of n j b) (size a ∙ sym (size b))
+pub xor_lane : {V : Type 0} (words : V → List ℕ) (v a b : List V) (n j : ℕ) → length v ≡ n → length a ≡ n → length b ≡ n
+    → ((i : ℕ) → i < n → (d : V) → slice_index (words (get_or v i d)) j
+    ≡ bit_xor (slice_index (words (get_or a i d)) j) (slice_index (words (get_or b i d)) j))
+    → word_bytes (lane_of n j (map words v)) ≡ zip2 bit_xor (word_bytes (lane_of n j (map words a))) (word_bytes (lane_of n j (map words b)))
+xor_lane {V = V} words v a b n j count of_a of_b same =
+    let at : List V → ℕ → ℕ = λ v i. lane_at (map words v) i j in
+    let size : (v : List V) → length (lane_of n j (map words v)) ≡ n = λ v. length-map-range_with_len (at v) 0 n in
+    let differ : zip2 bit_xor (lane_of n j (map words a)) (lane_of n j (map words b)) ≡ lane_of n j (map words v) =
+    zip2-map bit_xor (at a) (at b) (range_with_len 0 n)
+    ∙ lane_is words v n j (map (λ i. bit_xor (at a i) (at b i)) (range_with_len 0 n)) count
+    (length-map-range_with_len (λ i. bit_xor (at a i) (at b i)) 0 n)
+    (λ i h d. get_or-map-range_with_len (λ i. bit_xor (at a i) (at b i)) 0 n i i 0 h (zero-add i)
+    ∙ rw (word_in words a i j d (omega (arith, of_a, h)), word_in words b i j d (omega (arith, of_b, h))) (sym (same i h d))) in
+    ap word_bytes (sym differ) ∙ xor_word_bytes (lane_of n j (map words a)) (lane_of n j (map words b)) (size (a) ∙ sym (size b))
 
 -- message word i of the bytes of words is word i
 pub message_word_of : (words : List ℕ) (i : ℕ) → i < length words → slice_index words i < 2 ^ 32
@@ -61,16 +65,18 @@ message_word_of (w ∷ words) (suc i) within fits =
 -- ---- the last block of a message of some words after one block
 
 -- a vector's word in front of the padding, and one of the padding
-pub word_in_front : (v : List (List ℕ)) (n j i : ℕ) (behind : List ℕ) (word : ℕ) → i < n → word ≡ lane_at v i j
-    → word ≡ slice_index (lane_of n j v ++ behind) i
-word_in_front v n j i behind word within is =
+pub word_in_front : {V : Type 0} (words : V → List ℕ) (vs : List V) (n j i : ℕ) (behind : List ℕ) (word : ℕ) → i < n
+    → word ≡ lane_at (map words vs) i j → word ≡ slice_index (lane_of n j (map words vs) ++ behind) i
+word_in_front words vs n j i behind word within is =
+    let v = map words vs in
     let size : length (lane_of n j v) ≡ n = length-map-range_with_len (λ i. lane_at v i j) 0 n in
     is ∙ sym (get_or_append_left (lane_of n j v) behind 0 i (omega (arith, size, within))
     ∙ get_or-map-range_with_len (λ i. lane_at v i j) 0 n i i 0 within (zero-add i))
 
-pub word_behind : (v : List (List ℕ)) (n j i : ℕ) (behind : List ℕ) (word : ℕ) → n ≤ i → word ≡ slice_index behind (i - n)
-    → word ≡ slice_index (lane_of n j v ++ behind) i
-word_behind v n j i behind word past is =
+pub word_behind : {V : Type 0} (words : V → List ℕ) (vs : List V) (n j i : ℕ) (behind : List ℕ) (word : ℕ) → n ≤ i
+    → word ≡ slice_index behind (i - n) → word ≡ slice_index (lane_of n j (map words vs) ++ behind) i
+word_behind words vs n j i behind word past is =
+    let v = map words vs in
     let size : length (lane_of n j v) ≡ n = length-map-range_with_len (λ i. lane_at v i j) 0 n in
     is ∙ ap (λ k. slice_index behind (i - k)) (sym size)
     ∙ sym (get_or-append_right (lane_of n j v) behind i 0 (omega (arith, size, past)))
@@ -107,14 +113,15 @@ padded_words words n many few =
     (append_assoc (word_bytes words) (0x80 ∷ replicate (suc (suc (suc (4 * (13 - n))))) 0) (to_le_bytes w64 (512 + 32 * n)))
 
 -- its words, where these vectors have them, and its size
-pub has_padded_words : (v : List (List ℕ)) (words : List ℕ) (n j : ℕ) → length words ≡ n → n ≤ 13
-    → ((i : ℕ) → i < 16 → lane_at v i j ≡ slice_index (words ++ padding_words n) i)
-    → ((i : ℕ) → i < 16 → lane_at v i j < 2 ^ 32)
-    → HasWords v j (padded_after 64 (word_bytes words))
-has_padded_words v words n j many few same fit i h =
+pub has_padded_words : {V : Type 0} (words_of : V → List ℕ) (v : List V) (words : List ℕ) (n j : ℕ) → length v ≡ 16 → length words ≡ n → n ≤ 13
+    → ((i : ℕ) → i < 16 → (d : V) → slice_index (words ++ padding_words n) i ≡ slice_index (words_of (get_or v i d)) j)
+    → ((i : ℕ) → i < 16 → (d : V) → slice_index (words_of (get_or v i d)) j < 2 ^ 32)
+    → HasWords (map words_of v) j (padded_after 64 (word_bytes words))
+has_padded_words words_of v words n j count many few same fit i h =
     let size : length (words ++ padding_words n) ≡ 16 = all_words words n many few in
     rw (padded_words words n many few)
-    (same i h ∙ sym (message_word_of (words ++ padding_words n) i (omega (arith, size, h)) (rw (← same i h) (fit i h))))
+    (sym (word_is words_of v i j (message_word (word_bytes (words ++ padding_words n)) i) (omega (arith, count, h))
+    (λ d. message_word_of (words ++ padding_words n) i (omega (arith, size, h)) (rw (same i h d) (fit i h d)) ∙ same i h d)))
   where
     all_words : (words : List ℕ) (n : ℕ) → length words ≡ n → n ≤ 13 → length (words ++ padding_words n) ≡ 16
     all_words words n many few =

@@ -1,8 +1,11 @@
 -- The blocks of a key, from the states after the two masked keys.
-use Rattle.std.proofs.Common.{◌≡◌, ℕ, ◌+◌, ◌-◌, ◌*◌, ◌/◌, ◌%◌, ◌<◌, ◌≤◌, arith}
+use Rattle.std.proofs.Common.{◌≡◌, ℕ, ◌+◌, ◌-◌, ◌*◌, ◌/◌, ◌%◌, ◌^◌, ◌<◌, ◌≤◌, ◌⊎◌, inl, inr, arith}
 use Rattle.std.proofs.Common.{List, [], ◌∷◌, ◌++◌, length, refl, ap, sym, subst, ◌∙◌}
-use Rattle.std.proofs.Math.Nat.{div-eq_of_lt, mod-eq_of_lt, mul-add-div, mul-add-mod_self_left, mul-le-mul_left}
+use Rattle.std.proofs.Math.Nat.{div-eq_of_lt, mod-eq_of_lt, mul-add-div, mul-add-mod_self_left, mul-le-mul_left, mul-le-mul_right, le-mul_of_pos_right}
+use Rattle.std.specs.Int.{div_ceil}
 use Rattle.std.specs.List.{flat_map}
+use Rattle.std.proofs.lemmas.Bool.{cases_lt}
+use Rattle.std.proofs.lemmas.Grind.{div_ceil_times}
 use Rattle.std.proofs.Math.Path.{fun_ext}
 use Rattle.std.proofs.lemmas.List.{append_assoc}
 use Rattle.ripemd_block.specs.Standard.Hashing.{hash}
@@ -42,6 +45,21 @@ pub next_group : (size : ℕ) (PRF : List ℕ → List ℕ → List ℕ) (keys :
 next_group size PRF keys k n group has next more j h within =
     let same : n - n % 8 ≡ k - k % 8 = omega (arith, next, more) in
     rw same (has j h (omega (arith, same, within)))
+
+-- so many bytes have fewer than 2^32 blocks, and those of all keys are no more than the bytes of all
+pub count_fits : (size digest : ℕ) → 0 < digest → size ≤ (2 ^ 32 - 1) * digest → div_ceil size digest < 2 ^ 32
+count_fits size digest some most = go (cases_lt (div_ceil size digest) (2 ^ 32))
+  where
+    go : (div_ceil size digest < 2 ^ 32) ⊎ (2 ^ 32 ≤ div_ceil size digest) → div_ceil size digest < 2 ^ 32
+    go (inl fits) = fits
+    go (inr more) = absurd (omega (arith, most, mul-le-mul_right digest more, (div_ceil_times size digest some).1))
+
+pub all_fit : (size digest n : ℕ) → 0 < digest → size * n < 2 ^ 63 → div_ceil size digest * n < 2 ^ 63
+all_fit size digest n some fits = omega (arith, fits, mul-le-mul_right n (fewer (cases_lt size (div_ceil size digest))))
+  where
+    fewer : (size < div_ceil size digest) ⊎ (div_ceil size digest ≤ size) → div_ceil size digest ≤ size
+    fewer (inl more) = absurd (omega (arith, le-mul_of_pos_right size some, mul-le-mul_right digest more, (div_ceil_times size digest some).1))
+    fewer (inr few) = few
 
 -- keys of no bytes
 pub no_keys : (keys : List ℕ) (f : ℕ → List ℕ) (xs : List ℕ) → length keys ≡ 0 → ((i : ℕ) → f i ≡ []) → keys ≡ flat_map f xs

@@ -6,6 +6,7 @@ pub mod Factored
 pub mod KeyBlocks
 pub mod OneLane
 pub mod Placing
+pub mod Rotating
 pub mod Tagging
 pub mod Transposing
 pub mod Walking

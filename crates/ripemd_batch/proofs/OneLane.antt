@@ -1,16 +1,31 @@
--- The words of one message, in some vectors.
-use Rattle.std.proofs.Common.{◌≡◌, ℕ, ◌<◌, List, length, slice_index, zero-add, ◌∙◌}
+-- The words of one message, in some vectors. Beyond these stands any vector.
+use Rattle.std.proofs.Common.{◌≡◌, ℕ, ◌<◌, List, [], ◌∷◌, get_or, length, map, slice_index, zero-add, ap, sym, ◌∙◌, arith}
+use Rattle.std.proofs.lemmas.List.{get_or-map}
 use Rattle.std.proofs.lemmas.List.FromFn.{fill_by_all, length-map-range_with_len, get_or-map-range_with_len}
 use Rattle.ripemd_batch.specs.Lanes.{lane_at, lane_of}
 
--- these words are the lane
-pub lane_is : (v : List (List ℕ)) (n j : ℕ) (words : List ℕ) → length words ≡ n
-    → ((i : ℕ) → i < n → slice_index words i ≡ lane_at v i j) → words ≡ lane_of n j v
-lane_is v n j words size same = fill_by_all (λ i. lane_at v i j) words n 0 size same
+module _ {V : Type 0} (words : V → List ℕ) where
+  -- the word in vector i
+  pub word_in : (v : List V) (i j : ℕ) (d : V) → i < length v → lane_at (map words v) i j ≡ slice_index (words (get_or v i d)) j
+  word_in v i j d within = ap (λ (x : List ℕ). slice_index x j) (get_or-map words v i d [] within)
 
--- where the vectors have the same words, they have the same lane
-pub same_lane : (v w : List (List ℕ)) (n j : ℕ)
-    → ((i : ℕ) → i < n → lane_at v i j ≡ lane_at w i j) → lane_of n j v ≡ lane_of n j w
-same_lane v w n j same =
-    lane_is w n j (lane_of n j v) (length-map-range_with_len (λ i. lane_at v i j) 0 n)
-    (λ i h. get_or-map-range_with_len (λ i. lane_at v i j) 0 n i i 0 h (zero-add i) ∙ same i h)
+  pub word_is : (v : List V) (i j word : ℕ) → i < length v → ((d : V) → word ≡ slice_index (words (get_or v i d)) j)
+      → word ≡ lane_at (map words v) i j
+  word_is [] i j word within same = absurd (omega (arith, within))
+  word_is (x ∷ v) i j word within same = same x ∙ sym (word_in (x ∷ v) i j x within)
+
+  -- these words are the lane
+  pub lane_is : (v : List V) (n j : ℕ) (ws : List ℕ) → length v ≡ n → length ws ≡ n
+      → ((i : ℕ) → i < n → (d : V) → slice_index ws i ≡ slice_index (words (get_or v i d)) j) → ws ≡ lane_of n j (map words v)
+  lane_is v n j ws count size same =
+      fill_by_all (λ i. lane_at (map words v) i j) ws n 0 size
+      (λ i h. word_is v i j (slice_index ws i) (omega (arith, count, h)) (same i h))
+
+  -- where the vectors have the same words, they have the same lane
+  pub same_lane : (v w : List V) (n j : ℕ) → length v ≡ n → length w ≡ n
+      → ((i : ℕ) → i < n → (d : V) → slice_index (words (get_or v i d)) j ≡ slice_index (words (get_or w i d)) j)
+      → lane_of n j (map words v) ≡ lane_of n j (map words w)
+  same_lane v w n j count many same =
+      lane_is w n j (lane_of n j (map words v)) many (length-map-range_with_len (λ i. lane_at (map words v) i j) 0 n)
+      (λ i h d. get_or-map-range_with_len (λ i. lane_at (map words v) i j) 0 n i i 0 h (zero-add i)
+      ∙ word_in v i j d (omega (arith, count, h)) ∙ same i h d)

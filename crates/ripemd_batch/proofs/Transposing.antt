@@ -36,8 +36,3 @@ joined word low high p0 q0 w0 p1 q1 w1 p2 q2 w2 p3 q3 w3 s t l h is0 is1 is2 is3
     below_four (λ k. (j : ℕ) → j < 8 → lane_at (w0 ∷ w1 ∷ w2 ∷ w3 ∷ []) k j ≡ word k j)
     (one 0 p0 q0 w0 (omega arith) is0) (one 1 p1 q1 w1 (omega arith) is1)
     (one 2 p2 q2 w2 (omega arith) is2) (one 3 p3 q3 w3 (omega arith) is3)
-
--- a word of the four vectors; beyond these stands d
-pub word_at : (v : List (List ℕ)) (k j : ℕ) (d : List ℕ) → length v ≡ 4 → k < 4
-    → slice_index (get_or v k d) j ≡ lane_at v k j
-word_at v k j d s small = ap (λ (x : List ℕ). slice_index x j) (get_or_default v k d [] (omega arith))

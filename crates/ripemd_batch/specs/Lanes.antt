@@ -1,4 +1,4 @@
--- Eight messages side by side: a vector has a word of each.
+-- Messages side by side: a vector has a word of each.
 use Rattle.std.specs.Prelude.{ℕ, ◌<◌, ◌≡◌, ◌+◌, ◌-◌, ◌*◌, ◌%◌, ◌^◌}
 use Rattle.std.specs.Prelude.{List, [], ◌∷◌, ◌++◌, length, map, replicate, slice_index, slice_index_or, Option, None, Some}
 use Rattle.std.specs.List.{range_with_len}

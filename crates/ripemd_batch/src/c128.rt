@@ -1,19 +1,19 @@
-//! The compression function of RIPEMD-128 (1996, pseudo-code), of eight messages: both lines start
+//! The compression function of RIPEMD-128 (1996, pseudo-code), of many messages: both lines start
 //! from the whole state, and nothing is exchanged between them.
 
-ghost use Rattle.std.specs.Prelude.{◌≡◌, ◌<◌, ℕ, List};
+ghost use Rattle.std.specs.Prelude.{◌≡◌, ◌<◌, ℕ, List, map};
 ghost use Rattle.ripemd_block.specs.Standard.Compression.{joint_state, compress, ripemd128};
 ghost use Rattle.ripemd_batch.specs.Lanes.{HasWords, lane_of};
 
-use crate::eight::Eight;
+use crate::lanes::Lanes;
 use crate::lines::{Lines, round};
 
 // The states that take the registers of both lines in.
 #[inline(always)]
-fn joint_state(state: [Eight; 4], lines: Lines<[Eight; 4]>) -> [Eight; 4]
-    ensures { (j : ℕ) → j < 8 → lane_of 4 j result
-        ≡ joint_state (lane_of 4 j state) (lane_of 4 j lines.left)
-        (lane_of 4 j lines.right) }
+fn joint_state<V: Lanes>(state: [V; 4], lines: Lines<[V; 4]>) -> [V; 4]
+    ensures { (j : ℕ) → j < V.COUNT → lane_of 4 j (map V.words result)
+        ≡ joint_state (lane_of 4 j (map V.words state)) (lane_of 4 j (map V.words lines.left))
+        (lane_of 4 j (map V.words lines.right)) }
 {
     let left = lines.left;
     let right = lines.right;
@@ -26,18 +26,18 @@ fn joint_state(state: [Eight; 4], lines: Lines<[Eight; 4]>) -> [Eight; 4]
 }
 
 /// The states after one more block of each message, of which these are the message words.
-pub(crate) fn compress(state: [Eight; 4], words: &[Eight; 16]) -> [Eight; 4]
-    ensures { (j : ℕ) → j < 8 → (block : List ℕ) → HasWords words.now j block
-        → lane_of 4 j result
-        ≡ compress ripemd128 (lane_of 4 j state) block }
+pub(crate) fn compress<V: Lanes>(state: [V; 4], words: &[V; 16]) -> [V; 4]
+    ensures { (j : ℕ) → j < V.COUNT → (block : List ℕ) → HasWords (map V.words words.now) j block
+        → lane_of 4 j (map V.words result)
+        ≡ compress ripemd128 (lane_of 4 j (map V.words state)) block }
 {
     let lines = Lines {
         left: state,
         right: state,
     };
-    let lines = round::<[Eight; 4], 0>(words, lines);
-    let lines = round::<[Eight; 4], 1>(words, lines);
-    let lines = round::<[Eight; 4], 2>(words, lines);
-    let lines = round::<[Eight; 4], 3>(words, lines);
+    let lines = round::<[V; 4], 0>(words, lines);
+    let lines = round::<[V; 4], 1>(words, lines);
+    let lines = round::<[V; 4], 2>(words, lines);
+    let lines = round::<[V; 4], 3>(words, lines);
     joint_state(state, lines)
 }

@@ -1,19 +1,20 @@
-//! The compression function of RIPEMD-160 (1996, pseudo-code), of eight messages: both lines start
+//! The compression function of RIPEMD-160 (1996, pseudo-code), of many messages: both lines start
 //! from the whole state, and nothing is exchanged between them.
 
-ghost use Rattle.std.specs.Prelude.{◌≡◌, ◌<◌, ℕ, List};
+ghost use Rattle.std.specs.Prelude.{◌≡◌, ◌<◌, ℕ, List, map};
 ghost use Rattle.ripemd_block.specs.Standard.Compression.{joint_state, compress, ripemd160};
 ghost use Rattle.ripemd_batch.specs.Lanes.{HasWords, lane_of};
 
-use crate::eight::Eight;
+use crate::lanes::Lanes;
 use crate::lines::{Lines, round};
 
 // The states that take the registers of both lines in.
+#[tactic(auto, using(crate::proofs::OneLane::word_in))]
 #[inline(always)]
-fn joint_state(state: [Eight; 5], lines: Lines<[Eight; 5]>) -> [Eight; 5]
-    ensures { (j : ℕ) → j < 8 → lane_of 5 j result
-        ≡ joint_state (lane_of 5 j state) (lane_of 5 j lines.left)
-        (lane_of 5 j lines.right) }
+fn joint_state<V: Lanes>(state: [V; 5], lines: Lines<[V; 5]>) -> [V; 5]
+    ensures { (j : ℕ) → j < V.COUNT → lane_of 5 j (map V.words result)
+        ≡ joint_state (lane_of 5 j (map V.words state)) (lane_of 5 j (map V.words lines.left))
+        (lane_of 5 j (map V.words lines.right)) }
 {
     let left = lines.left;
     let right = lines.right;
@@ -27,19 +28,19 @@ fn joint_state(state: [Eight; 5], lines: Lines<[Eight; 5]>) -> [Eight; 5]
 }
 
 /// The states after one more block of each message, of which these are the message words.
-pub(crate) fn compress(state: [Eight; 5], words: &[Eight; 16]) -> [Eight; 5]
-    ensures { (j : ℕ) → j < 8 → (block : List ℕ) → HasWords words.now j block
-        → lane_of 5 j result
-        ≡ compress ripemd160 (lane_of 5 j state) block }
+pub(crate) fn compress<V: Lanes>(state: [V; 5], words: &[V; 16]) -> [V; 5]
+    ensures { (j : ℕ) → j < V.COUNT → (block : List ℕ) → HasWords (map V.words words.now) j block
+        → lane_of 5 j (map V.words result)
+        ≡ compress ripemd160 (lane_of 5 j (map V.words state)) block }
 {
     let lines = Lines {
         left: state,
         right: state,
     };
-    let lines = round::<[Eight; 5], 0>(words, lines);
-    let lines = round::<[Eight; 5], 1>(words, lines);
-    let lines = round::<[Eight; 5], 2>(words, lines);
-    let lines = round::<[Eight; 5], 3>(words, lines);
-    let lines = round::<[Eight; 5], 4>(words, lines);
+    let lines = round::<[V; 5], 0>(words, lines);
+    let lines = round::<[V; 5], 1>(words, lines);
+    let lines = round::<[V; 5], 2>(words, lines);
+    let lines = round::<[V; 5], 3>(words, lines);
+    let lines = round::<[V; 5], 4>(words, lines);
     joint_state(state, lines)
 }

@@ -1,20 +1,21 @@
-//! The compression function of RIPEMD-256 (1996, extension to 256 bits), of eight messages: each
+//! The compression function of RIPEMD-256 (1996, extension to 256 bits), of many messages: each
 //! line starts from its half of the state, and after each round the lines exchange a register.
 
-ghost use Rattle.std.specs.Prelude.{◌≡◌, ◌<◌, ℕ, List};
+ghost use Rattle.std.specs.Prelude.{◌≡◌, ◌<◌, ℕ, List, map};
 ghost use Rattle.ripemd_block.specs.Standard.Compression.{lines_from, double_state};
 ghost use Rattle.ripemd_block.specs.Standard.Compression.{compress, ripemd256};
 ghost use Rattle.ripemd_block.specs.Code.Lines.{both_lines};
 ghost use Rattle.ripemd_batch.specs.Lanes.{HasWords, lane_of};
 
-use crate::eight::Eight;
+use crate::lanes::Lanes;
 use crate::lines::{Lines, exchange, round};
 
 // Where the lines start.
 #[inline(always)]
-fn lines_from(state: [Eight; 8]) -> Lines<[Eight; 4]>
-    ensures { (j : ℕ) → j < 8 → both_lines (lane_of 4 j result.left) (lane_of 4 j result.right)
-        ≡ lines_from ripemd256 (lane_of 8 j state) }
+fn lines_from<V: Lanes>(state: [V; 8]) -> Lines<[V; 4]>
+    ensures { (j : ℕ) → j < V.COUNT → both_lines (lane_of 4 j (map V.words result.left))
+        (lane_of 4 j (map V.words result.right))
+        ≡ lines_from ripemd256 (lane_of 8 j (map V.words state)) }
 {
     Lines {
         left: [state[0], state[1], state[2], state[3]],
@@ -23,11 +24,12 @@ fn lines_from(state: [Eight; 8]) -> Lines<[Eight; 4]>
 }
 
 // The states that take the registers of both lines in.
+#[tactic(auto, using(crate::proofs::OneLane::word_in))]
 #[inline(always)]
-fn double_state(state: [Eight; 8], lines: Lines<[Eight; 4]>) -> [Eight; 8]
-    ensures { (j : ℕ) → j < 8 → lane_of 8 j result
-        ≡ double_state (lane_of 8 j state) (lane_of 4 j lines.left)
-        (lane_of 4 j lines.right) }
+fn double_state<V: Lanes>(state: [V; 8], lines: Lines<[V; 4]>) -> [V; 8]
+    ensures { (j : ℕ) → j < V.COUNT → lane_of 8 j (map V.words result)
+        ≡ double_state (lane_of 8 j (map V.words state)) (lane_of 4 j (map V.words lines.left))
+        (lane_of 4 j (map V.words lines.right)) }
 {
     let left = lines.left;
     let right = lines.right;
@@ -45,15 +47,15 @@ fn double_state(state: [Eight; 8], lines: Lines<[Eight; 4]>) -> [Eight; 8]
 
 /// The states after one more block of each message, of which these are the message words. The registers
 /// that are exchanged are A, B, C and D in turn.
-pub(crate) fn compress(state: [Eight; 8], words: &[Eight; 16]) -> [Eight; 8]
-    ensures { (j : ℕ) → j < 8 → (block : List ℕ) → HasWords words.now j block
-        → lane_of 8 j result
-        ≡ compress ripemd256 (lane_of 8 j state) block }
+pub(crate) fn compress<V: Lanes>(state: [V; 8], words: &[V; 16]) -> [V; 8]
+    ensures { (j : ℕ) → j < V.COUNT → (block : List ℕ) → HasWords (map V.words words.now) j block
+        → lane_of 8 j (map V.words result)
+        ≡ compress ripemd256 (lane_of 8 j (map V.words state)) block }
 {
     let lines = lines_from(state);
-    let lines = exchange(0, round::<[Eight; 4], 0>(words, lines));
-    let lines = exchange(1, round::<[Eight; 4], 1>(words, lines));
-    let lines = exchange(2, round::<[Eight; 4], 2>(words, lines));
-    let lines = exchange(3, round::<[Eight; 4], 3>(words, lines));
+    let lines = exchange(0, round::<[V; 4], 0>(words, lines));
+    let lines = exchange(1, round::<[V; 4], 1>(words, lines));
+    let lines = exchange(2, round::<[V; 4], 2>(words, lines));
+    let lines = exchange(3, round::<[V; 4], 3>(words, lines));
     double_state(state, lines)
 }

@@ -1,20 +1,21 @@
-//! The compression function of RIPEMD-320 (1996, extension to 320 bits), of eight messages: each
+//! The compression function of RIPEMD-320 (1996, extension to 320 bits), of many messages: each
 //! line starts from its half of the state, and after each round the lines exchange a register.
 
-ghost use Rattle.std.specs.Prelude.{◌≡◌, ◌<◌, ℕ, List};
+ghost use Rattle.std.specs.Prelude.{◌≡◌, ◌<◌, ℕ, List, map};
 ghost use Rattle.ripemd_block.specs.Standard.Compression.{lines_from, double_state};
 ghost use Rattle.ripemd_block.specs.Standard.Compression.{compress, ripemd320};
 ghost use Rattle.ripemd_block.specs.Code.Lines.{both_lines};
 ghost use Rattle.ripemd_batch.specs.Lanes.{HasWords, lane_of};
 
-use crate::eight::Eight;
+use crate::lanes::Lanes;
 use crate::lines::{Lines, exchange, round};
 
 // Where the lines start.
 #[inline(always)]
-fn lines_from(state: [Eight; 10]) -> Lines<[Eight; 5]>
-    ensures { (j : ℕ) → j < 8 → both_lines (lane_of 5 j result.left) (lane_of 5 j result.right)
-        ≡ lines_from ripemd320 (lane_of 10 j state) }
+fn lines_from<V: Lanes>(state: [V; 10]) -> Lines<[V; 5]>
+    ensures { (j : ℕ) → j < V.COUNT → both_lines (lane_of 5 j (map V.words result.left))
+        (lane_of 5 j (map V.words result.right))
+        ≡ lines_from ripemd320 (lane_of 10 j (map V.words state)) }
 {
     Lines {
         left: [state[0], state[1], state[2], state[3], state[4]],
@@ -23,11 +24,12 @@ fn lines_from(state: [Eight; 10]) -> Lines<[Eight; 5]>
 }
 
 // The states that take the registers of both lines in.
+#[tactic(auto, using(crate::proofs::OneLane::word_in))]
 #[inline(always)]
-fn double_state(state: [Eight; 10], lines: Lines<[Eight; 5]>) -> [Eight; 10]
-    ensures { (j : ℕ) → j < 8 → lane_of 10 j result
-        ≡ double_state (lane_of 10 j state) (lane_of 5 j lines.left)
-        (lane_of 5 j lines.right) }
+fn double_state<V: Lanes>(state: [V; 10], lines: Lines<[V; 5]>) -> [V; 10]
+    ensures { (j : ℕ) → j < V.COUNT → lane_of 10 j (map V.words result)
+        ≡ double_state (lane_of 10 j (map V.words state)) (lane_of 5 j (map V.words lines.left))
+        (lane_of 5 j (map V.words lines.right)) }
 {
     let left = lines.left;
     let right = lines.right;
@@ -47,16 +49,16 @@ fn double_state(state: [Eight; 10], lines: Lines<[Eight; 5]>) -> [Eight; 10]
 
 /// The states after one more block of each message, of which these are the message words. The registers
 /// that are exchanged are B, D, A, C and E in turn.
-pub(crate) fn compress(state: [Eight; 10], words: &[Eight; 16]) -> [Eight; 10]
-    ensures { (j : ℕ) → j < 8 → (block : List ℕ) → HasWords words.now j block
-        → lane_of 10 j result
-        ≡ compress ripemd320 (lane_of 10 j state) block }
+pub(crate) fn compress<V: Lanes>(state: [V; 10], words: &[V; 16]) -> [V; 10]
+    ensures { (j : ℕ) → j < V.COUNT → (block : List ℕ) → HasWords (map V.words words.now) j block
+        → lane_of 10 j (map V.words result)
+        ≡ compress ripemd320 (lane_of 10 j (map V.words state)) block }
 {
     let lines = lines_from(state);
-    let lines = exchange(1, round::<[Eight; 5], 0>(words, lines));
-    let lines = exchange(3, round::<[Eight; 5], 1>(words, lines));
-    let lines = exchange(0, round::<[Eight; 5], 2>(words, lines));
-    let lines = exchange(2, round::<[Eight; 5], 3>(words, lines));
-    let lines = exchange(4, round::<[Eight; 5], 4>(words, lines));
+    let lines = exchange(1, round::<[V; 5], 0>(words, lines));
+    let lines = exchange(3, round::<[V; 5], 1>(words, lines));
+    let lines = exchange(0, round::<[V; 5], 2>(words, lines));
+    let lines = exchange(2, round::<[V; 5], 3>(words, lines));
+    let lines = exchange(4, round::<[V; 5], 4>(words, lines));
     double_state(state, lines)
 }

@@ -1,14 +1,14 @@
 //! Eight words, one of each message.
 
-ghost use Rattle.std.specs.Prelude.{◌≡◌, ◌<◌, ◌^◌, ℕ, ◌++◌, slice_index, bit_xor, bit_and, bit_or};
-ghost use Rattle.std.specs.Int.{w32, bit_not};
-ghost use Rattle.ripemd_block.specs.Standard.Words.{◌⊞◌, rol};
+ghost use Rattle.std.specs.Prelude.{◌≡◌, ◌++◌};
 
-use crate::four_words::FourWords;
+use crate::four::Four;
+use crate::lanes::Lanes;
+use crate::message::transposed_words;
 use std::marker::Model;
 use std::simd::prelude::*;
 
-/// Eight words, one of each message.
+/// The words of eight messages.
 #[derive(Clone, Copy)]
 pub struct Eight {
     lanes: u32x8,
@@ -27,132 +27,95 @@ impl Model for Eight {
     ghost inverse_ok = { λ w h. refl };
 }
 
-impl Eight {
-    /// The eight words of an array.
+impl Lanes for Eight {
+    ghost use Rattle.std.proofs.Common.{rules};
+
+    ghost words = { λ v. v };
+
+    ghost COUNT = { 8 };
+
     #[inline(always)]
-    pub fn of(words: [u32; 8]) -> Self
-        ensures { result ≡ words }
-    {
+    fn of(array: [u32; 8]) -> Eight {
         Eight {
-            lanes: u32x8::from_array(words),
+            lanes: u32x8::from_array(array),
         }
     }
 
-    /// The words of four messages, and those of the four behind them.
     #[inline(always)]
-    pub(crate) fn joined(low: FourWords, high: FourWords) -> Self
-        ensures { result ≡ low ++ high }
-    {
-        Eight {
-            lanes: low.lanes().shuffle(high.lanes(), [0, 1, 2, 3, 4, 5, 6, 7]),
-        }
-    }
-
-    /// The word of message `j`.
-    #[inline(always)]
-    pub fn word(self, j: usize) -> u32
-        requires { j < 8 }
-        ensures { result ≡ slice_index self j }
-    {
+    fn word(self, j: usize) -> u32 {
         self.lanes.to_array()[j]
     }
 
-    /// One word for all messages.
     #[inline(always)]
-    pub fn splat(word: u32) -> Self
-        ensures { (j : ℕ) → j < 8 → slice_index result j ≡ word }
-    {
+    fn splat(word: u32) -> Eight {
         Eight {
             lanes: u32x8::splat(word),
         }
     }
 
-    /// The same words, of which contracts then know that they are below 2^32.
     #[inline(always)]
-    pub fn known(self) -> Self
-        ensures same { result ≡ self }
-        ensures words { (j : ℕ) → j < 8 → slice_index result j < 2 ^ 32 }
-    {
+    fn known(self) -> Eight {
         self
     }
 
-    /// The sums of the words, modulo 2^32.
     #[inline(always)]
-    pub fn add(self, other: Self) -> Self
-        ensures { (j : ℕ) → j < 8
-            → slice_index result j ≡ slice_index self j ⊞ slice_index other j }
-    {
+    fn add(self, other: Eight) -> Eight {
         Eight {
             lanes: self.lanes + other.lanes,
         }
     }
 
-    /// The bits that differ between the words.
     #[inline(always)]
-    pub fn xor(self, other: Self) -> Self
-        ensures value { (j : ℕ) → j < 8
-            → slice_index result j ≡ bit_xor (slice_index self j) (slice_index other j) }
-        ensures words { (j : ℕ) → j < 8 → slice_index self j < 2 ^ 32 }
-        ensures other_words { (j : ℕ) → j < 8 → slice_index other j < 2 ^ 32 }
-    {
+    fn xor(self, other: Eight) -> Eight {
         Eight {
             lanes: self.lanes ^ other.lanes,
         }
     }
 
-    /// The bits that both words have.
     #[inline(always)]
-    pub fn and(self, other: Self) -> Self
-        ensures value { (j : ℕ) → j < 8
-            → slice_index result j ≡ bit_and (slice_index self j) (slice_index other j) }
-        ensures words { (j : ℕ) → j < 8 → slice_index self j < 2 ^ 32 }
-    {
+    fn and(self, other: Eight) -> Eight {
         Eight {
             lanes: self.lanes & other.lanes,
         }
     }
 
-    /// The bits that one of the words has.
     #[inline(always)]
-    pub fn or(self, other: Self) -> Self
-        ensures { (j : ℕ) → j < 8
-            → slice_index result j ≡ bit_or (slice_index self j) (slice_index other j) }
-    {
-        Eight {
-            lanes: self.lanes | other.lanes,
-        }
-    }
-
-    /// The other bits of each word.
-    #[inline(always)]
-    pub fn not(self) -> Self
-        ensures value { (j : ℕ) → j < 8
-            → slice_index result j ≡ bit_not w32 (slice_index self j) }
-        ensures words { (j : ℕ) → j < 8 → slice_index self j < 2 ^ 32 }
-    {
+    fn not(self) -> Eight {
         Eight { lanes: !self.lanes }
     }
 
-    /// Each word rotated to the left by `by` bits.
     #[inline(always)]
-    pub fn rotate(self, by: u32) -> Self
-        requires { (0 < by) × (by < 32) }
-        ensures { (j : ℕ) → j < 8 → slice_index result j ≡ rol (slice_index self j) by }
-    {
+    fn rotate(self, by: u32) -> Eight {
         Eight {
             lanes: (self.lanes << u32x8::splat(by)) | (self.lanes >> u32x8::splat(32 - by)),
         }
     }
 
-    /// The new words of the messages whose word in `live` has all bits set, and the old ones of
-    /// those where it is 0.
     #[inline(always)]
-    pub fn select(live: Self, new: Self, old: Self) -> Self
-        ensures taken { (j : ℕ) → j < 8
-            → slice_index live j ≡ 0xffff_ffff → slice_index result j ≡ slice_index new j }
-        ensures kept { (j : ℕ) → j < 8
-            → slice_index live j ≡ 0 → slice_index result j ≡ slice_index old j }
+    fn four_message_words(blocks: &[&[u8; 64]; 8], i: usize) -> [Eight; 4] {
+        let low = transposed_words(blocks, 0, i);
+        let high = transposed_words(blocks, 4, i);
+        [
+            Eight::joined(low[0], high[0]),
+            Eight::joined(low[1], high[1]),
+            Eight::joined(low[2], high[2]),
+            Eight::joined(low[3], high[3]),
+        ]
+    }
+
+    ghost few = { Prim.search rules };
+
+    ghost small = { Prim.search rules };
+}
+
+impl Eight {
+    // The words of four messages, and those of the four behind them.
+    #[inline(always)]
+    fn joined(low: Four, high: Four) -> Eight
+        ensures { result ≡ low ++ high }
     {
-        old.xor(new.xor(old).and(live))
+        Eight {
+            lanes: low.lanes().shuffle(high.lanes(), [0, 1, 2, 3, 4, 5, 6, 7]),
+        }
     }
 }

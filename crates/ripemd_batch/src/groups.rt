@@ -1,47 +1,70 @@
-//! Groups of at most eight messages, hashed at once or one after another.
+//! Groups of at most eight messages: hashed at once, by fours, or one after another.
 
 ghost use Rattle.std.specs.Prelude.{◌≡◌, ℕ, ◌+◌, ◌*◌, ◌<◌, ◌≤◌, min, List};
-ghost use Rattle.std.specs.Prelude.{length, map, slice_index, slice_index_or, []};
+ghost use Rattle.std.specs.Prelude.{length, map, replicate, slice_index, slice_index_or, []};
+ghost use Rattle.ripemd_block.specs.Standard.Words.{block_size};
 ghost use Rattle.ripemd_block.specs.Standard.Hashing.{hash, walk, blocks};
-ghost use Rattle.ripemd_batch.specs.Lanes.{list_at, targets, blocks_of, padded_after, hash_after};
+ghost use Rattle.ripemd_batch.specs.Lanes.{blocks_of, hash_after, list_at, padded_after, targets};
 
 use crate::eight::Eight;
-use crate::eight_states::EightStates;
+use crate::four::Four;
+use crate::lane_states::LaneStates;
+use crate::lanes::Lanes;
 use crate::lists::ListHasher;
 use crate::message::message_words;
 use crate::padded::MessageBlocks;
 use ripemd::digest::BlockDigest;
 use ripemd::padding::block_count;
 use ripemd::{Ripemd128, Ripemd160, Ripemd256, Ripemd320};
-use ripemd_block::block_api::{BlockFunction, ByteArray, walk_message};
+use ripemd_block::block_api::{
+    BlockFunction, ByteArray, ListBlockFunction, Ripemd128Function, Ripemd160Function,
+    Ripemd256Function, Ripemd320Function, walk_message,
+};
 
-/// A hash function of which eight messages can be hashed at once. It has no functions of its own.
+/// A hash function of which four or eight messages can be hashed at once. It has no functions of its own.
 pub trait BatchDigest: BlockDigest<Output: ByteArray> {
+    /// The block function.
+    type Function: ListBlockFunction<Digest = Self::Output>;
+
+    /// The states of four messages.
+    type Four: LaneStates<Function = Self::Function>;
+
     /// The states of eight messages.
-    type States: EightStates<Output = Self::Output>;
+    type Eight: LaneStates<Function = Self::Function>;
+
+    // So many messages have a word in their vectors.
+    ghost four: { Self.Four.Vector.COUNT ≡ 4 };
+
+    ghost eight: { Self.Eight.Vector.COUNT ≡ 8 };
 
     // They start from the same words.
-    ghost same_start: { Self.States.Function.list Self.States.Function.start_of ≡ Self.start };
+    ghost same_start: { Self.Function.list Self.Function.start_of ≡ Self.start };
 
     // They take a block in by the same function.
-    ghost same_step: { Self.States.Function.step ≡ Self.step };
+    ghost same_step: { Self.Function.step ≡ Self.step };
 
     // They give the same output of their words.
-    ghost same_output: { Self.States.Function.output ≡ Self.output };
+    ghost same_output: { Self.Function.output ≡ Self.output };
 
     // Its bytes are those of the digest.
     ghost same_bytes: { (d : Self.Output) → Self.Output.bytes d ≡ Self.bytes_of d };
 }
 
-// Its block function, and the states of that.
-pub(crate) type FunctionOf<D> = <<D as BatchDigest>::States as EightStates>::Function;
-
-pub(crate) type StateOf<D> = <FunctionOf<D> as BlockFunction>::State;
+// The states of its block function.
+pub(crate) type StateOf<D> = <<D as BatchDigest>::Function as BlockFunction>::State;
 
 impl BatchDigest for Ripemd128 {
-    type States = [Eight; 4];
+    type Function = Ripemd128Function;
+
+    type Four = [Four; 4];
+
+    type Eight = [Eight; 4];
 
     ghost use Rattle.std.specs.Prelude.{refl};
+
+    ghost four = { refl };
+
+    ghost eight = { refl };
 
     ghost same_start = { refl };
 
@@ -53,9 +76,17 @@ impl BatchDigest for Ripemd128 {
 }
 
 impl BatchDigest for Ripemd160 {
-    type States = [Eight; 5];
+    type Function = Ripemd160Function;
+
+    type Four = [Four; 5];
+
+    type Eight = [Eight; 5];
 
     ghost use Rattle.std.specs.Prelude.{refl};
+
+    ghost four = { refl };
+
+    ghost eight = { refl };
 
     ghost same_start = { refl };
 
@@ -67,9 +98,17 @@ impl BatchDigest for Ripemd160 {
 }
 
 impl BatchDigest for Ripemd256 {
-    type States = [Eight; 8];
+    type Function = Ripemd256Function;
+
+    type Four = [Four; 8];
+
+    type Eight = [Eight; 8];
 
     ghost use Rattle.std.specs.Prelude.{refl};
+
+    ghost four = { refl };
+
+    ghost eight = { refl };
 
     ghost same_start = { refl };
 
@@ -81,9 +120,17 @@ impl BatchDigest for Ripemd256 {
 }
 
 impl BatchDigest for Ripemd320 {
-    type States = [Eight; 10];
+    type Function = Ripemd320Function;
+
+    type Four = [Four; 10];
+
+    type Eight = [Eight; 10];
 
     ghost use Rattle.std.specs.Prelude.{refl};
+
+    ghost four = { refl };
+
+    ghost eight = { refl };
 
     ghost same_start = { refl };
 
@@ -104,14 +151,13 @@ pub(crate) fn digest_from<D: BatchDigest>(
     messages: &[&[u8]],
     digests: &mut [D::Output],
 )
-    requires valid { D.States.Function.is_state first }
+    requires valid { D.Function.is_state first }
     requires length { length digests.old ≡ length messages.now }
     ensures { map D.bytes_of digests.new
-        ≡ map (hash_after before (D.States.Function.list first) D.step D.output)
-        (targets messages.now) }
+        ≡ map (hash_after before (D.Function.list first) D.step D.output) (targets messages.now) }
 {
     for g in 0..messages.len().div_ceil(8) {
-        let end = group_end(messages.len(), g);
+        let end = group_end(messages.len(), 8 * g, 8);
         digest_group::<D>(
             first,
             before,
@@ -121,34 +167,110 @@ pub(crate) fn digest_from<D: BatchDigest>(
     }
 }
 
-// Where group `g` of eight ends, of `len` in all.
+// Where a group of at most `size` ends that begins at place `at`, of `len` in all.
 #[inline(always)]
-pub(crate) fn group_end(len: usize, g: usize) -> usize
-    requires { 8 * g < len }
-    ensures { result ≡ min (8 * g + 8) len }
+pub(crate) fn group_end(len: usize, at: usize, size: usize) -> usize
+    requires { at < len }
+    ensures { result ≡ min (at + size) len }
 {
-    if len - 8 * g < 8 { len } else { 8 * g + 8 }
+    if len - at < size { len } else { at + size }
 }
 
-// Writes the digests of at most eight messages: at once, or one by one where that is faster.
+// Writes the digests of at most eight messages: at once where that is faster, or else by fours.
 fn digest_group<D: BatchDigest>(
     first: StateOf<D>,
     before: u64,
     messages: &[&[u8]],
     digests: &mut [D::Output],
 )
-    requires valid { D.States.Function.is_state first }
+    requires valid { D.Function.is_state first }
     requires few { length messages.now ≤ 8 }
     requires length { length digests.old ≡ length messages.now }
     ensures { map D.bytes_of digests.new
-        ≡ map (hash_after before (D.States.Function.list first) D.step D.output)
+        ≡ map (hash_after before (D.Function.list first) D.step D.output) (targets messages.now) }
+{
+    let (all, longest) = count_blocks(messages);
+    if all / 5 >= longest {
+        digest_lanes::<D::Eight>(first, before, messages, digests);
+    } else {
+        digest_fours::<D>(first, before, messages, digests);
+    }
+}
+
+// Writes the digests of messages by fours. Not inlined, and a loop, for the same reasons as `digest_from`.
+#[inline(never)]
+fn digest_fours<D: BatchDigest>(
+    first: StateOf<D>,
+    before: u64,
+    messages: &[&[u8]],
+    digests: &mut [D::Output],
+)
+    requires valid { D.Function.is_state first }
+    requires length { length digests.old ≡ length messages.now }
+    ensures { map D.bytes_of digests.new
+        ≡ map (hash_after before (D.Function.list first) D.step D.output) (targets messages.now) }
+{
+    for g in 0..messages.len().div_ceil(4) {
+        let end = group_end(messages.len(), 4 * g, 4);
+        digest_four::<D>(
+            first,
+            before,
+            &messages[4 * g..end],
+            &mut digests[4 * g..end],
+        );
+    }
+}
+
+// Writes the digests of at most four messages: at once where that is faster, or else one by one.
+fn digest_four<D: BatchDigest>(
+    first: StateOf<D>,
+    before: u64,
+    messages: &[&[u8]],
+    digests: &mut [D::Output],
+)
+    requires valid { D.Function.is_state first }
+    requires few { length messages.now ≤ 4 }
+    requires length { length digests.old ≡ length messages.now }
+    ensures { map D.bytes_of digests.new
+        ≡ map (hash_after before (D.Function.list first) D.step D.output) (targets messages.now) }
+{
+    let (all, longest) = count_blocks(messages);
+    if all.div_ceil(2) > longest {
+        digest_lanes::<D::Four>(first, before, messages, digests);
+    } else {
+        ListHasher::<D>::after(first, before).hash_one_by_one(messages, digests);
+    }
+}
+
+// How many blocks some messages have together, and how many the longest has. It has no contract, since the
+// digests are the same at any answer: by this one it is seen which way is the faster.
+fn count_blocks(messages: &[&[u8]]) -> (usize, usize) {
+    let mut all: usize = 0;
+    let mut longest = 0;
+    for message in messages {
+        let blocks = block_count(message);
+        all = all.wrapping_add(blocks);
+        if longest < blocks {
+            longest = blocks;
+        }
+    }
+    (all, longest)
+}
+
+// Writes the digests of some messages, all at once.
+fn digest_lanes<S: LaneStates>(
+    first: <S::Function as BlockFunction>::State,
+    before: u64,
+    messages: &[&[u8]],
+    digests: &mut [<S::Function as BlockFunction>::Digest],
+)
+    requires few { length messages.now ≤ S.Vector.COUNT }
+    requires length { length digests.old ≡ length messages.now }
+    ensures { map S.Function.Digest.bytes digests.new
+        ≡ map (hash_after before (S.Function.list first) S.Function.step S.Function.output)
         (targets messages.now) }
 {
-    if !fills_lanes(messages) {
-        ListHasher::<D>::after(first, before).hash_one_by_one(messages, digests);
-        return;
-    }
-    let states: D::States = walk_group(first, before, messages);
+    let states: S = walk_group(first, before, messages);
     // Eight turns, so that the compiler knows the lane of each.
     for j in 0..8 {
         if j < messages.len() {
@@ -158,36 +280,17 @@ fn digest_group<D: BatchDigest>(
     }
 }
 
-// Whether to hash at most eight messages at once, and not one after another: if all of them have four
-// times as many blocks as the longest, or more. It has no contract, since both ways give the same
-// digests: any answer is right, and this one is the faster.
-fn fills_lanes(messages: &[&[u8]]) -> bool {
-    let mut most = 0;
-    let mut sum: usize = 0;
-    // Eight turns, which the compiler writes out.
-    for j in 0..8 {
-        if j < messages.len() {
-            let blocks = block_count(messages[j]);
-            sum = sum.wrapping_add(blocks);
-            if most < blocks {
-                most = blocks;
-            }
-        }
-    }
-    sum / 4 >= most
-}
-
 // The digest of one message.
 pub(crate) fn digest_one<D: BatchDigest>(
     first: StateOf<D>,
     before: u64,
     message: &[u8],
 ) -> D::Output
-    requires { D.States.Function.is_state first }
+    requires { D.Function.is_state first }
     ensures { D.bytes_of result
-        ≡ hash_after before (D.States.Function.list first) D.step D.output message.now }
+        ≡ hash_after before (D.Function.list first) D.step D.output message.now }
 {
-    FunctionOf::<D>::output(last_state::<D>(first, before, message))
+    D::Function::output(last_state::<D>(first, before, message))
 }
 
 // The state whose output that is.
@@ -196,11 +299,11 @@ pub(crate) fn last_state<D: BatchDigest>(
     before: u64,
     message: &[u8],
 ) -> StateOf<D>
-    requires { D.States.Function.is_state first }
-    ensures { D.output (D.States.Function.list result)
-        ≡ hash_after before (D.States.Function.list first) D.step D.output message.now }
+    requires { D.Function.is_state first }
+    ensures { D.output (D.Function.list result)
+        ≡ hash_after before (D.Function.list first) D.step D.output message.now }
 {
-    walk_message::<FunctionOf<D>>(first, before, message)
+    walk_message::<D::Function>(first, before, message)
 }
 
 // Message `i`.
@@ -212,26 +315,33 @@ pub(crate) fn message_at<'a>(messages: &[&'a [u8]], i: usize) -> &'a [u8]
     messages[i]
 }
 
-// Message `i`, or an empty one behind the last.
+// The blocks of message `j`; a block of zero bytes behind the last.
 #[inline(always)]
-fn message_or_empty<'a>(messages: &[&'a [u8]], i: usize) -> &'a [u8]
-    ensures { i < length messages.now → result.now ≡ list_at (targets messages.now) i }
+fn blocks_of_message<'a, 'b>(
+    before: u64,
+    messages: &[&'a [u8]],
+    j: usize,
+    zeros: &'b mut [[u8; 64]; 2],
+) -> MessageBlocks<'a, 'b>
+    requires { zeros.old ≡ replicate 2 (replicate block_size 0) }
+    ensures { j < length messages.now
+        → result ≡ blocks (padded_after before (list_at (targets messages.now) j)) }
 {
-    if i < messages.len() {
-        message_at(messages, i)
+    if j < messages.len() {
+        MessageBlocks::of(before, message_at(messages, j), zeros)
     } else {
-        &[]
+        MessageBlocks::none(zeros)
     }
 }
 
-// The last states of the walks through the blocks of at most eight messages. Each message has two
-// blocks here, in which its padding is made.
-pub(crate) fn walk_group<S: EightStates>(
+// The last states of the walks through the blocks of some messages. Each has two blocks here, in which its
+// padding is made.
+pub(crate) fn walk_group<S: LaneStates>(
     first: <S::Function as BlockFunction>::State,
     before: u64,
     messages: &[&[u8]],
 ) -> S
-    ensures { (j : ℕ) → j < 8 → j < length messages.now
+    ensures { (j : ℕ) → j < S.Vector.COUNT → j < length messages.now
         → S.words_of j result ≡ walk S.Function.step (S.Function.list first)
         (blocks (padded_after before (list_at (targets messages.now) j))) }
 {
@@ -244,14 +354,14 @@ pub(crate) fn walk_group<S: EightStates>(
     let mut zeros_6 = [[0; 64]; 2];
     let mut zeros_7 = [[0; 64]; 2];
     let blocks = [
-        MessageBlocks::of(before, message_or_empty(messages, 0), &mut zeros_0),
-        MessageBlocks::of(before, message_or_empty(messages, 1), &mut zeros_1),
-        MessageBlocks::of(before, message_or_empty(messages, 2), &mut zeros_2),
-        MessageBlocks::of(before, message_or_empty(messages, 3), &mut zeros_3),
-        MessageBlocks::of(before, message_or_empty(messages, 4), &mut zeros_4),
-        MessageBlocks::of(before, message_or_empty(messages, 5), &mut zeros_5),
-        MessageBlocks::of(before, message_or_empty(messages, 6), &mut zeros_6),
-        MessageBlocks::of(before, message_or_empty(messages, 7), &mut zeros_7),
+        blocks_of_message(before, messages, 0, &mut zeros_0),
+        blocks_of_message(before, messages, 1, &mut zeros_1),
+        blocks_of_message(before, messages, 2, &mut zeros_2),
+        blocks_of_message(before, messages, 3, &mut zeros_3),
+        blocks_of_message(before, messages, 4, &mut zeros_4),
+        blocks_of_message(before, messages, 5, &mut zeros_5),
+        blocks_of_message(before, messages, 6, &mut zeros_6),
+        blocks_of_message(before, messages, 7, &mut zeros_7),
     ];
     let counts = block_counts(&blocks);
     let most = most(&counts);
@@ -294,32 +404,32 @@ fn most(counts: &[usize; 8]) -> usize
 
 // The states after block `i` of the messages that have one; the others stay as they are.
 #[inline(always)]
-fn compress_live<S: EightStates>(
+fn compress_live<S: LaneStates>(
     states: S,
     blocks: &[MessageBlocks; 8],
     counts: &[usize; 8],
     i: usize,
 ) -> S
     requires { (j : ℕ) → j < 8 → slice_index counts.now j ≡ length (blocks_of blocks.now j) }
-    ensures taken { (j : ℕ) → j < 8 → i < length (blocks_of blocks.now j) → S.words_of j result
-        ≡ S.Function.step (S.words_of j states)
+    ensures taken { (j : ℕ) → j < S.Vector.COUNT → i < length (blocks_of blocks.now j)
+        → S.words_of j result ≡ S.Function.step (S.words_of j states)
         (slice_index_or (blocks_of blocks.now j) i []) }
-    ensures kept { (j : ℕ) → j < 8 → length (blocks_of blocks.now j) ≤ i
+    ensures kept { (j : ℕ) → j < S.Vector.COUNT → length (blocks_of blocks.now j) ≤ i
         → S.words_of j result ≡ S.words_of j states }
 {
-    let live = live_lanes(counts, i);
+    let live = S::Vector::of(live_lanes(counts, i));
     let next = compress_block(states, blocks, i);
     S::select(live, next, states)
 }
 
-// All bits in the lanes of the messages that have a block `i`, and 0 in the others.
+// All bits in the words of the messages that have a block `i`, and 0 in the others.
 #[inline(always)]
-fn live_lanes(counts: &[usize; 8], i: usize) -> Eight
+fn live_lanes(counts: &[usize; 8], i: usize) -> [u32; 8]
     ensures yes { (j : ℕ) → j < 8 → i < slice_index counts.now j
         → slice_index result j ≡ 0xffff_ffff }
     ensures no { (j : ℕ) → j < 8 → slice_index counts.now j ≤ i → slice_index result j ≡ 0 }
 {
-    Eight::of([
+    [
         is_live(counts[0], i),
         is_live(counts[1], i),
         is_live(counts[2], i),
@@ -328,7 +438,7 @@ fn live_lanes(counts: &[usize; 8], i: usize) -> Eight
         is_live(counts[5], i),
         is_live(counts[6], i),
         is_live(counts[7], i),
-    ])
+    ]
 }
 
 // All bits if block `i` is one of the `count` blocks, and 0 if it is not.
@@ -342,9 +452,9 @@ fn is_live(count: usize, i: usize) -> u32
 
 // The states after block `i` of each message that has one.
 #[inline(always)]
-fn compress_block<S: EightStates>(states: S, blocks: &[MessageBlocks; 8], i: usize) -> S
-    ensures { (j : ℕ) → j < 8 → i < length (blocks_of blocks.now j) → S.words_of j result
-        ≡ S.Function.step (S.words_of j states)
+fn compress_block<S: LaneStates>(states: S, blocks: &[MessageBlocks; 8], i: usize) -> S
+    ensures { (j : ℕ) → j < S.Vector.COUNT → i < length (blocks_of blocks.now j)
+        → S.words_of j result ≡ S.Function.step (S.words_of j states)
         (slice_index_or (blocks_of blocks.now j) i []) }
 {
     states.compress(&message_words(&blocks_at(blocks, i)))

@@ -1,5 +1,5 @@
-//! Digests of many messages, tags of many texts under one key, and keys from passwords: eight at once, one in each
-//! lane of a vector.
+//! Digests of many messages, tags of many texts under one key, and keys from passwords: up to eight at once, one in
+//! each lane of a vector.
 #![tactic(auto)]
 
 mod c128;
@@ -7,10 +7,11 @@ mod c160;
 mod c256;
 mod c320;
 mod eight;
-mod eight_states;
 pub mod facts;
-mod four_words;
+mod four;
 pub mod groups;
+mod lane_states;
+mod lanes;
 mod lines;
 pub mod lists;
 mod message;

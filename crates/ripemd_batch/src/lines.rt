@@ -1,12 +1,12 @@
-//! The two lines of eight messages: steps, rounds and exchanges, for any number of registers.
+//! The two lines of many messages: steps, rounds and exchanges, for any number of registers.
 
-ghost use Rattle.std.specs.Prelude.{◌≡◌, ◌<◌, ◌≤◌, ◌+◌, ◌-◌, ℕ, List, Some, slice_index};
+ghost use Rattle.std.specs.Prelude.{◌≡◌, ◌<◌, ◌≤◌, ◌+◌, ◌-◌, ℕ, List, Some, map, slice_index};
 ghost use Rattle.ripemd_block.specs.Standard.Schedule.{boolean_function, left_line, right_line};
 ghost use Rattle.ripemd_block.specs.Standard.Compression.{step, registers_after, round, exchange};
 ghost use Rattle.ripemd_block.specs.Code.Lines.{both_lines};
 ghost use Rattle.ripemd_batch.specs.Lanes.{line_of, lane_of, HasWords};
 
-use crate::eight::Eight;
+use crate::lanes::Lanes;
 use ripemd_block::textbook::{
     left_constant, left_number, right_constant_of_five_rounds, right_constant_of_four_rounds,
     right_number, rotation,
@@ -29,6 +29,9 @@ pub(crate) struct Lines<R: Copy> {
 
 /// The registers of a line, of which there are as many as it has rounds.
 pub(crate) trait LineRegisters: Copy {
+    /// The vectors.
+    type Vector: Lanes;
+
     // Those of message `j`.
     ghost lane: { ℕ → Self → List ℕ };
 
@@ -41,21 +44,24 @@ pub(crate) trait LineRegisters: Copy {
 
     /// A step of a line in round `r`, with the message words `x`, the constant `k` and the rotation by
     /// `s` bits.
-    fn step(self, side: Side, r: usize, x: Eight, k: u32, s: u32) -> Self
+    fn step(self, side: Side, r: usize, x: Self::Vector, k: u32, s: u32) -> Self
         requires round { r < ROUNDS }
         requires amount { (0 < s) × (s < 32) }
-        ensures { (j : ℕ) → j < 8 → lane j result
-            ≡ step ((line_of ROUNDS side).function r) (slice_index x j) k s (lane j self) };
+        ensures { (j : ℕ) → j < Self.Vector.COUNT → lane j result
+            ≡ step ((line_of ROUNDS side).function r) (slice_index (Self.Vector.words x) j) k s
+            (lane j self) };
 
     /// The registers of two lines with register `k` exchanged between them.
     fn exchange(k: usize, left: Self, right: Self) -> (Self, Self)
         requires { k < ROUNDS }
-        ensures { (j : ℕ) → j < 8 → both_lines (lane j result.0) (lane j result.1)
+        ensures { (j : ℕ) → j < Self.Vector.COUNT → both_lines (lane j result.0) (lane j result.1)
             ≡ exchange (Some k) (both_lines (lane j left) (lane j right)) };
 }
 
-impl LineRegisters for [Eight; 4] {
-    ghost lane = { lane_of 4 };
+impl<V: Lanes> LineRegisters for [V; 4] {
+    type Vector = V;
+
+    ghost lane = { λ j v. lane_of 4 j (map V.words v) };
 
     ghost ROUNDS = { 4 };
 
@@ -68,22 +74,24 @@ impl LineRegisters for [Eight; 4] {
     }
 
     #[inline(always)]
-    fn step(self, side: Side, r: usize, x: Eight, k: u32, s: u32) -> [Eight; 4] {
+    fn step(self, side: Side, r: usize, x: V, k: u32, s: u32) -> [V; 4] {
         let [a, b, c, d] = self;
         let f = function(side, 4, r, b, c, d);
-        let t = a.add(f).add(x).add(Eight::splat(k)).rotate(s);
+        let t = a.add(f).add(x).add(V::splat(k)).rotate(s);
         [d, t, b, c]
     }
 
     #[inline(always)]
-    fn exchange(k: usize, mut left: [Eight; 4], mut right: [Eight; 4]) -> ([Eight; 4], [Eight; 4]) {
+    fn exchange(k: usize, mut left: [V; 4], mut right: [V; 4]) -> ([V; 4], [V; 4]) {
         swap(&mut left[k], &mut right[k]);
         (left, right)
     }
 }
 
-impl LineRegisters for [Eight; 5] {
-    ghost lane = { lane_of 5 };
+impl<V: Lanes> LineRegisters for [V; 5] {
+    type Vector = V;
+
+    ghost lane = { λ j v. lane_of 5 j (map V.words v) };
 
     ghost ROUNDS = { 5 };
 
@@ -96,16 +104,16 @@ impl LineRegisters for [Eight; 5] {
     }
 
     #[inline(always)]
-    fn step(self, side: Side, r: usize, x: Eight, k: u32, s: u32) -> [Eight; 5] {
+    fn step(self, side: Side, r: usize, x: V, k: u32, s: u32) -> [V; 5] {
         let [a, b, c, d, e] = self;
         let f = function(side, 5, r, b, c, d);
         // The constant is added to `f` itself, so that a complement in it costs nothing.
-        let t = a.add(x).add(f.add(Eight::splat(k))).rotate(s).add(e);
+        let t = a.add(x).add(f.add(V::splat(k))).rotate(s).add(e);
         [e, t, b, c.rotate(10), d]
     }
 
     #[inline(always)]
-    fn exchange(k: usize, mut left: [Eight; 5], mut right: [Eight; 5]) -> ([Eight; 5], [Eight; 5]) {
+    fn exchange(k: usize, mut left: [V; 5], mut right: [V; 5]) -> ([V; 5], [V; 5]) {
         swap(&mut left[k], &mut right[k]);
         (left, right)
     }
@@ -113,11 +121,12 @@ impl LineRegisters for [Eight; 5] {
 
 // The Boolean function of round `r` of a line of so many rounds.
 #[inline(always)]
-fn function(side: Side, rounds: usize, r: usize, x: Eight, y: Eight, z: Eight) -> Eight
+fn function<V: Lanes>(side: Side, rounds: usize, r: usize, x: V, y: V, z: V) -> V
     requires round { r < rounds }
     requires most { rounds ≤ 5 }
-    ensures { (j : ℕ) → j < 8 → slice_index result j
-        ≡ (line_of rounds side).function r (slice_index x j) (slice_index y j) (slice_index z j) }
+    ensures { (j : ℕ) → j < V.COUNT → slice_index (V.words result) j
+        ≡ (line_of rounds side).function r (slice_index (V.words x) j) (slice_index (V.words y) j)
+        (slice_index (V.words z) j) }
 {
     match side {
         Side::Left => boolean_function(r, x, y, z),
@@ -128,10 +137,11 @@ fn function(side: Side, rounds: usize, r: usize, x: Eight, y: Eight, z: Eight) -
 // Boolean function number `k` of the words of each message (1996, functions), by few operations: 1
 // and 3 are factored, and 2 and 4 are complements.
 #[inline(always)]
-fn boolean_function(k: usize, x: Eight, y: Eight, z: Eight) -> Eight
+fn boolean_function<V: Lanes>(k: usize, x: V, y: V, z: V) -> V
     requires { k < 5 }
-    ensures { (j : ℕ) → j < 8 → slice_index result j
-        ≡ boolean_function k (slice_index x j) (slice_index y j) (slice_index z j) }
+    ensures { (j : ℕ) → j < V.COUNT → slice_index (V.words result) j
+        ≡ boolean_function k (slice_index (V.words x) j) (slice_index (V.words y) j)
+        (slice_index (V.words z) j) }
 {
     match k {
         0 => x.xor(y.xor(z)),
@@ -158,11 +168,18 @@ fn word_number(side: Side, r: usize, i: usize) -> usize
 
 // Step `i` of round `r` of a line.
 #[inline(always)]
-fn step_at<R: LineRegisters>(side: Side, r: usize, i: usize, words: &[Eight; 16], registers: R) -> R
+fn step_at<R: LineRegisters>(
+    side: Side,
+    r: usize,
+    i: usize,
+    words: &[R::Vector; 16],
+    registers: R,
+) -> R
     requires round { r < R.ROUNDS }
     requires most { R.ROUNDS ≤ 5 }
     requires step { i < 16 }
-    ensures { (j : ℕ) → j < 8 → (block first : List ℕ) → HasWords words.now j block
+    ensures { (j : ℕ) → j < R.Vector.COUNT → (block first : List ℕ)
+        → HasWords (map R.Vector.words words.now) j block
         → R.lane j registers ≡ registers_after (line_of R.ROUNDS side) block r i first
         → R.lane j result ≡ registers_after (line_of R.ROUNDS side) block r (i + 1) first }
 {
@@ -178,13 +195,14 @@ fn four_steps<R: LineRegisters>(
     side: Side,
     r: usize,
     from: usize,
-    words: &[Eight; 16],
+    words: &[R::Vector; 16],
     start: R,
 ) -> R
     requires round { r < R.ROUNDS }
     requires most { R.ROUNDS ≤ 5 }
     requires steps { from + 4 ≤ 16 }
-    ensures { (j : ℕ) → j < 8 → (block first : List ℕ) → HasWords words.now j block
+    ensures { (j : ℕ) → j < R.Vector.COUNT → (block first : List ℕ)
+        → HasWords (map R.Vector.words words.now) j block
         → R.lane j start ≡ registers_after (line_of R.ROUNDS side) block r from first
         → R.lane j result ≡ registers_after (line_of R.ROUNDS side) block r (from + 4) first }
 {
@@ -200,14 +218,16 @@ fn four_steps<R: LineRegisters>(
 /// for each other.
 #[inline(always)]
 pub(crate) fn round<R: LineRegisters, const N: usize>(
-    words: &[Eight; 16],
+    words: &[R::Vector; 16],
     lines: Lines<R>,
 ) -> Lines<R>
     requires round { N < R.ROUNDS }
     requires most { R.ROUNDS ≤ 5 }
-    ensures left { (j : ℕ) → j < 8 → (block : List ℕ) → HasWords words.now j block
+    ensures left { (j : ℕ) → j < R.Vector.COUNT → (block : List ℕ)
+        → HasWords (map R.Vector.words words.now) j block
         → R.lane j result.left ≡ round left_line block N (R.lane j lines.left) }
-    ensures right { (j : ℕ) → j < 8 → (block : List ℕ) → HasWords words.now j block
+    ensures right { (j : ℕ) → j < R.Vector.COUNT → (block : List ℕ)
+        → HasWords (map R.Vector.words words.now) j block
         → R.lane j result.right ≡ round (right_line R.ROUNDS) block N (R.lane j lines.right) }
 {
     let left = four_steps(Side::Left, N, 0, words, lines.left);
@@ -225,7 +245,7 @@ pub(crate) fn round<R: LineRegisters, const N: usize>(
 #[inline(always)]
 pub(crate) fn exchange<R: LineRegisters>(k: usize, lines: Lines<R>) -> Lines<R>
     requires { k < R.ROUNDS }
-    ensures { (j : ℕ) → j < 8 → both_lines (R.lane j result.left) (R.lane j result.right)
+    ensures { (j : ℕ) → j < R.Vector.COUNT → both_lines (R.lane j result.left) (R.lane j result.right)
         ≡ exchange (Some k) (both_lines (R.lane j lines.left) (R.lane j lines.right)) }
 {
     let (left, right) = R::exchange(k, lines.left, lines.right);

@@ -5,9 +5,7 @@ ghost use Rattle.ripemd_block.specs.Standard.Hashing.{hash};
 ghost use Rattle.ripemd_mac.specs.Hmac.{hmac};
 ghost use Rattle.ripemd_batch.specs.Lanes.{hash_after, made_by, targets};
 
-use crate::groups::{
-    BatchDigest, FunctionOf, StateOf, digest_from, digest_one, group_end, message_at,
-};
+use crate::groups::{BatchDigest, StateOf, digest_from, digest_one, group_end, message_at};
 use ripemd_block::block_api::{BlockFunction, ByteArray, walk};
 use ripemd_mac::hmac::{filled, masked_keys};
 use std::marker::Model;
@@ -17,7 +15,7 @@ use std::marker::Model;
 ///
 /// The messages go in groups of eight as they come. The time of a group that is hashed at once
 /// depends on its longest message alone. A group that would leave most lanes without work is hashed
-/// one message after another. So it is fastest if neighbours have like lengths.
+/// by fours, or one message after another. So it is fastest if neighbours have like lengths.
 pub fn digest_each<D: BatchDigest>(messages: &[&[u8]], digests: &mut [D::Output])
     requires { length digests.old ≡ length messages.now }
     ensures { map D.bytes_of digests.new
@@ -59,12 +57,12 @@ impl<D: BatchDigest> Model for ListHasher<D> {
 
     ghost view = { λ h. record {
       before = h.before;
-      first = D.States.Function.list h.first;
-      outer = listed D.States.Function.list h.outer;
+      first = D.Function.list h.first;
+      outer = listed D.Function.list h.outer;
     } };
 
-    ghost invariant = { λ h. D.States.Function.is_state h.first
-        × IfSome h.outer D.States.Function.is_state };
+    ghost invariant = { λ h. D.Function.is_state h.first
+        × IfSome h.outer D.Function.is_state };
 }
 
 impl<D: BatchDigest> ListHasher<D> {
@@ -72,15 +70,15 @@ impl<D: BatchDigest> ListHasher<D> {
     pub fn new() -> ListHasher<D>
         ensures { made_by D.step D.output result ≡ hash D.start D.step D.output }
     {
-        ListHasher::after(FunctionOf::<D>::start(), 0)
+        ListHasher::after(D::Function::start(), 0)
     }
 
     // Of digests of messages, walked through from a state to which so many bytes before them led.
     #[inline(always)]
     pub(crate) fn after(first: StateOf<D>, before: u64) -> ListHasher<D>
-        requires { D.States.Function.is_state first }
+        requires { D.Function.is_state first }
         ensures { made_by D.step D.output result
-            ≡ hash_after before (D.States.Function.list first) D.step D.output }
+            ≡ hash_after before (D.Function.list first) D.step D.output }
     {
         ListHasher {
             first,
@@ -110,7 +108,7 @@ impl<D: BatchDigest> ListHasher<D> {
             ≡ map (made_by D.step D.output self.now) (targets messages.now) }
     {
         // So few leave most lanes without work.
-        if messages.len() < 4 {
+        if messages.len() < 3 {
             self.hash_one_by_one(messages, outputs);
         } else {
             self.hash_groups(messages, outputs);
@@ -129,7 +127,7 @@ impl<D: BatchDigest> ListHasher<D> {
             return;
         }
         for g in 0..messages.len().div_ceil(8) {
-            let end = group_end(messages.len(), g);
+            let end = group_end(messages.len(), 8 * g, 8);
             self.hash_group(&messages[8 * g..end], &mut outputs[8 * g..end]);
         }
     }
@@ -178,10 +176,10 @@ impl<D: BatchDigest> ListHasher<D> {
 
 // The state after one block.
 pub(crate) fn state_after<D: BatchDigest>(block: [u8; 64]) -> StateOf<D>
-    ensures value { D.States.Function.list result ≡ D.step D.start block }
-    ensures valid { D.States.Function.is_state result }
+    ensures value { D.Function.list result ≡ D.step D.start block }
+    ensures valid { D.Function.is_state result }
 {
-    walk::<FunctionOf<D>>(FunctionOf::<D>::start(), &[block])
+    walk::<D::Function>(D::Function::start(), &[block])
 }
 
 // A block for each of at most eight digests, which begins with the digest.

@@ -46,6 +46,17 @@ impl<'a, 'b> MessageBlocks<'a, 'b> {
         }
     }
 
+    /// Where there is no message, a block of zero bytes.
+    #[inline(always)]
+    pub(crate) fn none(zeros: &'b mut [[u8; 64]; 2]) -> MessageBlocks<'a, 'b>
+        requires { zeros.old ≡ replicate 2 (replicate block_size 0) }
+    {
+        MessageBlocks {
+            whole: &[],
+            last: &zeros[..1],
+        }
+    }
+
     /// How many there are.
     #[inline(always)]
     pub(crate) fn count(&self) -> usize
@@ -80,7 +91,7 @@ fn last_blocks<'b>(tail: &[u8], bit_len: u64, zeros: &'b mut [[u8; 64]; 2]) -> &
     ensures value { result.now ≡ blocks (with_padding tail.now bit_len) }
     ensures some { 0 < length result.now }
 {
-    write_marked(tail, &mut zeros[0]);
+    write_marked(&mut zeros[0], tail);
     if tail.len() < 56 {
         write_length(&mut zeros[0], bit_len);
         &zeros[..1]

@@ -1,16 +1,16 @@
-//! Keys derived from passwords (PBKDF2 with HMAC, RFC 8018, section 5.2): eight blocks at once.
+//! Keys derived from passwords (PBKDF2 with HMAC, RFC 8018, section 5.2): up to eight blocks at once.
 
 ghost use Rattle.std.specs.Prelude.{◌≡◌, ◌≢◌, ◌↔◌, ℕ, ◌<◌, ◌≤◌, ◌+◌, ◌-◌, ◌*◌, ◌%◌, ◌^◌, ◌++◌, length, slice_index, IfOk, IfErr};
 ghost use Rattle.std.specs.Int.{w32, to_be_bytes, div_ceil};
 ghost use Rattle.ripemd_block.specs.Standard.Hashing.{hash};
-ghost use Rattle.ripemd_mac.specs.Hmac.{hmac};
+ghost use Rattle.ripemd_mac.specs.Hmac.{filled, hmac};
 ghost use Rattle.ripemd_mac.specs.Pbkdf2.{F, pbkdf2};
 ghost use Rattle.ripemd_batch.specs.Pbkdf2.{HasBlocks, InGroup, IsFilled, block_at, combined_tags, pbkdf2_each, tag_after, total};
 ghost use Rattle.ripemd_batch.specs.Lanes.{hash_after, list_at, targets};
 
-use crate::eight::Eight;
-use crate::eight_states::EightStates;
-use crate::groups::{BatchDigest, FunctionOf, StateOf, digest_one, last_state};
+use crate::groups::{BatchDigest, StateOf, digest_one, last_state};
+use crate::lane_states::LaneStates;
+use crate::lanes::Lanes;
 use crate::lists::state_after;
 use ripemd::digest::Digest;
 use ripemd_block::block_api::{BlockFunction, ByteArray};
@@ -20,8 +20,7 @@ use ripemd_mac::pbkdf2::{allowed, combined, write_front};
 use std::marker::Model;
 
 /// Derives a key from a password and a salt as [`ripemd_mac::pbkdf2_hmac`] does, by so many rounds,
-/// and writes it to `key`: eight blocks at once, or one by one where there are fewer than three.
-/// Nothing is allocated.
+/// and writes it to `key`: up to eight blocks at once. Nothing is allocated.
 ///
 /// # Errors
 ///
@@ -47,9 +46,8 @@ pub fn pbkdf2_hmac<D: BatchDigest>(
 }
 
 /// Derives a key of `size` bytes from each password and the salt in its place, by so many rounds, and
-/// writes one after another to `keys`: eight of all their blocks at once, and the last ones one by one
-/// where there are fewer than three. There must be as many salts as passwords, and room for so many
-/// keys. Nothing is allocated.
+/// writes one after another to `keys`: up to eight of all their blocks at once. There must be as many
+/// salts as passwords, and room for so many keys. Nothing is allocated.
 ///
 /// # Errors
 ///
@@ -167,61 +165,65 @@ impl<'a> KeyBlocks<'a> {
             → HasBlocks D.OUTPUT_SIZE (hmac (hash D.start D.step D.output)) self.now (k - k % 8)
             result }
     {
+        let live = self.total() - k;
         if 0 < k % 8 {
             group
-        } else if self.total() - k < 3 {
-            self.few_blocks::<D>(k)
+        } else if live == 1 {
+            self.last_block::<D>(k)
+        } else if live <= 4 {
+            self.blocks_at_once::<D, D::Four>(k)
         } else {
-            self.eight_blocks::<D>(k)
+            self.blocks_at_once::<D, D::Eight>(k)
         }
     }
 
-    // The blocks from block `k` on, filled with zeros, one after another: there are at most eight.
-    fn few_blocks<D: BatchDigest>(&self, k: usize) -> [[u8; 64]; 8]
-        requires inside { k < total self.now }
-        requires few { total self.now ≤ k + 8 }
+    // Block `k`, the last of all, filled with zeros; the other seven are any.
+    fn last_block<D: BatchDigest>(&self, k: usize) -> [[u8; 64]; 8]
+        requires { total self.now ≡ k + 1 }
         ensures { HasBlocks D.OUTPUT_SIZE (hmac (hash D.start D.step D.output)) self.now k result }
     {
         let mut blocks = [[0; 64]; 8];
-        for j in 0..self.total() - k {
-            let block = one_by_one::<D>(self.chain_at::<D>(k + j), self.rounds);
-            blocks[j] = block;
-        }
+        let block = one_by_one::<D>(self.chain_at::<D>(k), self.rounds);
+        blocks[0] = block;
         blocks
     }
 
-    // Eight blocks from block `k` on, filled with zeros, all at once. Where there are fewer, the rest is
-    // any.
-    fn eight_blocks<D: BatchDigest>(&self, k: usize) -> [[u8; 64]; 8]
-        requires { k < total self.now }
+    // The blocks from block `k` on, at most eight, filled with zeros, all at once: one in each lane. Where
+    // there are fewer, the rest is any.
+    fn blocks_at_once<D: BatchDigest, S: LaneStates<Function = D::Function>>(
+        &self,
+        k: usize,
+    ) -> [[u8; 64]; 8]
+        requires inside { k < total self.now }
+        requires lanes { (j : ℕ) → j < 8 → k + j < total self.now → j < S.Vector.COUNT }
         ensures { HasBlocks D.OUTPUT_SIZE (hmac (hash D.start D.step D.output)) self.now k result }
     {
-        let live = self.total() - k;
-        let start = D::States::splat(FunctionOf::<D>::start());
+        let live = (self.total() - k).min(8);
+        let start = S::splat(D::Function::start());
         let mut inner = start;
         let mut outer = start;
         let mut first = start;
-        for j in 0..8 {
-            let chain = self.chain_at::<D>(place_of(k, j, live));
+        for j in 0..live {
+            let chain = self.chain_at::<D>(k + j);
             let lane = only_lane(j);
-            inner = D::States::select(lane, D::States::splat(chain.inner), inner);
-            outer = D::States::select(lane, D::States::splat(chain.outer), outer);
-            first = D::States::select(lane, D::States::splat(chain.first), first);
+            inner = S::select(lane, S::splat(chain.inner), inner);
+            outer = S::select(lane, S::splat(chain.outer), outer);
+            first = S::select(lane, S::splat(chain.first), first);
         }
         let sums = combined_tags(inner, outer, first, self.rounds);
         // Proof only: its contract gives the size of a digest.
         digest_size::<D>();
-        blocks_of(&sums)
+        blocks_of(&sums, live)
     }
 
     // What block `k` is made of.
     fn chain_at<D: BatchDigest>(&self, k: usize) -> Chain<D>
         requires { k < total self.now }
-        ensures inner { D.States.Function.is_state result.inner }
-        ensures outer { D.States.Function.is_state result.outer }
+        ensures inner { D.Function.is_state result.inner }
+        ensures outer { D.Function.is_state result.outer }
         ensures block { combined_tags (tag_after D.step D.output
-            (D.States.Function.list result.inner) (D.States.Function.list result.outer)) self.now.rounds
-            (D.output (D.States.Function.list result.first))
+            (D.Function.list result.inner) (D.Function.list result.outer)) self.now.rounds
+            (D.output (D.Function.list result.first))
             ≡ block_at (hmac (hash D.start D.step D.output)) self.now k }
     {
         let i = k / self.count;
@@ -233,25 +235,15 @@ impl<'a> KeyBlocks<'a> {
     }
 }
 
-// Which block lane `j` is given, of `live` from block `k` on: the first again, where there is none.
-fn place_of(k: usize, j: usize, live: usize) -> usize
-    requires some { 0 < live }
-    requires fits { k + live < 2 ^ 64 }
-    ensures block { j < live → result ≡ k + j }
-    ensures inside { result < k + live }
-{
-    if j < live { k + j } else { k }
-}
-
 // All bits in one lane, and 0 in the others.
-fn only_lane(j: usize) -> Eight
+fn only_lane<V: Lanes>(j: usize) -> V
     requires { j < 8 }
-    ensures yes { slice_index result j ≡ 0xffff_ffff }
-    ensures no { (i : ℕ) → i < 8 → i ≢ j → slice_index result i ≡ 0 }
+    ensures yes { j < V.COUNT → slice_index (V.words result) j ≡ 0xffff_ffff }
+    ensures no { (i : ℕ) → i < V.COUNT → i ≢ j → slice_index (V.words result) i ≡ 0 }
 {
     let mut lanes = [0; 8];
     lanes[j] = 0xffff_ffff;
-    Eight::of(lanes)
+    V::of(lanes)
 }
 
 // What a block is made of: the states after the two masked keys, and that whose output is the first tag.
@@ -264,11 +256,11 @@ struct Chain<D: BatchDigest> {
 
 // That of block `number` of the key of one password.
 fn chain_of<D: BatchDigest>(password: &[u8], salt: &[u8], number: u32) -> Chain<D>
-    ensures inner { D.States.Function.is_state result.inner }
-    ensures outer { D.States.Function.is_state result.outer }
+    ensures inner { D.Function.is_state result.inner }
+    ensures outer { D.Function.is_state result.outer }
     ensures block { (rounds : ℕ) → combined_tags (tag_after D.step D.output
-        (D.States.Function.list result.inner) (D.States.Function.list result.outer)) rounds
-        (D.output (D.States.Function.list result.first))
+        (D.Function.list result.inner) (D.Function.list result.outer)) rounds
+        (D.output (D.Function.list result.first))
         ≡ F (hmac (hash D.start D.step D.output)) password.now salt.now rounds number }
 {
     let keys = masked_keys::<D>(password);
@@ -295,27 +287,37 @@ fn inner_digest<D: Digest>(inner_key: &[u8; 64], salt: &[u8], number: u32) -> D:
 // The exclusive or of so many tags of a chain, the first one's tag and so on, filled with zeros.
 fn one_by_one<D: BatchDigest>(chain: Chain<D>, rounds: u32) -> [u8; 64]
     requires rounds { 0 < rounds }
-    requires inner { D.States.Function.is_state chain.inner }
-    requires outer { D.States.Function.is_state chain.outer }
+    requires inner { D.Function.is_state chain.inner }
+    requires outer { D.Function.is_state chain.outer }
     ensures { IsFilled D.OUTPUT_SIZE result (combined_tags (tag_after D.step D.output
-        (D.States.Function.list chain.inner) (D.States.Function.list chain.outer)) rounds
-        (D.output (D.States.Function.list chain.first))) }
+        (D.Function.list chain.inner) (D.Function.list chain.outer)) rounds
+        (D.output (D.Function.list chain.first))) }
 {
-    let mut tag = FunctionOf::<D>::output(chain.first);
+    let mut tag = D::Function::output(chain.first);
     let mut sum = filled(D::output_bytes(&tag));
     for k in 1..rounds {
         let next = digest_after_one::<D>(chain.outer, &digest_after_one::<D>(chain.inner, &tag));
         tag = next;
-        sum = combined(&sum, &filled(D::output_bytes(&next)));
+        sum = combined(&sum, &filled_in_memory(D::output_bytes(&next)));
     }
     sum
+}
+
+// What `filled` gives. Not inlined: where the compiler knows how many bytes there are, it puts the block together
+// byte by byte in registers, and a round takes 13 ns more.
+#[inline(never)]
+fn filled_in_memory(bytes: &[u8]) -> [u8; 64]
+    requires { length bytes.now ≤ 64 }
+    ensures { result ≡ filled bytes.now }
+{
+    filled(bytes)
 }
 
 // The digest of a digest, as a message after one block, which led to the state `first`.
 #[inline(always)]
 fn digest_after_one<D: BatchDigest>(first: StateOf<D>, digest: &D::Output) -> D::Output
-    requires { D.States.Function.is_state first }
-    ensures digest { D.bytes_of result ≡ hash_after 64 (D.States.Function.list first) D.step D.output
+    requires { D.Function.is_state first }
+    ensures digest { D.bytes_of result ≡ hash_after 64 (D.Function.list first) D.step D.output
         (D.bytes_of digest.now) }
     ensures size { length (D.bytes_of result) ≡ D.OUTPUT_SIZE }
 {
@@ -338,39 +340,45 @@ pub fn digest_size<D: BatchDigest>() -> usize
     D::OUTPUT_SIZE
 }
 
-// The digest of each message, filled with zeros.
+// The digests of the first `live` of eight messages, filled with zeros.
 #[inline(always)]
-fn blocks_of<S: EightStates>(states: &S) -> [[u8; 64]; 8]
-    ensures { (j : ℕ) → j < 8
-        → IsFilled S.Output.LEN (list_at result j) (S.Function.output (S.words_of j states.now)) }
+fn blocks_of<S: LaneStates>(states: &S, live: usize) -> [[u8; 64]; 8]
+    requires { live ≤ S.Vector.COUNT }
+    ensures { (j : ℕ) → j < 8 → j < live → IsFilled S.Function.Digest.LEN (list_at result j)
+        (S.Function.output (S.words_of j states.now)) }
 {
     [
-        digest_block(states, 0),
-        digest_block(states, 1),
-        digest_block(states, 2),
-        digest_block(states, 3),
-        digest_block(states, 4),
-        digest_block(states, 5),
-        digest_block(states, 6),
-        digest_block(states, 7),
+        digest_block(states, 0, live),
+        digest_block(states, 1, live),
+        digest_block(states, 2, live),
+        digest_block(states, 3, live),
+        digest_block(states, 4, live),
+        digest_block(states, 5, live),
+        digest_block(states, 6, live),
+        digest_block(states, 7, live),
     ]
 }
 
-// The digest of message `j`, filled with zeros.
+// The digest of message `j`, filled with zeros; zeros alone behind the first `live`.
 #[inline(never)]
-fn digest_block<S: EightStates>(states: &S, j: usize) -> [u8; 64]
-    requires { j < 8 }
-    ensures { IsFilled S.Output.LEN result (S.Function.output (S.words_of j states.now)) }
+fn digest_block<S: LaneStates>(states: &S, j: usize, live: usize) -> [u8; 64]
+    requires { live ≤ S.Vector.COUNT }
+    ensures { j < live → IsFilled S.Function.Digest.LEN result
+        (S.Function.output (S.words_of j states.now)) }
 {
-    filled(states.digest_of(j).as_bytes())
+    if j < live {
+        filled(states.digest_of(j).as_bytes())
+    } else {
+        [0; 64]
+    }
 }
 
 // The states whose outputs are the exclusive or of so many tags: those that are the outputs of `first`,
 // their tags, the tags of these, and so on, from the states after the masked keys.
 #[inline(never)]
-fn combined_tags<S: EightStates>(inner: S, outer: S, first: S, rounds: u32) -> S
+fn combined_tags<S: LaneStates>(inner: S, outer: S, first: S, rounds: u32) -> S
     requires { 0 < rounds }
-    ensures { (j : ℕ) → j < 8 → S.Function.output (S.words_of j result)
+    ensures { (j : ℕ) → j < S.Vector.COUNT → S.Function.output (S.words_of j result)
         ≡ combined_tags (tag_after S.Function.step S.Function.output (S.words_of j inner)
         (S.words_of j outer)) rounds (S.Function.output (S.words_of j first)) }
 {
@@ -388,8 +396,8 @@ fn combined_tags<S: EightStates>(inner: S, outer: S, first: S, rounds: u32) -> S
 // The states whose outputs are the tags of those of `text`. Both halves go through one call, so that the
 // compiler writes out the rounds of it.
 #[inline(always)]
-fn tag_after<S: EightStates>(inner: S, outer: S, text: S) -> S
-    ensures { (j : ℕ) → j < 8 → S.Function.output (S.words_of j result)
+fn tag_after<S: LaneStates>(inner: S, outer: S, text: S) -> S
+    ensures { (j : ℕ) → j < S.Vector.COUNT → S.Function.output (S.words_of j result)
         ≡ tag_after S.Function.step S.Function.output (S.words_of j inner) (S.words_of j outer)
         (S.Function.output (S.words_of j text)) }
 {
@@ -403,9 +411,11 @@ fn tag_after<S: EightStates>(inner: S, outer: S, text: S) -> S
 
 // The states from which a half of a tag starts.
 #[inline(always)]
-fn first_of_half<S: EightStates>(half: usize, inner: S, outer: S) -> S
-    ensures inner { (j : ℕ) → j < 8 → half ≡ 0 → S.words_of j result ≡ S.words_of j inner }
-    ensures outer { (j : ℕ) → j < 8 → half ≡ 1 → S.words_of j result ≡ S.words_of j outer }
+fn first_of_half<S: LaneStates>(half: usize, inner: S, outer: S) -> S
+    ensures inner { (j : ℕ) → j < S.Vector.COUNT → half ≡ 0
+        → S.words_of j result ≡ S.words_of j inner }
+    ensures outer { (j : ℕ) → j < S.Vector.COUNT → half ≡ 1
+        → S.words_of j result ≡ S.words_of j outer }
 {
     if half == 0 { inner } else { outer }
 }
@@ -413,8 +423,8 @@ fn first_of_half<S: EightStates>(half: usize, inner: S, outer: S) -> S
 // The states whose outputs are the digests of those of `digest`, as messages after one block, which led
 // to the states `first`.
 #[inline(always)]
-fn digest_after<S: EightStates>(first: S, digest: S) -> S
-    ensures { (j : ℕ) → j < 8 → S.Function.output (S.words_of j result)
+fn digest_after<S: LaneStates>(first: S, digest: S) -> S
+    ensures { (j : ℕ) → j < S.Vector.COUNT → S.Function.output (S.words_of j result)
         ≡ hash_after 64 (S.words_of j first) S.Function.step S.Function.output
         (S.Function.output (S.words_of j digest)) }
 {

@@ -74,7 +74,7 @@ fn mixes_lengths(rt: HostRuntime) {
     }
 }
 
-// Eight messages of one length, for each length up to 200 bytes.
+// Eight messages of one length, and four, for each length up to 200 bytes.
 #[test]
 fn fills_all_lanes(rt: HostRuntime) {
     let bytes = bytes();
@@ -84,6 +84,7 @@ fn fills_all_lanes(rt: HostRuntime) {
             messages[i] = &bytes[i..i + length];
         }
         assert!(rt; all_agree(&messages), "{length} bytes");
+        assert!(rt; all_agree(&messages[..4]), "{length} bytes, in four lanes");
     }
 }
 

@@ -1,8 +1,9 @@
 -- Bytes that come in behind a tail: the first of them fill a block, or all stay behind the tail.
 use Rattle.std.proofs.Common.{◌≡◌, ℕ, ◌+◌, ◌-◌, ◌<◌, ◌≤◌, sym, ap, ◌∙◌, arith}
-use Rattle.std.proofs.Common.{List, ◌++◌, length, take, drop, length-append}
+use Rattle.std.proofs.Common.{List, [], ◌++◌, length, take, drop, length-append}
 use Rattle.std.proofs.lemmas.List.{append_assoc, append-nil, length-drop, length-take-le}
 use Rattle.std.proofs.lemmas.List.{take-append-drop, take_at, take_all, drop_all}
+use Rattle.std.proofs.Math.Seq.{take-append_seam}
 use Rattle.ripemd_block.specs.Standard.Hashing.{blocks, partial_block}
 use Rattle.ripemd_block.specs.Laws.Blocks.{blocks_joined, left_over_joined, blocks_of_short, left_over_of_short}
 
@@ -16,13 +17,13 @@ take_put len block bytes rest fits =
     omega (arith, length-append (take len block) bytes, length-take-le len block fits) in
     take_at (take len block ++ bytes) rest (len + length bytes) size
 
--- as many as there is room for leave nothing of the block as it was
-pub filled_block : (len room : ℕ) (block bytes : List ℕ) → length block ≡ len + room → room ≤ length bytes
-    → take len block ++ take room bytes ++ drop (len + length (take room bytes)) block
-    ≡ take len block ++ take room bytes
-filled_block len room block bytes size enough =
-    rw (drop_all (len + length (take room bytes)) block (omega (arith, length-take-le room bytes enough)))
-    (append-nil (take len block ++ take room bytes))
+-- a tail, and as many behind it as there is room for, leave nothing of the block as it was
+pub filled_block : (tail front rest : List ℕ) → length rest ≡ 64 - length tail → length tail + length front ≡ 64
+    → take (length tail) (tail ++ rest) ++ front ++ drop (length tail + length front) (tail ++ rest) ≡ tail ++ front
+filled_block tail front rest size full =
+    let none : length (tail ++ rest) ≤ length tail + length front = omega (arith, length-append tail rest) in
+    rw (take-append_seam tail rest, drop_all (length tail + length front) (tail ++ rest) none)
+    (append-nil (tail ++ front))
 
 -- the bytes from a place on, as a slice of code has them
 pub slice_from : (place : ℕ) (bytes : List ℕ) → take (length bytes - place) (drop place bytes) ≡ drop place bytes
@@ -34,15 +35,13 @@ module _ (tail bytes : List ℕ) where
   short : length tail + length bytes < 64 → length (tail ++ bytes) < 64
   short h = omega (arith, length-append tail bytes)
 
-  -- there is no whole block, as there is none of the bytes alone
-  pub blocks_unfilled : length tail + length bytes < 64 → blocks bytes ≡ blocks (tail ++ bytes)
-  blocks_unfilled h = blocks_of_short bytes (omega arith) ∙ sym (blocks_of_short (tail ++ bytes) (short h))
+  -- there is no whole block
+  pub blocks_unfilled : length tail + length bytes < 64 → blocks (tail ++ bytes) ≡ []
+  blocks_unfilled h = blocks_of_short (tail ++ bytes) (short h)
 
   -- all of them are left over
-  pub left_over_unfilled : length tail + length bytes < 64
-      → tail ++ partial_block bytes ≡ partial_block (tail ++ bytes)
-  left_over_unfilled h =
-      rw (left_over_of_short bytes (omega arith)) (sym (left_over_of_short (tail ++ bytes) (short h)))
+  pub left_over_unfilled : length tail + length bytes < 64 → partial_block (tail ++ bytes) ≡ tail ++ bytes
+  left_over_unfilled h = left_over_of_short (tail ++ bytes) (short h)
 
 -- ---- a tail that the first bytes fill
 

@@ -4,6 +4,8 @@ ghost use Rattle.std.specs.Prelude.{◌≡◌, ℕ, ◌+◌, ◌*◌, ◌^◌, �
 ghost use Rattle.std.specs.List.{All, flat_map};
 ghost use Rattle.ripemd_block.specs.Standard.Words.{word_bytes, eight_bytes};
 
+use std::simd::prelude::*;
+
 /// An array of bytes: `[u8; N]`, for any length `N`.
 pub trait ByteArray: Copy {
     // Its bytes.
@@ -89,21 +91,23 @@ pub fn write_short(place: &mut [u8], bytes: &[u8])
     let len = bytes.len();
     if len == 1 {
         place[0] = bytes[0];
+    } else if len < 8 {
+        if len >= 4 {
+            write_ends::<4>(place, bytes);
+        } else if len >= 2 {
+            write_ends::<2>(place, bytes);
+        }
     } else if len >= 32 {
         write_ends::<32>(place, bytes);
     } else if len >= 16 {
         write_ends::<16>(place, bytes);
-    } else if len >= 8 {
+    } else {
         write_ends::<8>(place, bytes);
-    } else if len >= 4 {
-        write_ends::<4>(place, bytes);
-    } else if len >= 2 {
-        write_ends::<2>(place, bytes);
     }
 }
 
-// The same of `N` to `2 * N` bytes: the first `N` and the last, which may overlap. By way of arrays of its
-// own, so that the compiler does not ask whether the place and the bytes overlap.
+// The same of `N` to `2 * N` bytes: the first `N` and the last, which may overlap. Both are loaded first, so
+// that the compiler does not ask whether the place and the bytes overlap.
 #[inline(always)]
 fn write_ends<const N: usize>(place: &mut [u8], bytes: &[u8])
     requires few { (N ≤ length bytes.now) × (length bytes.now ≤ 2 * N) }
@@ -111,12 +115,10 @@ fn write_ends<const N: usize>(place: &mut [u8], bytes: &[u8])
     ensures { place.new ≡ bytes.now ++ drop (length bytes.now) place.old }
 {
     let len = bytes.len();
-    let mut first = [0; N];
-    let mut last = [0; N];
-    first.copy_from_slice(&bytes[..N]);
-    last.copy_from_slice(&bytes[len - N..]);
-    place[..N].copy_from_slice(&first);
-    place[len - N..len].copy_from_slice(&last);
+    let first = Simd::<u8, N>::from_slice(bytes);
+    let last = Simd::<u8, N>::from_slice(&bytes[len - N..]);
+    first.copy_to_slice(&mut place[..N]);
+    last.copy_to_slice(&mut place[len - N..len]);
 }
 
 // Writes some bytes and then others.

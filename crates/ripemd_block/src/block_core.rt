@@ -187,7 +187,7 @@ fn walk_tail<F: ListBlockFunction>(state: &mut F::State, tail: &[u8], bit_len: u
     ensures valid { F.is_state state.new }
 {
     let mut last = [0; 64];
-    write_marked(tail, &mut last);
+    write_marked(&mut last, tail);
     if tail.len() >= 56 {
         F::walk_on(state, from_ref(&last));
         last = [0; 64];

@@ -96,20 +96,17 @@ impl Buffer {
         ensures valid_tail_new { IsTail self.new }
     {
         bytes_in_range(self.get_data());
-        let mut len = self.len;
-        let mut rest = bytes;
-        // The bytes may fill the block that the tail begins.
-        let room = 64 - len;
-        if len > 0 && bytes.len() >= room {
-            put_behind(&mut self.bytes, len, &bytes[..room]);
-            core.update_blocks(whole_blocks(&self.bytes).0);
-            len = 0;
-            rest = &bytes[room..];
+        let len = self.len;
+        if bytes.len() < 64 - len {
+            // Proof only: no blocks change nothing.
+            core.update_blocks(&[]);
+            put_behind(&mut self.bytes, len, bytes);
+            self.len = len + bytes.len();
+        } else {
+            let rest = take_blocks(core, &self.bytes[..len], bytes);
+            write_short(&mut self.bytes, rest);
+            self.len = rest.len();
         }
-        let (blocks, tail) = whole_blocks(rest);
-        core.update_blocks(blocks);
-        put_behind(&mut self.bytes, len, tail);
-        self.len = len + tail.len();
         bytes_in_range(self.get_data());
     }
 
@@ -129,6 +126,34 @@ impl Buffer {
         self.len = 0;
         padded
     }
+}
+
+/// Takes a tail and the bytes behind it, which fill a block or more, into the core: all whole blocks of both,
+/// in order. Gives what is left, 0 to 63 of the bytes.
+#[inline(always)]
+pub fn take_blocks<'a, C: UpdateCore>(core: &mut C, tail: &[u8], bytes: &'a [u8]) -> &'a [u8]
+    requires short { length tail.now < block_size }
+    requires filled { block_size ≤ length tail.now + length bytes.now }
+    ensures core { core.new ≡ C.after core.old (blocks (tail.now ++ bytes.now)) }
+    ensures rest { result.now ≡ partial_block (tail.now ++ bytes.now) }
+    ensures valid_old { C.is_core core.old }
+    ensures valid_new { C.is_core core.new }
+    ensures valid_rest { IsTail result.now }
+{
+    let len = tail.len();
+    let mut behind = bytes;
+    if len > 0 {
+        let (front, back) = bytes.split_at(64 - len);
+        let mut block = [0; 64];
+        write_short(&mut block, tail);
+        put_behind(&mut block, len, front);
+        core.update_blocks(whole_blocks(&block).0);
+        behind = back;
+    }
+    let (whole, rest) = whole_blocks(behind);
+    core.update_blocks(whole);
+    bytes_in_range(rest);
+    rest
 }
 
 // Proof only: fewer bytes than a block are a tail, since bytes are below 256.

@@ -90,13 +90,13 @@ fn marked_block(tail: &[u8]) -> [u8; 64]
     ensures valid { IsTail tail.now }
 {
     let mut block = [0; 64];
-    write_marked(tail, &mut block);
+    write_marked(&mut block, tail);
     block
 }
 
 /// Writes a tail and the byte 0x80 to the front of a block of zero bytes (RFC 1320, section 3.1).
 #[inline(always)]
-pub fn write_marked(tail: &[u8], block: &mut [u8; 64])
+pub fn write_marked(block: &mut [u8; 64], tail: &[u8])
     requires short { length tail.now < block_size }
     requires zeros { block.old ≡ replicate block_size 0 }
     ensures { block.new ≡ tail.now ++ 0x80 ∷ replicate (63 - length tail.now) 0 }

@@ -1,7 +1,7 @@
 //! Blocks in order, with the lines side by side in general registers: these have a rotation in one
 //! instruction, and so many blocks take less time than by the steps of the block function.
 
-ghost use Rattle.std.specs.Prelude.{◌≡◌};
+ghost use Rattle.std.specs.Prelude.{◌≡◌, ◌≤◌, ◌++◌, length, drop};
 ghost use Rattle.ripemd_block.specs.Standard.Hashing.{walk};
 
 mod c128;
@@ -12,6 +12,7 @@ mod lines;
 
 use crate::traits::BlockFunction;
 use crate::variants::{Ripemd128Function, Ripemd160Function, Ripemd256Function, Ripemd320Function};
+use std::simd::prelude::*;
 
 /// A block function whose step there is in general registers, too.
 pub(crate) trait InRegisters: BlockFunction {
@@ -19,6 +20,11 @@ pub(crate) trait InRegisters: BlockFunction {
     fn compress(state: Self::State, block: &[u8; 64]) -> Self::State
         ensures value { result ≡ Self.step_of state block.now }
         ensures valid { Self.is_state result };
+
+    /// Writes a state to its place, with four words in each store, since who copies it loads as many at once:
+    /// such a load waits long for single words that were only just stored.
+    fn put(state: Self::State, place: &mut Self::State)
+        ensures { place.new ≡ state };
 }
 
 /// Takes blocks into a state in order.
@@ -31,13 +37,27 @@ pub(crate) fn walk_on<F: InRegisters>(first: &mut F::State, blocks: &[[u8; 64]])
     for block in blocks {
         state = F::compress(state, block);
     }
-    *first = state;
+    F::put(state, first);
+}
+
+// Writes four words to the front of a place.
+#[inline(always)]
+fn put_four(words: [u32; 4], place: &mut [u32])
+    requires { 4 ≤ length place.old }
+    ensures { place.new ≡ words ++ drop 4 place.old }
+{
+    u32x4::from_array(words).copy_to_slice(&mut place[..4]);
 }
 
 impl InRegisters for Ripemd128Function {
     #[inline(always)]
     fn compress(state: [u32; 4], block: &[u8; 64]) -> [u32; 4] {
         c128::compress(state, block)
+    }
+
+    #[inline(always)]
+    fn put(state: [u32; 4], place: &mut [u32; 4]) {
+        put_four(state, place);
     }
 }
 
@@ -46,6 +66,13 @@ impl InRegisters for Ripemd160Function {
     fn compress(state: [u32; 5], block: &[u8; 64]) -> [u32; 5] {
         c160::compress(state, block)
     }
+
+    #[inline(always)]
+    fn put(state: [u32; 5], place: &mut [u32; 5]) {
+        let [s0, s1, s2, s3, s4] = state;
+        put_four([s0, s1, s2, s3], place);
+        place[4] = s4;
+    }
 }
 
 impl InRegisters for Ripemd256Function {
@@ -53,11 +80,27 @@ impl InRegisters for Ripemd256Function {
     fn compress(state: [u32; 8], block: &[u8; 64]) -> [u32; 8] {
         c256::compress(state, block)
     }
+
+    #[inline(always)]
+    fn put(state: [u32; 8], place: &mut [u32; 8]) {
+        let [s0, s1, s2, s3, s4, s5, s6, s7] = state;
+        put_four([s0, s1, s2, s3], place);
+        put_four([s4, s5, s6, s7], &mut place[4..]);
+    }
 }
 
 impl InRegisters for Ripemd320Function {
     #[inline(always)]
     fn compress(state: [u32; 10], block: &[u8; 64]) -> [u32; 10] {
         c320::compress(state, block)
+    }
+
+    #[inline(always)]
+    fn put(state: [u32; 10], place: &mut [u32; 10]) {
+        let [s0, s1, s2, s3, s4, s5, s6, s7, s8, s9] = state;
+        put_four([s0, s1, s2, s3], place);
+        put_four([s4, s5, s6, s7], &mut place[4..]);
+        place[8] = s8;
+        place[9] = s9;
     }
 }

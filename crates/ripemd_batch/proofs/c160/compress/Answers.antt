@@ -1,4 +1,4 @@
-use Rattle.std.proofs.Common.{refl, ◌∙◌}
+use Rattle.std.proofs.Common.{map, refl, ◌∙◌}
 use Rattle.ripemd_block.specs.Code.Lines.{both_lines}
 use Rattle.ripemd_block.specs.Standard.Compression.{ripemd160}
 use Rattle.ripemd_block.proofs.Stepping.{no_rounds, next_round, compress_from}
@@ -6,8 +6,8 @@ use Rattle.ripemd_batch.specs.Lanes.{lane_of}
 use Rattle.ripemd_batch.proofs.c160.compress.Goals as goal
 
 pub returns : goal.returns
-returns c j h block words =
-    let state = lane_of 5 j c.args.state in
+returns g c j h block words =
+    let state = lane_of 5 j (map g.V.Lanes.words c.args.state) in
     c.joint_state.ensures j h ∙ compress_from (next_round (next_round (next_round (next_round (next_round
     (no_rounds {lines = both_lines state state} ripemd160 state block refl)
     (c.round-lines.ensures.left j h) (c.round-lines.ensures.right j h) refl words)

@@ -6,7 +6,7 @@ use Rattle.ripemd_batch.proofs.groups.digest_from.Goals as goal
 pub loop-g-preserved : goal.loop-g-preserved
 loop-g-preserved g c =
     let d = g.D.Digest in
-    let first = g.D.States.Function.ListBlockFunction.list c.args.first in
+    let first = g.D.Function.ListBlockFunction.list c.args.first in
     let digest : List ℕ → List ℕ = hash_after c.args.before first d.step d.output in
     let end : ℕ = c.group_end-end.result in
     let at : ℕ = 8 * c.loop-g.g in

@@ -6,7 +6,7 @@ use Rattle.ripemd_batch.proofs.groups.digest_from.Given as goal
 abbrev pub invariant-loop-g : goal.invariant-loop-g
 invariant-loop-g g l =
     let d = g.D.Digest in
-    let first = g.D.States.Function.ListBlockFunction.list l.fn.first in
+    let first = g.D.Function.ListBlockFunction.list l.fn.first in
     let digest = hash_after l.fn.before first d.step d.output in
     record {
       size : length l.digests ≡ length l.messages;

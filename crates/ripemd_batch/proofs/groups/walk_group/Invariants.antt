@@ -6,7 +6,7 @@ use Rattle.ripemd_batch.proofs.groups.walk_group.Given as goal
 
 abbrev pub invariant-loop-i : goal.invariant-loop-i
 invariant-loop-i g l =
-    let s = g.S.EightStates in
+    let s = g.S.LaneStates in
     let f = g.S.Function.ListBlockFunction in
-    (j : ℕ) → j < 8
+    (j : ℕ) → j < g.S.Vector.Lanes.COUNT
     → s.words_of j l.states ≡ walk f.step (f.list l.fn.first) (take l.i (blocks_of l.blocks j))

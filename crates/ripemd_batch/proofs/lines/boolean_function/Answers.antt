@@ -4,14 +4,16 @@ use Rattle.ripemd_batch.proofs.Factored.{f2_complemented, f3_factored, f4_comple
 use Rattle.ripemd_batch.proofs.lines.boolean_function.Goals as goal
 
 pub returns-in-1 : goal.returns-in-1
-returns-in-1 c j h =
-    let fact = f1_factored (slice_index c.args.x j) (slice_index c.args.y j) (slice_index c.args.z j)
+returns-in-1 g c j h =
+    let words = g.V.Lanes.words in
+    let fact = f1_factored (slice_index (words c.args.x) j) (slice_index (words c.args.y) j) (slice_index (words c.args.z) j)
     (c.and.ensures.words j h) (c.xor-in-1.ensures.other_words j h) in
     rw (c.in-1.is, c.xor-in-1-2.ensures.value j h, c.and.ensures.value j h, c.xor-in-1.ensures.value j h) fact
 
 pub returns-in-2 : goal.returns-in-2
-returns-in-2 c j h =
-    let fact = f2_complemented (slice_index c.args.x j) (slice_index c.args.y j) (slice_index c.args.z j)
+returns-in-2 g c j h =
+    let words = g.V.Lanes.words in
+    let fact = f2_complemented (slice_index (words c.args.x) j) (slice_index (words c.args.y) j) (slice_index (words c.args.z) j)
     (c.not.ensures.words j h) (c.and-in-2.ensures.words j h) (c.xor-in-2.ensures.other_words j h) in
     rw (
       c.in-2.is,
@@ -22,14 +24,16 @@ returns-in-2 c j h =
     ) fact
 
 pub returns-in-3 : goal.returns-in-3
-returns-in-3 c j h =
-    let fact = f3_factored (slice_index c.args.x j) (slice_index c.args.y j) (slice_index c.args.z j)
+returns-in-3 g c j h =
+    let words = g.V.Lanes.words in
+    let fact = f3_factored (slice_index (words c.args.x) j) (slice_index (words c.args.y) j) (slice_index (words c.args.z) j)
     (c.and-in-3.ensures.words j h) (c.xor-in-3.ensures.other_words j h) in
     rw (c.in-3.is, c.xor-in-3-2.ensures.value j h, c.and-in-3.ensures.value j h, c.xor-in-3.ensures.value j h) fact
 
 pub returns-in_default : goal.returns-in_default
-returns-in_default c j h =
-    let fact = f4_complemented (slice_index c.args.x j) (slice_index c.args.y j) (slice_index c.args.z j)
+returns-in_default g c j h =
+    let words = g.V.Lanes.words in
+    let fact = f4_complemented (slice_index (words c.args.x) j) (slice_index (words c.args.y) j) (slice_index (words c.args.z) j)
     (c.xor-in_default.ensures.other_words j h) (c.not-in_default.ensures.words j h)
     (c.and-in_default.ensures.words j h) in
     let last : c.args.k ≡ 4 = omega arith in

@@ -9,7 +9,7 @@ use Rattle.ripemd_batch.proofs.pbkdf2.combined_tags.Goals as goal
 pub loop-k-init : goal.loop-k-init
 loop-k-init g c =
     let f = g.S.Function.ListBlockFunction in
-    let words = g.S.EightStates.words_of in
+    let words = g.S.LaneStates.words_of in
     record {
       tag = λ j h. refl;
       sum = λ j h. sym (first_combined (tag_after f.step f.output (words j c.args.inner) (words j c.args.outer))
@@ -19,10 +19,10 @@ loop-k-init g c =
 pub loop-k-preserved : goal.loop-k-preserved
 loop-k-preserved g c =
     let f = g.S.Function.ListBlockFunction in
-    let words = g.S.EightStates.words_of in
+    let words = g.S.LaneStates.words_of in
     let tag_of : ℕ → List ℕ → List ℕ = λ j. tag_after f.step f.output (words j c.args.inner) (words j c.args.outer) in
     let first : ℕ → List ℕ = λ j. f.output (words j c.args.first) in
-    let tag : (j : ℕ) → j < 8 → f.output (words j c.tag_after-next.result)
+    let tag : (j : ℕ) → j < g.S.Vector.Lanes.COUNT → f.output (words j c.tag_after-next.result)
     ≡ iterate (tag_of j) (c.loop-k.k + 1 - 1) (first j) = λ j h.
     c.tag_after-next.ensures j h
     ∙ ap (tag_of j) (c.loop-k.invariant.tag j h)

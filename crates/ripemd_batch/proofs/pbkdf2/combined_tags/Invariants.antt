@@ -7,10 +7,10 @@ use Rattle.ripemd_batch.proofs.pbkdf2.combined_tags.Given as goal
 abbrev pub invariant-loop-k : goal.invariant-loop-k
 invariant-loop-k g l =
     let f = g.S.Function.ListBlockFunction in
-    let words = g.S.EightStates.words_of in
+    let words = g.S.LaneStates.words_of in
     record {
-      tag : (j : ℕ) → j < 8 → f.output (words j l.tag)
+      tag : (j : ℕ) → j < g.S.Vector.Lanes.COUNT → f.output (words j l.tag)
           ≡ iterate (tag_after f.step f.output (words j l.inner) (words j l.outer)) (l.k - 1) (f.output (words j l.fn.first));
-      sum : (j : ℕ) → j < 8 → f.output (words j l.sum)
+      sum : (j : ℕ) → j < g.S.Vector.Lanes.COUNT → f.output (words j l.sum)
           ≡ combined_tags (tag_after f.step f.output (words j l.inner) (words j l.outer)) l.k (f.output (words j l.fn.first));
     }

@@ -12,7 +12,7 @@ use Rattle.ripemd_batch.proofs.pbkdf2.one_by_one.Goals as goal
 pub loop-k-init : goal.loop-k-init
 loop-k-init g c =
     let d = g.D.Digest in
-    let list = g.D.States.Function.ListBlockFunction.list in
+    let list = g.D.Function.ListBlockFunction.list in
     let bytes_of = g.D.OutputSizeUser.bytes_of in
     let tag_of : List ℕ → List ℕ = tag_after d.step d.output (list c.args.chain.inner) (list c.args.chain.outer) in
     let first : List ℕ = d.output (list c.args.chain.first) in
@@ -21,7 +21,7 @@ loop-k-init g c =
     let same = g.met.D.BatchDigest in
     let tag : bytes_of c.output-tag.result ≡ first =
     sym (same.same_bytes c.output-tag.result) ∙ ap g.D.Output.ByteArray.bytes c.output-tag.ensures.value
-    ∙ g.met.D.States.Function.ListBlockFunction.over_lists.of_output last
+    ∙ g.met.D.Function.ListBlockFunction.over_lists.of_output last
     ∙ ap (λ (output : List ℕ → List ℕ). output (list last)) same.same_output in
     record {
       tag = tag;
@@ -32,7 +32,7 @@ loop-k-init g c =
 pub loop-k-preserved : goal.loop-k-preserved
 loop-k-preserved g c =
     let d = g.D.Digest in
-    let list = g.D.States.Function.ListBlockFunction.list in
+    let list = g.D.Function.ListBlockFunction.list in
     let bytes_of = g.D.OutputSizeUser.bytes_of in
     let tag_of : List ℕ → List ℕ = tag_after d.step d.output (list c.args.chain.inner) (list c.args.chain.outer) in
     let first : List ℕ = d.output (list c.args.chain.first) in
@@ -49,9 +49,9 @@ loop-k-preserved g c =
     record {
       tag = tag;
       sum = c.combined-sum.ensures
-          ∙ ap (λ a. zip2 bit_xor a c.filled.result) so_far.sum
+          ∙ ap (λ a. zip2 bit_xor a c.filled_in_memory.result) so_far.sum
           ∙ ap (λ b. zip2 bit_xor (filled (combined_tags tag_of k first)) b)
-          (c.filled.ensures ∙ ap filled (c.output_bytes-in-loop-k.ensures.bytes ∙ tag))
+          (c.filled_in_memory.ensures ∙ ap filled (c.output_bytes-in-loop-k.ensures.bytes ∙ tag))
           ∙ combined_filled (combined_tags tag_of k first) (iterate tag_of (k + 1 - 1) first) same
           ∙ ap filled (sym added);
       size = ap length added ∙ length-combined (combined_tags tag_of k first) (iterate tag_of (k + 1 - 1) first) same ∙ so_far.size;

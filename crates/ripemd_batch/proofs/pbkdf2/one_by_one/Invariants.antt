@@ -8,7 +8,7 @@ use Rattle.ripemd_batch.proofs.pbkdf2.one_by_one.Given as goal
 abbrev pub invariant-loop-k : goal.invariant-loop-k
 invariant-loop-k g l =
     let d = g.D.Digest in
-    let list = g.D.States.Function.ListBlockFunction.list in
+    let list = g.D.Function.ListBlockFunction.list in
     let bytes_of = g.D.OutputSizeUser.bytes_of in
     let tag_of = tag_after d.step d.output (list l.fn.chain.inner) (list l.fn.chain.outer) in
     let first = d.output (list l.fn.chain.first) in

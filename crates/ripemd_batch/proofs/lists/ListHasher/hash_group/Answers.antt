@@ -10,7 +10,7 @@ use Rattle.ripemd_batch.proofs.lists.ListHasher.hash_group.Goals as goal
 pub returns-in-Some : goal.returns-in-Some
 returns-in-Some g c =
     let d = g.D.Digest in
-    let f = g.D.States.Function.ListBlockFunction in
+    let f = g.D.Function.ListBlockFunction in
     let bytes_of = g.D.OutputSizeUser.bytes_of in
     let size = g.D.Output.ByteArray.LEN in
     let inside = c.self.inside in
