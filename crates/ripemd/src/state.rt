@@ -77,7 +77,7 @@ fn load_tail(saved: &[u8]) -> Option<Buffer>
     ensures none { IfNone result ((tail : List ℕ) → IsTail tail → tail_bytes tail ≢ saved.now) }
 {
     match saved_tail(saved) {
-        Some(tail) => Buffer::try_new(tail),
+        Some(tail) => Buffer::try_front(&saved[1..], tail.len()),
         None => None,
     }
 }
@@ -170,9 +170,8 @@ fn absorb_saved<F: ResumableFunction>(saved: &mut [u8], len: usize, bytes: &[u8]
     // All of them, but so the compiler knows how many.
     let (back, _) = behind.split_at_mut(64);
     let mut core = BlockCore::<F>::load_slice(front).unwrap();
-    let (_, behind) = back.split_at(1);
-    let (tail, _) = behind.split_at(len);
-    let rest = take_blocks(&mut core, tail, bytes);
+    let (_, tail) = back.split_at(1);
+    let rest = take_blocks(&mut core, tail, len, bytes);
     let after = core.serialize();
     front.copy_from_slice(after.as_bytes());
     save_tail(rest, back);

@@ -298,19 +298,9 @@ fn one_by_one<D: BatchDigest>(chain: Chain<D>, rounds: u32) -> [u8; 64]
     for k in 1..rounds {
         let next = digest_after_one::<D>(chain.outer, &digest_after_one::<D>(chain.inner, &tag));
         tag = next;
-        sum = combined(&sum, &filled_in_memory(D::output_bytes(&next)));
+        sum = combined(&sum, &filled(D::output_bytes(&next)));
     }
     sum
-}
-
-// What `filled` gives. Not inlined: where the compiler knows how many bytes there are, it puts the block together
-// byte by byte in registers, and a round takes 13 ns more.
-#[inline(never)]
-fn filled_in_memory(bytes: &[u8]) -> [u8; 64]
-    requires { length bytes.now ≤ 64 }
-    ensures { result ≡ filled bytes.now }
-{
-    filled(bytes)
 }
 
 // The digest of a digest, as a message after one block, which led to the state `first`.

@@ -3,7 +3,6 @@ use Rattle.std.proofs.Common.{◌≡◌, ℕ, ◌+◌, ◌-◌, ◌<◌, ◌≤�
 use Rattle.std.proofs.Common.{List, [], ◌++◌, length, take, drop, length-append}
 use Rattle.std.proofs.lemmas.List.{append_assoc, append-nil, length-drop, length-take-le}
 use Rattle.std.proofs.lemmas.List.{take-append-drop, take_at, take_all, drop_all}
-use Rattle.std.proofs.Math.Seq.{take-append_seam}
 use Rattle.ripemd_block.specs.Standard.Hashing.{blocks, partial_block}
 use Rattle.ripemd_block.specs.Laws.Blocks.{blocks_joined, left_over_joined, blocks_of_short, left_over_of_short}
 
@@ -17,13 +16,10 @@ take_put len block bytes rest fits =
     omega (arith, length-append (take len block) bytes, length-take-le len block fits) in
     take_at (take len block ++ bytes) rest (len + length bytes) size
 
--- a tail, and as many behind it as there is room for, leave nothing of the block as it was
-pub filled_block : (tail front rest : List ℕ) → length rest ≡ 64 - length tail → length tail + length front ≡ 64
-    → take (length tail) (tail ++ rest) ++ front ++ drop (length tail + length front) (tail ++ rest) ≡ tail ++ front
-filled_block tail front rest size full =
-    let none : length (tail ++ rest) ≤ length tail + length front = omega (arith, length-append tail rest) in
-    rw (take-append_seam tail rest, drop_all (length tail + length front) (tail ++ rest) none)
-    (append-nil (tail ++ front))
+-- as many behind the first as there is room for leave nothing of the block as it was
+pub filled_block : (len : ℕ) (block bytes : List ℕ) → length block ≤ len + length bytes
+    → take len block ++ bytes ++ drop (len + length bytes) block ≡ take len block ++ bytes
+filled_block len block bytes full = rw (drop_all (len + length bytes) block full) (append-nil (take len block ++ bytes))
 
 -- the bytes from a place on, as a slice of code has them
 pub slice_from : (place : ℕ) (bytes : List ℕ) → take (length bytes - place) (drop place bytes) ≡ drop place bytes

@@ -4,8 +4,6 @@ ghost use Rattle.std.specs.Prelude.{◌≡◌, ℕ, ◌+◌, ◌*◌, ◌^◌, �
 ghost use Rattle.std.specs.List.{All, flat_map};
 ghost use Rattle.ripemd_block.specs.Standard.Words.{word_bytes, eight_bytes};
 
-use std::simd::prelude::*;
-
 /// An array of bytes: `[u8; N]`, for any length `N`.
 pub trait ByteArray: Copy {
     // Its bytes.
@@ -106,8 +104,7 @@ pub fn write_short(place: &mut [u8], bytes: &[u8])
     }
 }
 
-// The same of `N` to `2 * N` bytes: the first `N` and the last, which may overlap. Both are loaded first, so
-// that the compiler does not ask whether the place and the bytes overlap.
+// The same of `N` to `2 * N` bytes: the first `N` and the last, which may overlap.
 #[inline(always)]
 fn write_ends<const N: usize>(place: &mut [u8], bytes: &[u8])
     requires few { (N ≤ length bytes.now) × (length bytes.now ≤ 2 * N) }
@@ -115,10 +112,19 @@ fn write_ends<const N: usize>(place: &mut [u8], bytes: &[u8])
     ensures { place.new ≡ bytes.now ++ drop (length bytes.now) place.old }
 {
     let len = bytes.len();
-    let first = Simd::<u8, N>::from_slice(bytes);
-    let last = Simd::<u8, N>::from_slice(&bytes[len - N..]);
-    first.copy_to_slice(&mut place[..N]);
-    last.copy_to_slice(&mut place[len - N..len]);
+    write_array::<N>(&mut place[..N], &bytes[..N]);
+    write_array::<N>(&mut place[len - N..len], &bytes[len - N..]);
+}
+
+// Writes `N` bytes as an array, which the compiler copies without asking whether the places overlap.
+#[inline(always)]
+fn write_array<const N: usize>(place: &mut [u8], bytes: &[u8])
+    requires { (length place.old ≡ N) × (length bytes.now ≡ N) }
+    ensures { place.new ≡ bytes.now }
+{
+    if let (Some(to), Some(from)) = (place.as_mut_array::<N>(), bytes.as_array::<N>()) {
+        *to = *from;
+    }
 }
 
 // Writes some bytes and then others.

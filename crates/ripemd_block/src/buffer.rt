@@ -1,6 +1,6 @@
 //! The tail of a message, which is its bytes after the last whole block, and how it grows and ends.
 
-ghost use Rattle.std.specs.Prelude.{◌≡◌, ℕ, ◌+◌, ◌<◌, ◌≤◌, ◌↔◌, List, [], ◌∷◌, ◌++◌, length, take, drop, IfSome, SomeIff, IsSome};
+ghost use Rattle.std.specs.Prelude.{◌≡◌, ℕ, ◌+◌, ◌-◌, ◌<◌, ◌≤◌, ◌↔◌, List, [], ◌∷◌, ◌++◌, length, take, drop, replicate, IfSome, SomeIff, IsSome};
 ghost use Rattle.std.specs.Option.{option_to_list};
 ghost use Rattle.ripemd_block.specs.Standard.Words.{block_size};
 ghost use Rattle.ripemd_block.specs.Standard.Hashing.{length_place, with_padding};
@@ -45,14 +45,26 @@ impl Buffer {
         ensures value { SomeIff result (length bytes.now < block_size) bytes.now }
         ensures valid { IfSome result IsTail }
     {
-        let len = bytes.len();
-        if len >= 64 {
+        Buffer::try_front(bytes, bytes.len())
+    }
+
+    /// A buffer that holds the first `len` of these bytes; `None` exactly if that is 64 or more, if there are
+    /// fewer, or if there are more than 64. All of them are copied, which takes less time than a part where
+    /// their number is known.
+    #[inline(always)]
+    pub fn try_front(bytes: &[u8], len: usize) -> Option<Buffer>
+        ensures value { SomeIff result ((len < block_size) × (len ≤ length bytes.now)
+            × (length bytes.now ≤ block_size)) (take len bytes.now) }
+        ensures valid { IfSome result IsTail }
+    {
+        if len >= 64 || len > bytes.len() || bytes.len() > 64 {
             return None;
         }
-        bytes_in_range(bytes);
-        let mut all = [0; 64];
-        write_short(&mut all, bytes);
-        Some(Buffer { bytes: all, len })
+        bytes_in_range(&bytes[..len]);
+        Some(Buffer {
+            bytes: block_with(bytes),
+            len,
+        })
     }
 
     /// A buffer of the same bytes.
@@ -96,17 +108,17 @@ impl Buffer {
         ensures valid_tail_new { IsTail self.new }
     {
         bytes_in_range(self.get_data());
-        let len = self.len;
+        let mut len = self.len;
+        let mut rest = bytes;
         if bytes.len() < 64 - len {
             // Proof only: no blocks change nothing.
             core.update_blocks(&[]);
-            put_behind(&mut self.bytes, len, bytes);
-            self.len = len + bytes.len();
         } else {
-            let rest = take_blocks(core, &self.bytes[..len], bytes);
-            write_short(&mut self.bytes, rest);
-            self.len = rest.len();
+            rest = take_blocks(core, &self.bytes, len, bytes);
+            len = 0;
         }
+        put_behind(&mut self.bytes, len, rest);
+        self.len = len + rest.len();
         bytes_in_range(self.get_data());
     }
 
@@ -129,24 +141,29 @@ impl Buffer {
 }
 
 /// Takes a tail and the bytes behind it, which fill a block or more, into the core: all whole blocks of both,
-/// in order. Gives what is left, 0 to 63 of the bytes.
+/// in order. Gives what is left, 0 to 63 of the bytes. The tail is the first `len` bytes of `front`, all of
+/// which are copied as by `try_front`.
 #[inline(always)]
-pub fn take_blocks<'a, C: UpdateCore>(core: &mut C, tail: &[u8], bytes: &'a [u8]) -> &'a [u8]
-    requires short { length tail.now < block_size }
-    requires filled { block_size ≤ length tail.now + length bytes.now }
-    ensures core { core.new ≡ C.after core.old (blocks (tail.now ++ bytes.now)) }
-    ensures rest { result.now ≡ partial_block (tail.now ++ bytes.now) }
+pub fn take_blocks<'a, C: UpdateCore>(
+    core: &mut C,
+    front: &[u8],
+    len: usize,
+    bytes: &'a [u8],
+) -> &'a [u8]
+    requires short { len < block_size }
+    requires front { (len ≤ length front.now) × (length front.now ≤ block_size) }
+    requires filled { block_size ≤ len + length bytes.now }
+    ensures core { core.new ≡ C.after core.old (blocks (take len front.now ++ bytes.now)) }
+    ensures rest { result.now ≡ partial_block (take len front.now ++ bytes.now) }
     ensures valid_old { C.is_core core.old }
     ensures valid_new { C.is_core core.new }
     ensures valid_rest { IsTail result.now }
 {
-    let len = tail.len();
     let mut behind = bytes;
     if len > 0 {
-        let (front, back) = bytes.split_at(64 - len);
-        let mut block = [0; 64];
-        write_short(&mut block, tail);
-        put_behind(&mut block, len, front);
+        let (first, back) = bytes.split_at(64 - len);
+        let mut block = block_with(front);
+        put_behind(&mut block, len, first);
         core.update_blocks(whole_blocks(&block).0);
         behind = back;
     }
@@ -154,6 +171,18 @@ pub fn take_blocks<'a, C: UpdateCore>(core: &mut C, tail: &[u8], bytes: &'a [u8]
     core.update_blocks(whole);
     bytes_in_range(rest);
     rest
+}
+
+// A block that begins with these bytes, with zero bytes behind them.
+#[inline(always)]
+fn block_with(bytes: &[u8]) -> [u8; 64]
+    requires { length bytes.now ≤ block_size }
+    ensures { result ≡ bytes.now ++ replicate (block_size - length bytes.now) 0 }
+{
+    let mut block = [0; 64];
+    let (front, _) = block.split_at_mut(bytes.len());
+    front.copy_from_slice(bytes);
+    block
 }
 
 // Proof only: fewer bytes than a block are a tail, since bytes are below 256.

@@ -1,4 +1,4 @@
-use Rattle.std.proofs.Common.{◌≡◌, ◌∙◌, [], ◌++◌, length, arith, refl, sym}
+use Rattle.std.proofs.Common.{◌≡◌, ◌∙◌, [], ◌++◌, length, take, arith, refl, sym}
 use Rattle.std.proofs.lemmas.List.{append-nil, take_all, drop_all}
 use Rattle.std.proofs.lemmas.Result.{IfOk-at_ok}
 use Rattle.ripemd_block.specs.States.{HashState, core_and_tail, fed, with_tail, tail_bytes, output_and_count}
@@ -36,11 +36,6 @@ split_at_mut-back-requires g c =
       whole r.injective_output s.state s.saved.valid c.LEN.result (c.LEN.ensures ∙ r.saved_core_size) c.args.saved.now s.saved.saved,
     )
 
-pub split_at-requires-2 : goal.split_at-requires-2
-split_at-requires-2 g c =
-    let s = c.requires.saved in
-    omega (arith, s.tail, s.saved.valid.tail.short, c.split_at_mut-back.ensures.front_len, c.split_at.ensures.back_len)
-
 pub returns : goal.returns
 unfolding output_and_count fed
 returns g c =
@@ -59,8 +54,8 @@ returns g c =
     let own = c.split_at_mut-back in
     let same_back : own.result.0.now ≡ split.result.1.now = own.ensures.front ∙ take_all 64 split.result.1.now (omega (arith, whole_back)) in
     let none : own.result.1.now ≡ [] = own.ensures.back ∙ drop_all 64 split.result.1.now (omega (arith, whole_back)) in
-    let tail : c.split_at-2.result.0.now ≡ h.tail =
-    c.split_at-2.ensures.front ∙ rw (c.split_at.ensures.back, same_back) (tail_held h.tail split.result.1.now c.args.len back s.tail) in
+    let tail : take c.args.len c.split_at.result.1.now ≡ h.tail =
+    rw (c.split_at.ensures.back, same_back) (tail_held h.tail split.result.1.now c.args.len back s.tail) in
     let core = c.unwrap-core.result in
     let loaded = IfOk-at_ok _ c.unwrap-core.ensures c.load_slice.ensures.ok in
     let valid = (IfOk-at_ok _ c.unwrap-core.ensures c.load_slice.ensures.valid).state in

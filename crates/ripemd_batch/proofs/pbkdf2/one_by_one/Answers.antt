@@ -49,9 +49,9 @@ loop-k-preserved g c =
     record {
       tag = tag;
       sum = c.combined-sum.ensures
-          ∙ ap (λ a. zip2 bit_xor a c.filled_in_memory.result) so_far.sum
+          ∙ ap (λ a. zip2 bit_xor a c.filled.result) so_far.sum
           ∙ ap (λ b. zip2 bit_xor (filled (combined_tags tag_of k first)) b)
-          (c.filled_in_memory.ensures ∙ ap filled (c.output_bytes-in-loop-k.ensures.bytes ∙ tag))
+          (c.filled.ensures ∙ ap filled (c.output_bytes-in-loop-k.ensures.bytes ∙ tag))
           ∙ combined_filled (combined_tags tag_of k first) (iterate tag_of (k + 1 - 1) first) same
           ∙ ap filled (sym added);
       size = ap length added ∙ length-combined (combined_tags tag_of k first) (iterate tag_of (k + 1 - 1) first) same ∙ so_far.size;
