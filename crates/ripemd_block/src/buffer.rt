@@ -1,6 +1,6 @@
 //! The tail of a message, which is its bytes after the last whole block, and how it grows and ends.
 
-ghost use Rattle.std.specs.Prelude.{◌≡◌, ℕ, ◌+◌, ◌-◌, ◌<◌, ◌≤◌, ◌↔◌, List, [], ◌∷◌, ◌++◌, length, take, drop, replicate, IfSome, SomeIff, IsSome};
+ghost use Rattle.std.specs.Prelude.{◌≡◌, ℕ, ◌+◌, ◌<◌, ◌≤◌, ◌↔◌, List, [], ◌∷◌, ◌++◌, length, take, drop, IfSome, SomeIff, IsSome};
 ghost use Rattle.std.specs.Option.{option_to_list};
 ghost use Rattle.ripemd_block.specs.Standard.Words.{block_size};
 ghost use Rattle.ripemd_block.specs.Standard.Hashing.{length_place, with_padding};
@@ -61,10 +61,9 @@ impl Buffer {
             return None;
         }
         bytes_in_range(&bytes[..len]);
-        Some(Buffer {
-            bytes: block_with(bytes),
-            len,
-        })
+        let mut all = [0; 64];
+        put_front(&mut all, bytes);
+        Some(Buffer { bytes: all, len })
     }
 
     /// A buffer of the same bytes.
@@ -162,7 +161,8 @@ pub fn take_blocks<'a, C: UpdateCore>(
     let mut behind = bytes;
     if len > 0 {
         let (first, back) = bytes.split_at(64 - len);
-        let mut block = block_with(front);
+        let mut block = [0; 64];
+        put_front(&mut block, front);
         put_behind(&mut block, len, first);
         core.update_blocks(whole_blocks(&block).0);
         behind = back;
@@ -173,16 +173,14 @@ pub fn take_blocks<'a, C: UpdateCore>(
     rest
 }
 
-// A block that begins with these bytes, with zero bytes behind them.
+// Puts bytes at the front of a block, which stays where it is.
 #[inline(always)]
-fn block_with(bytes: &[u8]) -> [u8; 64]
+fn put_front(block: &mut [u8; 64], bytes: &[u8])
     requires { length bytes.now ≤ block_size }
-    ensures { result ≡ bytes.now ++ replicate (block_size - length bytes.now) 0 }
+    ensures { block.new ≡ bytes.now ++ drop (length bytes.now) block.old }
 {
-    let mut block = [0; 64];
     let (front, _) = block.split_at_mut(bytes.len());
     front.copy_from_slice(bytes);
-    block
 }
 
 // Proof only: fewer bytes than a block are a tail, since bytes are below 256.

@@ -1,5 +1,5 @@
 use Rattle.std.proofs.Common.{◌≡◌, ℕ, ◌+◌, ◌-◌, ◌≤◌, ◌++◌, length, length-append, take, drop, replicate, arith, refl, sym}
-use Rattle.std.proofs.lemmas.List.{length-take-le, length-replicate, take-append-le}
+use Rattle.std.proofs.lemmas.List.{length-take-le, length-drop, take-append-le}
 use Rattle.ripemd_block.specs.Standard.Hashing.{blocks}
 use Rattle.ripemd_block.proofs.Absorbing.{filled_block, blocks_filled, left_over_filled}
 use Rattle.ripemd_block.proofs.buffer.take_blocks.Goals as goal
@@ -16,13 +16,13 @@ returns-clause-core g c =
       | then-len-gt0 w ↦
           let core = w.update_blocks.ensures in
           let front = c.args.front.now in
-          let zeros = replicate {A = ℕ} (64 - length front) 0 in
+          let zeros = drop (length front) (replicate {A = ℕ} 64 0) in
           let first = take room bytes in
           let some : room ≤ length bytes = omega (arith, c.requires.filled) in
           let full : length (front ++ zeros) ≤ len + length first =
-          omega (arith, c.requires.front.1, length-append front zeros, length-replicate {A = ℕ} (64 - length front) 0, length-take-le room bytes some) in
+          omega (arith, c.requires.front.1, length-append front zeros, length-drop (length front) (replicate {A = ℕ} 64 0), length-take-le room bytes some) in
           let held : take len (front ++ zeros) ≡ tail = take-append-le len front zeros c.requires.front.0 in
-          rw (w.core-is, w.behind-is, core.after, w.whole_blocks.ensures.whole, w.put_behind.ensures, w.block_with-block.ensures)
+          rw (w.core-is, w.behind-is, core.after, w.whole_blocks.ensures.whole, w.put_behind.ensures, w.put_front.ensures)
           rw (w.split_at.ensures.front, w.split_at.ensures.back, filled_block len (front ++ zeros) first full, held)
           rw (blocks_filled tail bytes room (omega (arith, size)) (omega (arith, c.requires.filled)))
           (g.met.C.UpdateCore.after_joined c.args.core.now (blocks (tail ++ first)) (blocks (drop room bytes)) core.valid_old)
