@@ -34,6 +34,26 @@ fn holds_less_than_a_block(rt: HostRuntime) {
     assert!(rt; Buffer::default().get_pos() == 0);
 }
 
+// Whether a buffer of the first of them shows those alone.
+fn holds_the_first(len: usize) -> bool {
+    let bytes = numbers();
+    match Buffer::try_front(&bytes, len) {
+        Some(buffer) => buffer.get_pos() == len && buffer.get_data() == &bytes[..len.min(63)],
+        None => false,
+    }
+}
+
+// A buffer takes up to 63 of at most 64 bytes, if there are as many.
+#[test]
+fn holds_the_first_of_a_block(rt: HostRuntime) {
+    for len in [0, 1, 55, 56, 63] {
+        assert!(rt; holds_the_first(len), "{len} bytes");
+    }
+    assert!(rt; Buffer::try_front(&[7; 64], 64).is_none());
+    assert!(rt; Buffer::try_front(&[7; 65], 1).is_none());
+    assert!(rt; Buffer::try_front(&[7; 10], 11).is_none());
+}
+
 // A tail of so many bytes with its padding, in one block or two: 0x80 follows the tail, the length
 // is at the very end, and all between is zero.
 fn padded(tail: &[u8], bit_len: u64) -> [u8; 128] {
