@@ -171,12 +171,13 @@ def by_openssl(levels, folder):
     for _ in range(RUNS):
         for name, provider, tunables in rows:
             environment = {"OPENSSL_MODULES": str(folder / "ossl-modules"), "GLIBC_TUNABLES": tunables}
-            words = ["-provider", "nattizhu", "-provider", "default", "-propquery", f"provider={provider}"]
-            _, said = user_time(["openssl", "speed", *words, "-mr", "-seconds", "1", "-evp", "ripemd160"], environment)
+            words = ["-provider", "nattizhu", "-provider", "default"]
+            _, said = user_time(["openssl", "speed", *words, "-propquery", f"provider={provider}", "-mr", "-seconds", "1",
+                                 "-evp", "ripemd160"], environment)
             sizes = re.search(r"^\+H:(.*)$", said, re.MULTILINE)[1].split(":")
             speeds.setdefault(name, []).append([float(speed) / 1e6 for speed in said.split("+F:")[1].split(":")[2:]])
-            words[-1] = f"?{words[-1]}"  # HMAC and PBKDF2 are of the default one
-            time, _ = user_time(["openssl", "kdf", *words, "-keylen", "20", "-kdfopt", "digest:RIPEMD-160", "-kdfopt", "pass:password",
+            time, _ = user_time(["openssl", "kdf", *words, "-keylen", "20", "-kdfopt", "digest:RIPEMD-160",
+                                 "-kdfopt", f"properties:provider={provider}", "-kdfopt", "pass:password",
                                  "-kdfopt", "salt:saltsalt", "-kdfopt", f"iter:{ROUNDS}", "PBKDF2"], environment)
             rounds.setdefault(name, []).append(ROUNDS / time / 1000)
     best = {name: [*map(max, zip(*speeds[name])), max(rounds[name])] for name in speeds}

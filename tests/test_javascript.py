@@ -159,7 +159,7 @@ def test_state_of_one_process_taken_up_by_another(project, library, prefix, tmp_
 
 
 # What a bundle holds, and how many bytes it has at most, packed by brotli.
-@pytest.mark.parametrize("entry, most", [("nattizhu/ripemd160.js", 6000), ("nattizhu", 20480)])
+@pytest.mark.parametrize("entry, most", [("nattizhu/ripemd160.js", 5000), ("nattizhu", 20480)])
 def test_size_of_a_bundle(project, entry, most, tmp_path):
     need("esbuild", "esbuild")
     bundle = run("esbuild", "--bundle", "--minify", "--format=esm", cwd=project, input=f"export * from '{entry}'").stdout

@@ -204,8 +204,8 @@ def test_tags(openssl, bits):
     tried = [(key, text, tag) for variant, key, text, tag in TAGS if variant == bits]
     assert len(tried) >= 7
     for key, text, tag in tried:
-        printed = openssl("mac", "-propquery", "?provider=nattizhu", "-digest", f"RIPEMD-{bits}", "-macopt", f"hexkey:{key}",
-                          "HMAC", text=False, input=bytes.fromhex(text)).stdout
+        printed = openssl("mac", "-digest", f"RIPEMD-{bits}", "-macopt", "properties:provider=nattizhu",
+                          "-macopt", f"hexkey:{key}", "HMAC", text=False, input=bytes.fromhex(text)).stdout
         assert printed.decode().strip().lower() == tag
 
 
@@ -214,8 +214,8 @@ def test_keys(openssl, bits):
     tried = [words for variant, *words in lines("keys.txt") if variant == bits]
     assert len(tried) >= 10
     for password, salt, rounds, key in tried:
-        printed = openssl("kdf", "-propquery", "?provider=nattizhu", "-keylen", len(key) // 2,
-                          "-kdfopt", f"digest:RIPEMD-{bits}", "-kdfopt", f"hexpass:{counted(int(password), 1).hex()}",
+        printed = openssl("kdf", "-keylen", len(key) // 2, "-kdfopt", f"digest:RIPEMD-{bits}",
+                          "-kdfopt", "properties:provider=nattizhu", "-kdfopt", f"hexpass:{counted(int(password), 1).hex()}",
                           "-kdfopt", f"hexsalt:{counted(int(salt)).hex()}", "-kdfopt", f"iter:{rounds}", "PBKDF2").stdout
         assert printed.strip().replace(":", "").lower() == key
 

@@ -50,7 +50,7 @@ impl Buffer {
 
     /// A buffer that holds the first `len` of these bytes; `None` exactly if that is 64 or more, if there are
     /// fewer, or if there are more than 64. All of them are copied, which takes less time than a part where
-    /// their number is known.
+    /// the compiler knows their number.
     #[inline(always)]
     pub fn try_front(bytes: &[u8], len: usize) -> Option<Buffer>
         ensures value { SomeIff result ((len < block_size) × (len ≤ length bytes.now)
