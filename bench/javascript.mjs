@@ -15,7 +15,8 @@ const PASSWORD = new Uint8Array(8), SALT = new Uint8Array(64), ROUNDS = 2000;
 // What hashes a message, by the column's name.
 const hashes = { nattizhu: ripemd160 };
 const theirs = {
-  "Node's crypto": () => (message) => crypto.createHash('ripemd160').update(message).digest(),
+  "Node's crypto": () => (crypto.hash ? (message) => crypto.hash('ripemd160', message, 'buffer')
+    : (message) => crypto.createHash('ripemd160').update(message).digest()),
   'hash.js': (require) => {
     const { ripemd160: Theirs } = require('hash.js');
     return (message) => new Theirs().update(message).digest();

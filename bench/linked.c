@@ -88,7 +88,7 @@ enum {
 // A library's functions, NULL where it has none, and the times of each cell. They have the arguments of
 // ours, the variant and lengths of what is written among them, of which others take what they need. A tag
 // is made from a copy of the state after the key, which the library keeps; ours hashes the key once for a
-// list. The functions of messages in pieces and of keys are those of RIPEMD-160.
+// list. What is done to messages in pieces, so many times, and the functions of keys are of RIPEMD-160.
 struct library {
   char name[80];
   bool all; // the variants, or RIPEMD-160 alone
@@ -100,7 +100,10 @@ struct library {
   bool (*tag_each)(int variant, const uint8_t *key, size_t key_length, const uint8_t *records,
                    size_t length, size_t size, uint8_t *tags, size_t tags_length);
   void *state;
-  bool (*init)(int variant, void *state);
+  void (*inits)(const struct library *by, int times);
+  void (*updates)(const struct library *by, const uint8_t *piece, size_t length, int times);
+  void (*finals)(const struct library *by, uint8_t *digest, int times); // each with an init
+  bool (*init)(int variant, void *state); // ours alone, as the next two
   bool (*update)(void *state, const uint8_t *bytes, size_t length);
   bool (*final)(void *state, uint8_t *digest, size_t digest_length);
   bool (*derive)(int variant, const uint8_t *password, size_t password_length, const uint8_t *salt,
@@ -136,6 +139,30 @@ static struct library *add(const char *name, const char *version) {
   return &libraries[count++];
 }
 
+// What a library does to messages in pieces: loops over its own calls, so that all are called alike.
+#define PIECES_BY(name, init_call, update_call, final_call)                                        \
+  static void name##_inits(const struct library *by, int times) {                                  \
+    for (int i = 0; i < times; i++)                                                                \
+      init_call;                                                                                   \
+  }                                                                                                \
+  static void name##_updates(const struct library *by, const uint8_t *piece, size_t length,        \
+                             int times) {                                                          \
+    for (int i = 0; i < times; i++)                                                                \
+      update_call;                                                                                 \
+  }                                                                                                \
+  static void name##_finals(const struct library *by, uint8_t *digest, int times) {                \
+    for (int i = 0; i < times; i++) {                                                              \
+      final_call;                                                                                  \
+      init_call;                                                                                   \
+    }                                                                                              \
+  }                                                                                                \
+  static void name##_pieces(struct library *of, void *state) {                                     \
+    of->state = state;                                                                             \
+    of->inits = name##_inits;                                                                      \
+    of->updates = name##_updates;                                                                  \
+    of->finals = name##_finals;                                                                    \
+  }
+
 // ---- the other libraries
 
 // A library of one of these versions, the newest that is there, or NULL.
@@ -161,17 +188,8 @@ static bool by_rhash(int variant, const uint8_t *message, size_t length, uint8_t
   rhash_update(rhash_context, message, length);
   return !rhash_final(rhash_context, digest);
 }
-
-static bool rhash_begin(int variant, void *context) {
-  rhash_reset(context);
-  return true;
-}
-static bool rhash_piece(void *context, const uint8_t *bytes, size_t length) {
-  return !rhash_update(context, bytes, length);
-}
-static bool rhash_end(void *context, uint8_t *digest, size_t digest_length) {
-  return !rhash_final(context, digest);
-}
+PIECES_BY(rhash, rhash_reset(by->state), rhash_update(by->state, piece, length),
+          rhash_final(by->state, digest))
 
 static void add_rhash(void *from) {
   void (*rhash_library_init)(void);
@@ -187,10 +205,7 @@ static void add_rhash(void *from) {
            number >> 8 & 255);
   struct library *rhash = add("RHash", version);
   rhash->digest = by_rhash;
-  rhash->state = rhash_context;
-  rhash->init = rhash_begin;
-  rhash->update = rhash_piece;
-  rhash->final = rhash_end;
+  rhash_pieces(rhash, rhash_context);
 }
 
 static void (*gcry_md_hash_buffer)(int, void *, const void *, size_t);
@@ -209,6 +224,9 @@ static void tag_by_gcrypt(const uint8_t *text, size_t length, uint8_t *tag) {
   gcry_md_write(gcrypt_keyed, text, length);
   memcpy(tag, gcry_md_read(gcrypt_keyed, 3), 20);
 }
+
+PIECES_BY(gcrypt, gcry_md_reset(by->state), gcry_md_write(by->state, piece, length),
+          memcpy(digest, gcry_md_read(by->state, 3), 20))
 
 static unsigned (*gcry_kdf_derive)(const void *, size_t, int, int, const void *, size_t,
                                    unsigned long, size_t, void *);
@@ -234,6 +252,10 @@ static void add_gcrypt(void *from) {
   gcrypt->digest = by_gcrypt;
   if (gcry_md_open(&gcrypt_keyed, 3, 2) || gcry_md_setkey(gcrypt_keyed, key, sizeof key)) // HMAC
     fail("libgcrypt", "it takes no key");
+  void *state;
+  if (gcry_md_open(&state, 3, 0))
+    fail("libgcrypt", "it has no RIPEMD-160");
+  gcrypt_pieces(gcrypt, state);
   gcrypt->tag = tag_by_gcrypt;
   gcrypt->derive = derive_by_gcrypt;
 }
@@ -250,6 +272,9 @@ static bool by_avutil(int variant, const uint8_t *message, size_t length, uint8_
   return true;
 }
 
+PIECES_BY(avutil, av_ripemd_init(by->state, 160), av_ripemd_update(by->state, piece, length),
+          av_ripemd_final(by->state, digest))
+
 static void add_avutil(void *from) {
   void *(*av_ripemd_alloc)(void);
   const char *(*av_version_info)(void);
@@ -259,7 +284,15 @@ static void add_avutil(void *from) {
   struct library *avutil = add("libavutil", av_version_info());
   avutil->all = true;
   avutil->digest = by_avutil;
+  avutil_pieces(avutil, av_context);
 }
+
+static void (*nettle_ripemd160_init)(void *);
+static void (*nettle_ripemd160_update)(void *, size_t, const uint8_t *);
+static void (*nettle_ripemd160_digest)(void *, size_t, uint8_t *);
+PIECES_BY(nettle, nettle_ripemd160_init(by->state),
+          nettle_ripemd160_update(by->state, length, piece),
+          nettle_ripemd160_digest(by->state, 20, digest))
 
 static void (*nettle_hmac_ripemd160_set_key)(void *, size_t, const uint8_t *);
 static void *nettle_hmac_ripemd160_update, *nettle_hmac_ripemd160_digest;
@@ -279,10 +312,14 @@ static void add_nettle(void *from) {
   int (*nettle_version_major)(void), (*nettle_version_minor)(void);
   TAKE(from, nettle_version_major), TAKE(from, nettle_version_minor), TAKE(from, nettle_pbkdf2);
   TAKE(from, nettle_hmac_ripemd160_set_key), TAKE(from, nettle_hmac_ripemd160_update);
-  TAKE(from, nettle_hmac_ripemd160_digest);
+  TAKE(from, nettle_hmac_ripemd160_digest), TAKE(from, nettle_ripemd160_init);
+  TAKE(from, nettle_ripemd160_update), TAKE(from, nettle_ripemd160_digest);
+  static uint64_t state[32]; // more than a hash state has
   char version[30];
   snprintf(version, sizeof version, "%d.%d", nettle_version_major(), nettle_version_minor());
-  add("Nettle", version)->derive = derive_by_nettle;
+  struct library *nettle = add("Nettle", version);
+  nettle->derive = derive_by_nettle;
+  nettle_pieces(nettle, state);
 }
 
 static unsigned char *(*RIPEMD160)(const unsigned char *, size_t, unsigned char *);
@@ -301,51 +338,48 @@ static void tag_by_openssl(const uint8_t *text, size_t length, uint8_t *tag) {
   HMAC_Final(openssl_keyed, tag, NULL);
 }
 
-static const void *(*EVP_ripemd160)(void);
+static const void *ripemd160_of_openssl; // fetched, so that no call looks for it
 static int (*EVP_DigestInit_ex)(void *, const void *, void *);
 static int (*EVP_DigestUpdate)(void *, const void *, size_t);
 static int (*EVP_DigestFinal_ex)(void *, unsigned char *, unsigned *);
-static bool openssl_init(int variant, void *context) {
-  return EVP_DigestInit_ex(context, EVP_ripemd160(), NULL);
-}
-static bool openssl_update(void *context, const uint8_t *bytes, size_t length) {
-  return EVP_DigestUpdate(context, bytes, length);
-}
-static bool openssl_final(void *context, uint8_t *digest, size_t digest_length) {
-  return EVP_DigestFinal_ex(context, digest, NULL);
-}
+PIECES_BY(openssl, EVP_DigestInit_ex(by->state, ripemd160_of_openssl, NULL),
+          EVP_DigestUpdate(by->state, piece, length),
+          EVP_DigestFinal_ex(by->state, digest, NULL))
 
 static int (*PKCS5_PBKDF2_HMAC)(const void *, int, const unsigned char *, int, int, const void *,
                                 int, unsigned char *);
 static bool derive_by_openssl(int variant, const uint8_t *password, size_t password_length,
                               const uint8_t *salt, size_t salt_length, uint32_t rounds,
                               uint8_t *key, size_t key_length) {
-  return PKCS5_PBKDF2_HMAC(password, password_length, salt, salt_length, rounds, EVP_ripemd160(),
-                           key_length, key);
+  return PKCS5_PBKDF2_HMAC(password, password_length, salt, salt_length, rounds,
+                           ripemd160_of_openssl, key_length, key);
 }
 
 static void add_openssl(void *from) {
   const char *(*OpenSSL_version)(int);
   void *(*HMAC_CTX_new)(void), *(*EVP_MD_CTX_new)(void);
+  const void *(*EVP_MD_fetch)(void *, const char *, const char *);
   TAKE(from, RIPEMD160), TAKE(from, OpenSSL_version), TAKE(from, HMAC_CTX_new);
-  TAKE(from, EVP_ripemd160), TAKE(from, HMAC_Init_ex), TAKE(from, HMAC_Update);
+  TAKE(from, EVP_MD_fetch), TAKE(from, HMAC_Init_ex), TAKE(from, HMAC_Update);
   TAKE(from, HMAC_Final), TAKE(from, EVP_MD_CTX_new), TAKE(from, EVP_DigestInit_ex);
   TAKE(from, EVP_DigestUpdate), TAKE(from, EVP_DigestFinal_ex), TAKE(from, PKCS5_PBKDF2_HMAC);
   struct library *openssl = add("OpenSSL", OpenSSL_version(6)); // 6: the number alone
   openssl->digest = by_openssl;
   openssl_keyed = HMAC_CTX_new();
-  if (HMAC_Init_ex(openssl_keyed, key, sizeof key, EVP_ripemd160(), NULL)) {
+  ripemd160_of_openssl = EVP_MD_fetch(NULL, "RIPEMD160", NULL);
+  if (!ripemd160_of_openssl)
+    return;
+  if (HMAC_Init_ex(openssl_keyed, key, sizeof key, ripemd160_of_openssl, NULL)) {
     openssl->tag = tag_by_openssl;
     openssl->derive = derive_by_openssl;
   }
-  openssl->state = EVP_MD_CTX_new();
-  openssl->init = openssl_init;
-  openssl->final = openssl_final;
-  if (EVP_DigestInit_ex(openssl->state, EVP_ripemd160(), NULL))
-    openssl->update = openssl_update;
+  openssl_pieces(openssl, EVP_MD_CTX_new());
 }
 
 // ---- ours
+
+PIECES_BY(our, by->init(160, by->state), by->update(by->state, piece, length),
+          by->final(by->state, digest, 20))
 
 static void add_ours(char *argument) {
   char *file = strchr(argument, '=');
@@ -361,7 +395,7 @@ static void add_ours(char *argument) {
   *(void **)&added->each = function(from, "nattizhu_each");
   *(void **)&added->tag_each = function(from, "nattizhu_hmac_each");
   static uint8_t states[MOST][113];
-  added->state = states[added - libraries];
+  our_pieces(added, states[added - libraries]);
   *(void **)&added->init = function(from, "nattizhu_init");
   *(void **)&added->update = function(from, "nattizhu_update");
   *(void **)&added->final = function(from, "nattizhu_final");
@@ -436,11 +470,14 @@ static void check_pieces(const struct library *by) {
   uint8_t digest[20], wanted[20];
   for (int i = 0; i < 20; i++)
     sscanf(DIGESTS[1] + 2 * i, "%2hhx", &wanted[i]);
-  by->init(160, by->state);
-  for (const char *at = MESSAGE; *at; at++)
-    by->update(by->state, (const uint8_t *)at, 1);
-  if (!by->final(by->state, digest, 20) || memcmp(digest, wanted, 20))
-    fail(by->name, "a wrong digest of pieces");
+  for (int again = 0; again < 2; again++) {
+    by->inits(by, 1);
+    for (const char *at = MESSAGE; *at; at++)
+      by->updates(by, (const uint8_t *)at, 1, 1);
+    by->finals(by, digest, 1);
+    if (memcmp(digest, wanted, 20))
+      fail(by->name, "a wrong digest of pieces");
+  }
 }
 
 static void derive(const struct library *by, int k) {
@@ -484,7 +521,7 @@ static double now(void) {
 // Whether a library has what a cell times.
 static bool has_cell(const struct library *by, int cell) {
   return cell < PIECE_CELLS ? has(by, cell % VARIANTS, &TASKS[cell / VARIANTS])
-         : cell < KEY_CELLS ? by->update != NULL
+         : cell < KEY_CELLS ? by->updates != NULL
                             : by->derive != NULL;
 }
 
@@ -498,14 +535,11 @@ static void repeat(struct library *by, int cell, int times) {
       memcpy(bytes, digests, 8);
     }
   else if (c < PIECES_COUNT)
-    for (int i = 0; i < times; i++)
-      by->update(by->state, bytes, PIECES[c].size);
-  else if (c < CALLS_COUNT)
-    for (int i = 0; i < times; i++) {
-      by->init(160, by->state);
-      if (c == INIT_AND_FINAL)
-        by->final(by->state, digests, 20);
-    }
+    by->updates(by, bytes, PIECES[c].size, times);
+  else if (c == INIT)
+    by->inits(by, times);
+  else if (c == INIT_AND_FINAL)
+    by->finals(by, digests, times);
   else
     for (int i = 0; i < times; i++) {
       derive(by, cell - KEY_CELLS);
@@ -532,7 +566,7 @@ static void measure(struct library *by, int cell) {
   int batch = batch_of(cell);
   time->in_round = 0;
   if (cell >= PIECE_CELLS && cell < KEY_CELLS)
-    by->init(160, by->state);
+    by->inits(by, 1);
   for (int s = 0; s < SLICES; s++) {
     double start = now(), taken;
     int calls = 0;
@@ -635,11 +669,11 @@ static void print_table(int t, int rounds) {
 static void print_pieces(int rounds) {
   printf("\nMessages in pieces, RIPEMD-160, ns for each call:\n\n| |");
   for (int l = 0; l < count; l++)
-    if (libraries[l].update)
+    if (libraries[l].updates)
       printf(" %s |", libraries[l].name);
   printf("\n|---|");
   for (int l = 0; l < count; l++)
-    if (libraries[l].update)
+    if (libraries[l].updates)
       printf("---|");
   for (int c = 0; c < CALLS_COUNT; c++) {
     if (c < PIECES_COUNT)
@@ -647,7 +681,7 @@ static void print_pieces(int rounds) {
     else
       printf("\n| init%s |", c == INIT_AND_FINAL ? " and final" : "");
     for (int l = 0; l < count; l++) {
-      if (!libraries[l].update)
+      if (!libraries[l].updates)
         continue;
       double taken = libraries[l].times[PIECE_CELLS + c].least;
       print_cell(l, PIECE_CELLS + c, 1e9 * taken, taken < 1e-7 ? " %.1f" : " %.0f");
@@ -706,7 +740,7 @@ int main(int argc, char **argv) {
     if (libraries[l].tag || libraries[l].tag_each)
       check_tag(&libraries[l]);
   for (int l = 0; l < count; l++)
-    if (libraries[l].update)
+    if (libraries[l].updates)
       check_pieces(&libraries[l]);
   for (int l = 0; l < count; l++)
     if (libraries[l].derive)

@@ -198,6 +198,10 @@ fn are_zeros(bytes: &[u8]) -> bool
         are_32_zeros(bytes)
     } else if len >= 8 {
         are_16_zeros(bytes)
+    } else if len >= 4 {
+        let (first, _) = bytes.split_at(4);
+        let (_, last) = bytes.split_at(len - 4);
+        are_4_zeros(first) & are_4_zeros(last)
     } else {
         bytes.iter().all(|byte| *byte == 0)
     }
@@ -232,6 +236,17 @@ fn are_8_zeros(bytes: &[u8]) -> bool
     ensures { IsTrue result ↔ (bytes.now ≡ replicate (length bytes.now) 0) }
 {
     number_of(bytes) == 0
+}
+
+// The same of 4 bytes.
+#[inline(always)]
+fn are_4_zeros(bytes: &[u8]) -> bool
+    requires { length bytes.now ≡ 4 }
+    ensures { IsTrue result ↔ (bytes.now ≡ replicate (length bytes.now) 0) }
+{
+    let mut number = [0; 4];
+    number.copy_from_slice(bytes);
+    u32::from_le_bytes(number) == 0
 }
 
 // The number whose bytes these are, least first.
