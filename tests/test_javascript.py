@@ -158,7 +158,8 @@ def test_state_of_one_process_taken_up_by_another(project, library, prefix, tmp_
     assert "".join(said) == printed
 
 
-# What a bundle holds, and how many bytes it has at most, packed by brotli.
+# What a bundle holds, and how many bytes it has at most, packed by brotli. The first has more where the compiler does not
+# inline what build/crate tells it to.
 @pytest.mark.parametrize("entry, most", [("nattizhu/ripemd160.js", 5000), ("nattizhu", 20480)])
 def test_size_of_a_bundle(project, entry, most, tmp_path):
     need("esbuild", "esbuild")
