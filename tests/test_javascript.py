@@ -93,6 +93,11 @@ def fixture_project(archive, once):
     return once("project", install)
 
 
+def test_words_are_inlined(wasm):
+    """The compiler does what build/crate tells it: a module without this is slower."""
+    assert b"words_of_" not in (ROOT / "crates/ripemd_js/out/wasm64-unknown-unknown/libripemd_js.a").read_bytes()
+
+
 def test_same_bytes_each_time(archive, tmp_path):
     run("build/js", tmp_path)
     assert (tmp_path / archive.name).read_bytes() == archive.read_bytes()
@@ -158,8 +163,7 @@ def test_state_of_one_process_taken_up_by_another(project, library, prefix, tmp_
     assert "".join(said) == printed
 
 
-# What a bundle holds, and how many bytes it has at most, packed by brotli. The first has more where the compiler does not
-# inline what build/crate tells it to.
+# What a bundle holds, and how many bytes it has at most, packed by brotli.
 @pytest.mark.parametrize("entry, most", [("nattizhu/ripemd160.js", 5000), ("nattizhu", 20480)])
 def test_size_of_a_bundle(project, entry, most, tmp_path):
     need("esbuild", "esbuild")
