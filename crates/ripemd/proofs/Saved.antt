@@ -1,57 +1,99 @@
 -- Saved bytes of a core and a tail, put together and taken apart.
 use Rattle.std.proofs.Common.{◌≡◌, ℕ, ◌+◌, ◌-◌, ◌<◌, refl, sym, ap, ◌∙◌, arith, rules}
 use Rattle.std.proofs.Common.{List, [], ◌∷◌, ◌++◌, length, take, drop, get_or, replicate}
-use Rattle.std.proofs.Common.{All, length-append, slice_set, suc, Result, Ok, Err, IfErr}
+use Rattle.std.proofs.Common.{All, length-append, slice_set, suc, Result, Ok, Err, IfErr, ◌≤◌, ◌⊎◌, inl, inr}
 use Rattle.std.specs.Result.{IsOk}
 use Rattle.std.proofs.lemmas.List.Elements.{All-append}
-use Rattle.std.proofs.lemmas.List.{append_assoc, drop-replicate, length-replicate, length-drop}
-use Rattle.std.proofs.lemmas.List.{length-take-le, take-append-drop}
+use Rattle.std.proofs.lemmas.Bool.{cases_lt}
+use Rattle.std.proofs.lemmas.List.{append_assoc, length-replicate, length-drop, drop-drop}
+use Rattle.std.proofs.lemmas.List.{length-take-le, take-append-drop, take_all, take_at, drop_at}
 use Rattle.std.proofs.Math.Seq.{take-append_seam, drop-append_seam}
 use Rattle.ripemd_block.specs.States.{HashState, IsTail, IsHashState, IsWithoutTail, with_tail}
 use Rattle.ripemd_block.specs.States.{output_and_count, tail_bytes, core_and_tail, fed}
 use Rattle.ripemd_block.specs.Laws.Pieces.{fed_short}
-use Rattle.ripemd.specs.Saved.{IsAppended}
+use Rattle.ripemd.specs.Saved.{IsAppended, cleared, cleared_tail}
 use Rattle.ripemd_block.specs.OverLists.{IsInjectiveOutput}
 use Rattle.ripemd_block.specs.Laws.Saved.{length-output_and_count, length-core_and_tail, core_and_tail-split}
 
--- bytes that are a length, as many bytes, and zero bytes, are those of the saved tail
-pub tail_loaded : (saved tail rest : List ℕ) → length saved ≡ 64 → get_or saved 0 0 < 64
-    → tail ≡ take (get_or saved 0 0) (drop 1 saved) → rest ≡ drop (get_or saved 0 0) (drop 1 saved)
-    → rest ≡ replicate (length rest) 0 → tail_bytes tail ≡ saved
-tail_loaded [] tail rest size short front back zeros = absurd (omega arith)
-tail_loaded (n ∷ behind) tail rest size short front back zeros =
-    let tail_len : length tail ≡ n = rw front (length-take-le n behind (omega arith)) in
-    let rest_len : length rest ≡ 63 - n = rw back (omega (arith, length-drop n behind)) in
-    let both : tail ++ rest ≡ behind = rw (front, back) (take-append-drop n behind) in
-    rw (tail_len, ← rest_len, ← zeros) (ap (λ (bs : List ℕ). n ∷ bs) both)
+-- ---- bytes with zeros behind a tail
 
--- what follows the tail in its saved bytes is zero bytes
-pub rest_of_tail : (saved rest tail : List ℕ) → tail_bytes tail ≡ saved
-    → rest ≡ drop (get_or saved 0 0) (drop 1 saved) → rest ≡ replicate (length rest) 0
-rest_of_tail saved rest tail same back =
-    let zeros : List ℕ = replicate (63 - length tail) 0 in
-    let is : rest ≡ zeros = back ∙ rw (← same) (drop-append_seam tail zeros) in
-    is ∙ ap (λ (n : ℕ). replicate n 0) (sym (ap length is ∙ length-replicate {A = ℕ} (63 - length tail) 0))
+-- the length of a tail, the tail and any bytes are, with zeros in place of these, what the tail is saved as
+pub cleared_behind : (tail behind : List ℕ) → length behind ≡ 63 - length tail
+    → cleared_tail (length tail ∷ tail ++ behind) ≡ tail_bytes tail
+cleared_behind tail behind size =
+    let left : length (tail ++ behind) - length tail ≡ 63 - length tail = omega (arith, length-append tail behind, size) in
+    rw (take_at tail behind (length tail) refl, left) refl
 
--- the saved bytes of a tail have it behind its length
-pub tail_held : (tail saved : List ℕ) (len : ℕ) → tail_bytes tail ≡ saved → length tail ≡ len → take len (drop 1 saved) ≡ tail
-tail_held tail saved len is size = rw (← is, ← size) (take-append_seam tail (replicate (63 - length tail) 0))
+-- a number and as many of the bytes behind it
+pub cleared_front : (kept : List ℕ) → length kept ≡ 64 → get_or kept 0 0 < 64
+    → tail_bytes (take (get_or kept 0 0) (drop 1 kept)) ≡ cleared_tail kept
+cleared_front [] size short = absurd (omega (arith, size))
+cleared_front (n ∷ behind) size short =
+    let left : length behind ≡ 63 = omega (arith, size) in
+    rw (length-take-le n behind (omega (arith, left, short)), left) refl
 
--- a piece written over the first zero bytes behind a tail, and its length added to the tail's
-pub tail_appended : (tail piece saved front room : List ℕ) (len : ℕ) → tail_bytes tail ≡ saved → length tail ≡ len
-    → len + length piece < 64 → front ≡ take (1 + len) saved → room ≡ drop (1 + len) saved
-    → slice_set front 0 (len + length piece) ++ (piece ++ drop (length piece) room) ≡ tail_bytes (tail ++ piece)
-tail_appended tail piece saved front room len is size short is_front is_room =
-    let m : ℕ = length piece in
-    let zeros : List ℕ = replicate (63 - length tail) 0 in
-    let next : 1 + len ≡ suc (length tail) = omega (arith, size) in
-    let front_is : front ≡ length tail ∷ tail =
-    is_front ∙ rw (next, ← is) (ap (λ (bs : List ℕ). length tail ∷ bs) (take-append_seam tail zeros)) in
-    let room_is : room ≡ zeros = is_room ∙ rw (next, ← is) (drop-append_seam tail zeros) in
-    let left : drop m room ≡ replicate (63 - (len + m)) 0 =
-    rw (room_is, drop-replicate {X = ℕ} m (63 - length tail) 0) (ap (λ (k : ℕ). replicate {A = ℕ} k 0) (omega (arith, size))) in
-    let joined : length (tail ++ piece) ≡ len + m = omega (arith, length-append tail piece, size) in
-    rw (front_is, left, joined) (ap (λ (bs : List ℕ). (len + m) ∷ bs) (sym (append_assoc tail piece (replicate (63 - (len + m)) 0))))
+module _ (tail kept : List ℕ) (size : length kept ≡ 64) (short : length tail < 64) (is : tail_bytes tail ≡ cleared_tail kept) where
+  -- bytes that are so with zeros begin with the length of the tail, and then come its bytes
+  pub begins : kept ≡ length tail ∷ tail ++ drop (suc (length tail)) kept
+  begins = parts kept size is
+    where
+      parts : (kept : List ℕ) → length kept ≡ 64 → tail_bytes tail ≡ cleared_tail kept
+          → kept ≡ length tail ∷ tail ++ drop (suc (length tail)) kept
+      parts [] size is = absurd (omega (arith, size))
+      parts (n ∷ behind) size is =
+          let m : ℕ = length tail in
+          let first : n ≡ m = sym (ap (λ (bs : List ℕ). get_or bs 0 0) is) in
+          let held : length (take m behind) ≡ m = length-take-le m behind (omega (arith, size, short)) in
+          let both : tail ++ replicate (63 - m) 0 ≡ take m behind ++ replicate (length behind - m) 0 = rw first at (ap (drop 1) is) in
+          let own : take m behind ≡ tail =
+          sym (take_at (take m behind) (replicate (length behind - m) 0) m held) ∙ ap (take m) (sym both)
+          ∙ take_at tail (replicate (63 - m) 0) m refl in
+          ap (λ (k : ℕ). k ∷ behind) first
+          ∙ ap (λ (bs : List ℕ). m ∷ bs) (sym (take-append-drop m behind) ∙ ap (λ (bs : List ℕ). bs ++ drop m behind) own)
+
+  pub tail_length : get_or kept 0 0 ≡ length tail
+  tail_length = ap (λ (bs : List ℕ). get_or bs 0 0) begins
+
+  pub tail_held : take (length tail) (drop 1 kept) ≡ tail
+  tail_held = ap (λ (bs : List ℕ). take (length tail) (drop 1 bs)) begins ∙ take_at tail _ (length tail) refl
+
+  -- a piece written behind the tail, and its length added to the tail's
+  pub tail_appended : (piece front room : List ℕ) (len : ℕ) → length tail ≡ len → len + length piece < 64
+      → front ≡ take (1 + len) kept → room ≡ drop (1 + len) kept
+      → cleared_tail (slice_set front 0 (len + length piece) ++ (piece ++ drop (length piece) room)) ≡ tail_bytes (tail ++ piece)
+  tail_appended piece front room len same_len fits is_front is_room =
+      let m : ℕ = length piece in
+      let next : 1 + len ≡ suc (length tail) = omega (arith, same_len) in
+      let front_is : front ≡ length tail ∷ tail =
+      is_front ∙ rw next (ap (take (suc (length tail))) begins ∙ take_at (length tail ∷ tail) _ (suc (length tail)) refl) in
+      let joined : length (tail ++ piece) ≡ len + m = omega (arith, length-append tail piece, same_len) in
+      let left : length (drop m room) ≡ 63 - length (tail ++ piece) =
+      omega (arith, length-drop m room, ap length is_room, length-drop (1 + len) kept, size, joined) in
+      rw front_is
+      (rw (← joined, ← append_assoc tail piece (drop m room)) (cleared_behind (tail ++ piece) (drop m room) left))
+
+-- there are as many bytes with zeros as without
+length-cleared_tail : (kept : List ℕ) → length (cleared_tail kept) ≡ length kept
+length-cleared_tail [] = refl
+length-cleared_tail (n ∷ behind) = by (cases_lt (length behind) n)
+  where
+    both : length (take n behind ++ replicate (length behind - n) 0) ≡ length (take n behind) + (length behind - n)
+    both = length-append (take n behind) (replicate (length behind - n) 0)
+        ∙ ap (λ (k : ℕ). length (take n behind) + k) (length-replicate {A = ℕ} (length behind - n) 0)
+
+    by : (length behind < n) ⊎ (n ≤ length behind) → length (cleared_tail (n ∷ behind)) ≡ length (n ∷ behind)
+    by (inl few) = omega (arith, both, ap length (take_all n behind (omega (arith, few))), few)
+    by (inr all) = omega (arith, both, length-take-le n behind all, all)
+
+pub length-cleared : (n : ℕ) (kept : List ℕ) → length (cleared n kept) ≡ length kept
+length-cleared n kept =
+    length-append (take n kept) (cleared_tail (drop n kept))
+    ∙ ap (λ (k : ℕ). length (take n kept) + k) (length-cleared_tail (drop n kept))
+    ∙ sym (length-append (take n kept) (drop n kept)) ∙ ap length (take-append-drop n kept)
+
+-- zeros are put behind the tail, and the core's bytes stay
+pub cleared-both : (front back : List ℕ) (n : ℕ) → length front ≡ n → cleared n (front ++ back) ≡ front ++ cleared_tail back
+cleared-both front back n size = rw (take_at front back n size, drop_at front back n size) refl
 
 -- a result whose error can't be is a value
 pub ok_without_error : {X E : Type 0} {P : E → Type 0} (r : Result X E) → IfErr r P → ((e : E) → ¬ P e) → IsOk r
@@ -88,6 +130,17 @@ module _ {are_words : List ℕ → Type 0} {output : List ℕ → List ℕ} {siz
   tail_back tail back =
       sym (back ∙ rw (split, place) (drop-append_seam (output_and_count output h) (tail_bytes h.tail)))
 
+  -- and behind the tail are zeros
+  pub behind_tail : (used : ℕ) → used ≡ n + 1 + length h.tail → (rest : List ℕ) → rest ≡ drop used bytes
+      → rest ≡ replicate (length rest) 0
+  behind_tail used used_is rest is =
+      let m : ℕ = length h.tail in
+      let zeros : List ℕ = replicate (63 - m) 0 in
+      let all : rest ≡ zeros =
+      is ∙ ap (λ (k : ℕ). drop k bytes) (omega (arith, used_is)) ∙ sym (drop-drop (suc m) n bytes)
+      ∙ ap (drop (suc m)) (sym (tail_back (drop n bytes) refl)) ∙ drop_at (m ∷ h.tail) zeros (suc m) refl in
+      all ∙ ap (λ (k : ℕ). replicate {A = ℕ} k 0) (sym (ap length all ∙ length-replicate {A = ℕ} (63 - m) 0))
+
   -- a piece that ends no block goes behind the tail
   pub both_appended : (step : List ℕ → List ℕ → List ℕ) (piece front new : List ℕ) → front ≡ take n bytes
       → length h.tail + length piece < 64 → All (λ b. b < 256) piece → new ≡ tail_bytes (h.tail ++ piece)
@@ -109,6 +162,56 @@ module _ {are_words : List ℕ → Type 0} {output : List ℕ → List ℕ} {siz
           saved = core_and_tail-split output after ∙ rw (core, added) refl;
         });
       }
+
+-- ---- the same of the bytes that a hasher is kept as
+
+module _ {are_words : List ℕ → Type 0} {output : List ℕ → List ℕ} {size : ℕ} (told : IsInjectiveOutput are_words output size)
+    (h : HashState) (valid : IsHashState are_words h) (n : ℕ) (core_size : n ≡ size + 8)
+    (kept : List ℕ) (same : core_and_tail output h ≡ cleared n kept) where
+  pub kept_size : length kept ≡ n + 64
+  kept_size = sym (length-cleared n kept) ∙ whole told h valid n core_size (cleared n kept) same
+
+  front_size : length (take n kept) ≡ n
+  front_size = length-take-le n kept (omega (arith, kept_size))
+
+  pub kept_front : (front : List ℕ) → front ≡ take n kept → front ≡ take n (cleared n kept)
+  kept_front front is = is ∙ sym (take_at (take n kept) (cleared_tail (drop n kept)) n front_size)
+
+  pub kept_core : (front : List ℕ) → front ≡ take n kept → output_and_count output (with_tail h []) ≡ front
+  kept_core front is = core_front told h valid n core_size (cleared n kept) same front (kept_front front is)
+
+  pub kept_tail : (back : List ℕ) → back ≡ drop n kept → tail_bytes h.tail ≡ cleared_tail back
+  kept_tail back is =
+      tail_back told h valid n core_size (cleared n kept) same (cleared_tail back)
+      (ap cleared_tail is ∙ sym (drop_at (take n kept) (cleared_tail (drop n kept)) n front_size))
+
+  -- with zeros behind the tail it is saved as the same bytes
+  pub kept_with_zeros : (used : ℕ) → used ≡ n + 1 + length h.tail → (rest : List ℕ) → rest ≡ drop used kept
+      → rest ≡ replicate (length rest) 0 → core_and_tail output h ≡ kept
+  kept_with_zeros used used_is rest is zeros =
+      let m : ℕ = length h.tail in
+      let back : List ℕ = drop n kept in
+      let of_back : tail_bytes h.tail ≡ cleared_tail back = kept_tail back refl in
+      let back_size : length back ≡ 64 = omega (arith, length-drop n kept, kept_size) in
+      let left : rest ≡ drop (suc m) back =
+      is ∙ ap (λ (k : ℕ). drop k kept) (omega (arith, used_is)) ∙ sym (drop-drop (suc m) n kept) in
+      let count : length rest ≡ 63 - m = omega (arith, ap length left, length-drop (suc m) back, back_size) in
+      let own : back ≡ tail_bytes h.tail =
+      begins h.tail back back_size valid.tail.short of_back
+      ∙ ap (λ (bs : List ℕ). m ∷ h.tail ++ bs) (sym left ∙ zeros ∙ ap (λ (k : ℕ). replicate {A = ℕ} k 0) count) in
+      same ∙ ap (λ (bs : List ℕ). take n kept ++ bs) (sym of_back ∙ sym own) ∙ take-append-drop n kept
+
+-- what a hasher is saved as has zeros behind the tail
+pub cleared_saved : {are_words : List ℕ → Type 0} {output : List ℕ → List ℕ} {size : ℕ} → IsInjectiveOutput are_words output size
+    → (h : HashState) → IsHashState are_words h → (n : ℕ) → n ≡ size + 8 → (bytes : List ℕ)
+    → core_and_tail output h ≡ bytes → core_and_tail output h ≡ cleared n bytes
+cleared_saved {output = output} told h valid n core_size bytes same =
+    let zeros : List ℕ = replicate (63 - length h.tail) 0 in
+    let core : length (output_and_count output h) ≡ n = length-output_and_count told h valid ∙ sym core_size in
+    let tail : cleared_tail (tail_bytes h.tail) ≡ tail_bytes h.tail =
+    cleared_behind h.tail zeros (length-replicate {A = ℕ} (63 - length h.tail) 0) in
+    core_and_tail-split output h
+    ∙ sym (rw (← same, core_and_tail-split output h) (cleared-both (output_and_count output h) (tail_bytes h.tail) n core ∙ rw tail refl))
 
 -- bytes that are those of a core and of a tail are what a hasher of both is saved as
 pub both_saved : (output : List ℕ → List ℕ) (h : HashState) (n : ℕ) (bytes core tail : List ℕ) → core ≡ take n bytes

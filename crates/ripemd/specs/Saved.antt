@@ -1,5 +1,5 @@
 -- States that are saved as bytes (this repository's own).
-use Rattle.std.specs.Prelude.{◌≡◌, ℕ, List, length}
+use Rattle.std.specs.Prelude.{◌≡◌, ℕ, ◌-◌, List, [], ◌∷◌, ◌++◌, length, take, drop, replicate}
 use Rattle.ripemd_block.specs.States.{HashState}
 
 -- a state that can occur, and the bytes that it is saved as
@@ -19,3 +19,13 @@ pub record HasTail (is_valid : HashState → Type 0) (state_bytes : HashState �
   pub state : HashState
   pub saved : IsSaved is_valid state_bytes state bytes
   pub tail : length state.tail ≡ len
+
+-- callers keep a state as the bytes that it is saved as, but that any may stand behind its tail. With zeros in place of
+-- these they are the saved ones: of a tail its length, and as many bytes
+abbrev pub cleared_tail : List ℕ → List ℕ
+cleared_tail [] = []
+cleared_tail (n ∷ behind) = n ∷ take n behind ++ replicate (length behind - n) 0
+
+-- and of a core, saved as so many bytes, and the tail behind it
+abbrev pub cleared : (core : ℕ) → List ℕ → List ℕ
+cleared core kept = take core kept ++ cleared_tail (drop core kept)

@@ -1,14 +1,14 @@
 //! What a hasher and an HMAC have in common: they take a message in pieces, give their output at its
 //! end, and can be saved as bytes in between.
 
-ghost use Rattle.std.specs.Prelude.{◌≡◌, ◌≢◌, ℕ, List, [], ◌++◌, IfOk, IfErr, IsTrue, IsFalse, ⊤};
+ghost use Rattle.std.specs.Prelude.{◌≡◌, ◌≢◌, ℕ, List, [], ◌++◌, length, IfSome, IfNone, IfOk, IfErr, IsTrue, IsFalse, ⊤};
 ghost use Rattle.ripemd_block.specs.Standard.Hashing.{hash};
 ghost use Rattle.ripemd_block.specs.States.{IsHashState, core_and_tail, initial_state, fed, finish};
-ghost use Rattle.ripemd.specs.Saved.{IsAppended};
+ghost use Rattle.ripemd.specs.Saved.{IsAppended, cleared};
 
 use crate::digest::{Digest, OutputSizeUser, SerializableState};
 use crate::hashers::BlockHasher;
-use crate::state::{DeserializeStateError, update_saved};
+use crate::state::{DeserializeStateError, keep, load_kept, update_kept};
 use ripemd_block::block_api::{ByteArray, ListBlockFunction, ResumableFunction};
 
 /// A hasher or an HMAC: it takes a message in pieces, and gives its digest or its tag at the end. How
@@ -78,13 +78,29 @@ pub trait Resumable: Incremental {
         ensures err { IfErr result
             (λ _. (s : Self) → is_valid s → state_bytes s ≢ bytes.now) };
 
-    /// Appends bytes to the message of a saved state: makes its saved bytes those of the state after them.
-    /// False, and nothing is written, exactly if no state is saved as these.
-    fn update_saved(saved: &mut [u8], bytes: &[u8]) -> bool
+    // The bytes that a kept state is saved as.
+    ghost cleared: { List ℕ → List ℕ };
+
+    /// Keeps the state as bytes: those that it is saved as, but that behind a tail of the message these stay as they
+    /// are.
+    fn keep(&self, kept: &mut [u8])
+        requires { length kept.old ≡ Self.Saved.LEN }
+        ensures kept { state_bytes self.now ≡ cleared kept.new }
+        ensures valid { is_valid self.now };
+
+    /// The state that is kept as these bytes; `None` exactly if no state is.
+    fn load_kept(kept: &[u8]) -> Option<Self>
+        ensures some { IfSome result (λ loaded. state_bytes loaded ≡ cleared kept.now) }
+        ensures valid { IfSome result is_valid }
+        ensures none { IfNone result ((s : Self) → is_valid s → state_bytes s ≢ cleared kept.now) };
+
+    /// Appends bytes to the message of a kept state: makes its bytes those of the state after them. False, and
+    /// nothing is written, exactly if no state is kept as these.
+    fn update_kept(kept: &mut [u8], bytes: &[u8]) -> bool
         ensures appended { IsTrue result
-            → IsAppended is_valid state_bytes Self.fed saved.old bytes.now saved.new }
-        ensures refused { IsFalse result → (s : Self) → is_valid s → state_bytes s ≢ saved.old }
-        ensures unchanged { IsFalse result → saved.new ≡ saved.old };
+            → IsAppended is_valid state_bytes Self.fed (cleared kept.old) bytes.now (cleared kept.new) }
+        ensures refused { IsFalse result → (s : Self) → is_valid s → state_bytes s ≢ cleared kept.old }
+        ensures unchanged { IsFalse result → kept.new ≡ kept.old };
 
     // States that are saved as the same bytes are the same.
     ghost injective: { (s t : Self) → is_valid s → is_valid t
@@ -136,9 +152,21 @@ impl<F: ResumableFunction> Resumable for BlockHasher<F> {
         BlockHasher::load_slice(bytes)
     }
 
+    ghost cleared = { cleared F.SavedCore.LEN };
+
     #[inline(always)]
-    fn update_saved(saved: &mut [u8], bytes: &[u8]) -> bool {
-        update_saved::<F>(saved, bytes)
+    fn keep(&self, kept: &mut [u8]) {
+        keep(&self.core, self.buffer.get_data(), kept);
+    }
+
+    #[inline(always)]
+    fn load_kept(kept: &[u8]) -> Option<BlockHasher<F>> {
+        load_kept(kept)
+    }
+
+    #[inline(always)]
+    fn update_kept(kept: &mut [u8], bytes: &[u8]) -> bool {
+        update_kept::<F>(kept, bytes)
     }
 
     ghost use Rattle.ripemd_block.specs.Laws.Saved.{core_and_tail_injective};

@@ -13,7 +13,7 @@ ghost use Rattle.ripemd_mac.specs.Hmac.{
   masked,
   tag_of,
 };
-ghost use Rattle.ripemd_mac.specs.Saved.{IsKeyedState, IsSavedFor, hmac_bytes};
+ghost use Rattle.ripemd_mac.specs.Saved.{IsKeyedState, IsSavedFor, cleared_hmac, hmac_bytes};
 
 use ripemd::block_api::{ByteArray, write_short};
 use ripemd::digest::{BlockDigest, Digest, SerializableState};
@@ -216,14 +216,35 @@ impl<F: ResumableFunction> Resumable for Hmac<BlockHasher<F>> {
         Hmac::load_slice(bytes)
     }
 
-    fn update_saved(saved: &mut [u8], bytes: &[u8]) -> bool {
-        if saved.len() != <F::SavedHmac as ByteArray>::LEN {
+    ghost cleared = { cleared_hmac F.SavedCore.LEN };
+
+    #[inline(always)]
+    fn keep(&self, kept: &mut [u8]) {
+        let (inner, outer) = kept.split_at_mut(<F::SavedHasher as ByteArray>::LEN);
+        self.inner.keep(inner);
+        self.outer.keep(outer);
+    }
+
+    #[inline(always)]
+    fn load_kept(kept: &[u8]) -> Option<Hmac<BlockHasher<F>>> {
+        if kept.len() != <F::SavedHmac as ByteArray>::LEN {
+            return None;
+        }
+        let (inner, outer) = kept.split_at(<F::SavedHasher as ByteArray>::LEN);
+        Some(Hmac {
+            inner: BlockHasher::load_kept(inner)?,
+            outer: BlockHasher::load_kept(outer)?,
+        })
+    }
+
+    fn update_kept(kept: &mut [u8], bytes: &[u8]) -> bool {
+        if kept.len() != <F::SavedHmac as ByteArray>::LEN {
             return false;
         }
-        let (inner, outer) = saved.split_at_mut(<F::SavedHasher as ByteArray>::LEN);
-        match BlockHasher::<F>::load_slice(outer) {
-            Ok(_outer) => BlockHasher::<F>::update_saved(inner, bytes),
-            Err(_) => false,
+        let (inner, outer) = kept.split_at_mut(<F::SavedHasher as ByteArray>::LEN);
+        match BlockHasher::<F>::load_kept(outer) {
+            Some(_outer) => BlockHasher::<F>::update_kept(inner, bytes),
+            None => false,
         }
     }
 

@@ -1,50 +1,35 @@
-use Rattle.std.proofs.Common.{ap, ◌∙◌, arith, [], length}
-use Rattle.ripemd_block.specs.States.{HashState, with_tail, output_and_count}
-use Rattle.ripemd_block.specs.Laws.Saved.{length-core_and_tail}
-use Rattle.ripemd.proofs.Saved.{core_front, tail_back, both_saved, own_core}
+use Rattle.std.proofs.Common.{◌≡◌, ◌∙◌, length, ap, sym, arith}
+use Rattle.ripemd_block.specs.States.{HashState}
+use Rattle.ripemd_block.specs.Laws.Saved.{core_and_tail_injective}
+use Rattle.ripemd.proofs.Saved.{cleared_saved, kept_with_zeros, behind_tail}
 use Rattle.ripemd.proofs.state.BlockHasherSerializableState.load_slice.Goals as goal
 
--- a hasher is saved as so many bytes
-pub returns-then-bytes-LEN-clause-err : goal.returns-then-bytes-LEN-clause-err
-returns-then-bytes-LEN-clause-err g c h valid same =
+-- a saved hasher is kept as the same bytes
+pub returns-in_default-clause-err : goal.returns-in_default-clause-err
+returns-in_default-clause-err g c h valid same =
     let r = g.met.F.ResumableFunction in
-    let told = r.injective_output in
-    omega (
-      arith,
-      c.if-bytes-LEN.true,
-      ap length same,
-      length-core_and_tail told h valid,
-      r.saved_core_size,
-      r.saved_hasher_size,
-    )
+    c.in_default.ensures.none h valid
+    (cleared_saved r.injective_output h valid g.F.SavedCore.ByteArray.LEN r.saved_core_size c.args.bytes.now same)
 
--- the first of them are its core's
-pub returns-in-Err-clause-err : goal.returns-in-Err-clause-err
-returns-in-Err-clause-err g c h valid same =
+pub returns-then-are_zeros-clause-ok : goal.returns-then-are_zeros-clause-ok
+returns-then-are_zeros-clause-ok g c =
     let r = g.met.F.ResumableFunction in
-    let told = r.injective_output in
-    let n = c.LEN-2.result in
-    let size = c.LEN-2.ensures ∙ r.saved_core_size in
+    let h = c.in-Some.hasher in
+    let tail : length c.hasher.inside.buffer ≡ length h.tail = ap (λ (s : HashState). length s.tail) c.hasher.view_is in
+    kept_with_zeros r.injective_output h c.in-Some.ensures.valid g.F.SavedCore.ByteArray.LEN r.saved_core_size c.args.bytes.now
+    c.in-Some.ensures.some _ (omega (arith, c.LEN.ensures, c.get_pos.ensures.length, tail)) c.split_at.result.1.now c.split_at.ensures.back
+    (c.are_zeros.ensures.0 c.if-are_zeros.true)
+
+-- so it is the one that is loaded
+pub returns-else-are_zeros-clause-err : goal.returns-else-are_zeros-clause-err
+returns-else-are_zeros-clause-err g c h valid same =
+    let r = g.met.F.ResumableFunction in
+    let n = g.F.SavedCore.ByteArray.LEN in
     let bytes = c.args.bytes.now in
-    let core = c.split_at.result.0.now in
-    c.in-Err.ensures.err (with_tail h []) (own_core told h valid n size bytes same)
-    (core_front told h valid n size bytes same core c.split_at.ensures.front)
-
--- and the others its tail's
-pub returns-in-None-clause-err : goal.returns-in-None-clause-err
-returns-in-None-clause-err g c h valid same =
-    let r = g.met.F.ResumableFunction in
-    let told = r.injective_output in
-    let n = c.LEN-2.result in
-    let size = c.LEN-2.ensures ∙ r.saved_core_size in
-    let bytes = c.args.bytes.now in
-    let tail = c.split_at.result.1.now in
-    c.in-None.ensures.none h.tail valid.tail (tail_back told h valid n size bytes same tail c.split_at.ensures.back)
-
-pub returns-in-Some-clause-ok : goal.returns-in-Some-clause-ok
-unfolding output_and_count
-returns-in-Some-clause-ok g c =
-    let h : HashState = with_tail c.in-Ok.core c.in-Some.buffer in
-    let split = c.split_at in
-    both_saved g.F.ListBlockFunction.output h c.LEN-2.result c.args.bytes.now split.result.0.now split.result.1.now split.ensures.front
-    split.ensures.back c.in-Ok.ensures.ok c.in-Some.ensures.some
+    let one : c.in-Some.hasher ≡ h =
+    core_and_tail_injective r.injective_output c.in-Some.hasher h c.in-Some.ensures.valid valid
+    (c.in-Some.ensures.some ∙ sym (cleared_saved r.injective_output h valid n r.saved_core_size bytes same)) in
+    let tail : length c.hasher.inside.buffer ≡ length h.tail = ap (λ (s : HashState). length s.tail) (c.hasher.view_is ∙ one) in
+    let yes = c.are_zeros.ensures.1 (behind_tail r.injective_output h valid n r.saved_core_size bytes same _
+    (omega (arith, c.LEN.ensures, c.get_pos.ensures.length, tail)) c.split_at.result.1.now c.split_at.ensures.back) in
+    cc (yes, c.if-are_zeros.false)
