@@ -272,18 +272,107 @@ static void try_overlaps(void) {
   }
 }
 
-// ---- messages in pieces, and states
+// ---- messages in pieces, and states: of hash functions, or of HMAC where they are keyed
 
-// Whether saved bytes have so many blocks and this tail, behind a chaining value.
-static bool saves(const uint8_t *saved, size_t blocks, const uint8_t *tail, size_t length) {
-  saved += size;
-  return saved[0] == blocks && all_are(saved + 1, 7, 0) && saved[8] == length &&
-         !memcmp(saved + 9, tail, length) && all_are(saved + 9 + length, 63 - length, 0);
+static const size_t STATE_SIZES[] = {NATTIZHU_STATE_SIZE, NATTIZHU_HMAC_STATE_SIZE};
+enum { MOST_SAVED = NATTIZHU_HMAC_SAVED_SIZE(NATTIZHU_MAX_SIZE) };
+
+static size_t saved_size(int keyed, size_t digest) {
+  return keyed ? NATTIZHU_HMAC_SAVED_SIZE(digest) : NATTIZHU_SAVED_SIZE(digest);
+}
+
+static bool update(int keyed, uint8_t *state, const uint8_t *bytes, size_t length) {
+  return keyed ? nattizhu_hmac_update((nattizhu_hmac_state *)(void *)state, bytes, length)
+               : nattizhu_update((nattizhu_state *)(void *)state, bytes, length);
+}
+
+static bool end(int keyed, const uint8_t *state, uint8_t *out, size_t length) {
+  return keyed ? nattizhu_hmac_final((const nattizhu_hmac_state *)(const void *)state, out, length)
+               : nattizhu_final((const nattizhu_state *)(const void *)state, out, length);
+}
+
+static bool save(int keyed, const uint8_t *state, uint8_t *saved, size_t length) {
+  return keyed ? nattizhu_hmac_save((const nattizhu_hmac_state *)(const void *)state, saved, length)
+               : nattizhu_save((const nattizhu_state *)(const void *)state, saved, length);
+}
+
+static bool load(nattizhu_variant variant, int keyed, uint8_t *state, const uint8_t *saved,
+                 size_t length) {
+  return keyed ? nattizhu_hmac_load(variant, (nattizhu_hmac_state *)(void *)state, saved, length)
+               : nattizhu_load(variant, (nattizhu_state *)(void *)state, saved, length);
+}
+
+// The rules of docs/C.md: whether bytes are a state, and which of them mean something then.
+static bool is_state(int keyed, const uint8_t *bytes, bool means[HMAC_STATE_SIZE]) {
+  const size_t digest = bytes[0] - (keyed ? (size_t)128 : 0);
+  bool right = false;
+  memset(means, 0, HMAC_STATE_SIZE * sizeof *means);
+  means[0] = true;
+  for (int i = 0; i < VARIANTS; i++)
+    right |= digest == (size_t)ALL[i] / 8;
+  for (size_t part = 0; right && part <= (size_t)keyed; part++) {
+    const size_t from = 1 + part * (digest + 72), tail = bytes[from + digest + 8];
+    right = tail < 64;
+    for (size_t i = 0; right && i < digest + 9 + tail; i++)
+      means[from + i] = true;
+  }
+  return right;
+}
+
+// The same of bytes that a state may be saved as: so many, and where they mean nothing, zeros.
+static bool is_saved(int keyed, size_t digest, const uint8_t *saved, size_t length) {
+  uint8_t bytes[HMAC_STATE_SIZE] = {(uint8_t)(digest + (keyed ? 128 : 0))};
+  bool means[HMAC_STATE_SIZE], right = length == saved_size(keyed, digest);
+  if (right)
+    memcpy(bytes + 1, saved, length);
+  right = right && is_state(keyed, bytes, means);
+  for (size_t i = 1; right && i <= length; i++)
+    right = means[i] || !bytes[i];
+  return right;
+}
+
+// Whether a state is there, with these bytes where they mean something, behind its mark. Others may
+// be any, up to those behind `1 + size + 72`, or twice that, which are `value`.
+static bool is_kept(int room, int keyed, const uint8_t *saved, uint8_t value) {
+  const uint8_t *there = in_room(room, STATE_SIZES[keyed]);
+  const size_t length = saved_size(keyed, size);
+  bool means[HMAC_STATE_SIZE];
+  bool right = there[0] == size + (keyed ? 128 : 0) && is_state(keyed, there, means) &&
+               all_are(there + 1 + length, STATE_SIZES[keyed] - 1 - length, value) &&
+               all_are(beside(room, STATE_SIZES[keyed]), BESIDE, 7);
+  for (size_t i = 0; i < length; i++)
+    right &= !means[1 + i] || there[1 + i] == saved[i];
+  return right;
+}
+
+// Changes each byte of a state that means nothing, by an amount of its own.
+static void muddle(int keyed, uint8_t *state) {
+  bool means[HMAC_STATE_SIZE];
+  if (is_state(keyed, state, means))
+    for (size_t i = 0; i < STATE_SIZES[keyed]; i++)
+      state[i] = (uint8_t)(state[i] + (means[i] ? 0 : 1 + i % 255));
+}
+
+// Writes what a hasher is saved as, with this chaining value, so many blocks and this tail.
+static void write_saved(uint8_t *saved, const uint8_t *chaining, size_t blocks, const uint8_t *tail,
+                        size_t length) {
+  memset(saved, 0, size + 72);
+  memcpy(saved, chaining, size);
+  saved[size] = (uint8_t)blocks;
+  saved[size + 8] = (uint8_t)length;
+  memcpy(saved + size + 9, tail, length);
+}
+
+// Whether a state has so many blocks and this tail, behind a chaining value.
+static bool has(const uint8_t *part, size_t blocks, const uint8_t *tail, size_t length) {
+  part += size;
+  return part[0] == blocks && all_are(part + 1, 7, 0) && part[8] == length &&
+         !memcmp(part + 9, tail, length);
 }
 
 // Whether the state of a message ends with its digest, and only in so many bytes.
-static bool ends(const nattizhu_state *state, size_t length) {
-  const input in = inputs(NULL, 0, ramp, length);
+static bool ends(const nattizhu_state *state, const uint8_t *message, size_t length) {
+  const input in = inputs(NULL, 0, message, length);
   uint8_t wanted[MAX];
   bool right = call(DIGEST, v, &in, wanted, size);
   for (size_t n = 0; n <= MAX + 1; n++) {
@@ -295,121 +384,239 @@ static bool ends(const nattizhu_state *state, size_t length) {
 }
 
 // The message in two pieces at every cut, and then the state copied and taken on in another place.
-// Bytes behind those that are saved are zeros after init, and no call looks at them.
+// What means nothing is changed between the calls.
 static void try_pieces(void) {
-  const size_t saved = 1 + size + 72, rest = STATE_SIZE - saved;
+  const size_t length = size + 72, rest = STATE_SIZE - 1 - length;
   for (size_t cut = 0; cut <= MESSAGE; cut++) {
-    uint8_t *bytes = output(STATE, STATE_SIZE);
+    uint8_t *bytes = output(STATE, STATE_SIZE), saved[MOST_SAVED], again[MOST_SAVED];
     nattizhu_state *state = (nattizhu_state *)(void *)bytes;
-    bool right = nattizhu_init(v, state) && bytes[0] == size && saves(bytes + 1, 0, ramp, 0) &&
-                 all_are(bytes + saved, rest, 0);
-    memset(bytes + saved, 9, rest);
-    right &= nattizhu_update(state, copied(BYTES, ramp, cut), cut) && bytes[0] == size &&
-             saves(bytes + 1, cut / 64, ramp + cut / 64 * 64, cut % 64) &&
-             all_are(bytes + saved, rest, 9);
+    bool right = nattizhu_init(v, state) && bytes[0] == size && has(bytes + 1, 0, ramp, 0) &&
+                 all_are(bytes + 1 + length, rest, 7);
+    muddle(0, bytes);
+    memset(bytes + 1 + length, 9, rest);
+    right &= nattizhu_update(state, copied(BYTES, ramp, cut), cut) &&
+             has(bytes + 1, cut / 64, ramp + cut / 64 * 64, cut % 64) &&
+             nattizhu_save(state, saved, length) && is_kept(STATE, 0, saved, 9);
     nattizhu_state copy = *state;
-    right &= ends(state, cut) && nattizhu_update(state, copied(BYTES, ramp, 0), 0) &&
-             holds(STATE, &copy, STATE_SIZE);
+    muddle(0, bytes);
+    memset(bytes + 1 + length, 9, rest);
+    right &= ends(state, ramp, cut) && nattizhu_update(state, copied(BYTES, ramp, 0), 0) &&
+             is_kept(STATE, 0, saved, 9) && nattizhu_save(state, again, length) &&
+             !memcmp(saved, again, length);
     right &= nattizhu_update(state, copied(BYTES, ramp + cut, MESSAGE - cut), MESSAGE - cut) &&
-             ends(state, MESSAGE) && nattizhu_update(&copy, ramp + cut, MESSAGE - cut) &&
-             holds(STATE, &copy, STATE_SIZE);
+             ends(state, ramp, MESSAGE) && nattizhu_save(state, saved, length) &&
+             is_kept(STATE, 0, saved, 9) && nattizhu_update(&copy, ramp + cut, MESSAGE - cut) &&
+             nattizhu_save(&copy, again, length) && !memcmp(saved, again, length);
     check(right, "two pieces", cut);
   }
 }
 
-// The rules for the bytes of a state, as docs/C.md has them: for what is saved with digests of so
-// many bytes, for a hash state, and for an HMAC state.
-static bool is_saved(const uint8_t *saved, size_t digest) {
-  const size_t tail = saved[digest + 8];
-  return tail < 64 && all_are(saved + digest + 9 + tail, 63 - tail, 0);
+// A state is saved as these bytes, to a place of just so many; and loaded from them in memory that
+// is not initialized.
+static bool is_saved_as(int keyed, const uint8_t *state, const uint8_t *saved) {
+  const size_t length = saved_size(keyed, size), all = STATE_SIZES[keyed];
+  uint8_t loaded[HMAC_STATE_SIZE], again[MOST_SAVED];
+  bool right = true;
+  for (size_t n = 0; n <= MOST_SAVED + 1; n++) {
+    uint8_t *out = output(OUT, n);
+    right &=
+        save(keyed, state, out, n) == (n == length) && holds(OUT, n == length ? saved : NULL, n);
+  }
+  right &= load(v, keyed, output(KEY, all), copied(BYTES, saved, length), length) &&
+           is_kept(KEY, keyed, saved, 7) && holds(BYTES, saved, length);
+  return right && load(v, keyed, loaded, saved, length) && save(keyed, loaded, again, length) &&
+         !memcmp(again, saved, length);
 }
 
-static bool is_state(const uint8_t *bytes, size_t digest) {
-  bool known = false;
+// What a hasher is saved as after this message, whose blocks lead to this chaining value; it goes
+// on from there. None of its memory is initialized.
+static void try_saved(const uint8_t *chaining, const uint8_t *message, size_t length) {
+  const size_t cut = length / 3, whole = length / 64 * 64;
+  uint8_t saved[MOST_SAVED], more[4 * MESSAGE];
+  nattizhu_state state, loaded;
+  write_saved(saved, chaining, length / 64, message + whole, length - whole);
+  memcpy(more, message, length);
+  memcpy(more + length, ramp, MESSAGE);
+  check(nattizhu_init(v, &state) && nattizhu_update(&state, message, cut) &&
+            nattizhu_update(&state, message + cut, length - cut) &&
+            is_saved_as(0, state.bytes, saved) && nattizhu_load(v, &loaded, saved, size + 72) &&
+            ends(&loaded, more, length) && nattizhu_update(&loaded, ramp, MESSAGE) &&
+            ends(&loaded, more, length + MESSAGE),
+        "a saved state", length);
+}
+
+// Before the first block the chaining value is the start of the paper. The blocks to which a
+// message is padded lead to one that is its digest.
+static void try_saved_pieces(void) {
+  uint8_t left[20], right[20], start[MAX], bytes[2 * MESSAGE], digest[MAX];
+  const size_t line = size < 32 ? size : size / 2;
+  from_hex("0123456789abcdeffedcba9876543210f0e1d2c3", left);
+  from_hex("1032547698badcfeefcdab89674523010f1e2d3c", right);
+  memcpy(start, left, line);
+  memcpy(start + line, right, size - line);
+  for (size_t length = 0; length < 64; length++)
+    try_saved(start, ramp, length);
+  for (size_t length = 0; length + 64 <= MESSAGE; length++) {
+    const size_t all = (length + 8) / 64 * 64 + 64, tail = length * 7 % 64;
+    const input in = inputs(NULL, 0, ramp, length);
+    by_call(DIGEST, &in, digest, size);
+    memset(bytes, 0, all);
+    memcpy(bytes, ramp, length);
+    bytes[length] = 0x80;
+    bytes[all - 8] = (uint8_t)(length * 8);
+    bytes[all - 7] = (uint8_t)(length >> 5);
+    memcpy(bytes + all, ramp, tail);
+    try_saved(digest, bytes, all + tail);
+  }
+}
+
+// The HMAC state after 3 bytes under a key of 20 bytes 1, 2 and so on: LibTomCrypt 1.18.2's words
+// after each masked key, one block, and the tail.
+static void try_saved_hmac(void) {
+  static const char *const words[VARIANTS][2] = {
+      {"b8e59e1beda52fe06f5d006bc01c3aad", "aa621cf31d8bc030a45c02d3f1f62b1a"},
+      {"f8bc455df2f8776b6c2ad7716f001355ddb1e73b", "c63681a8e6e3eec6a70f1df0acbcbff94e9c2305"},
+      {"ebe4db5a045a3cee216e694b1fb32c22866b9406f89295629c53824e14479019",
+       "0f5f673119a81cb1bfa0dae25978a8a9990babace8fac6875cb5c761816c3727"},
+      {"309a1ec3383714c24ff99acc3220246437be47a1419976aa438636d5157f3ff2390f1f4d93500a8c",
+       "86237896279179c88628c0f2d64f0dc8447cc13d4f549bd1e4d4d5253240e90368bffd7f7443c598"}};
+  const input in = inputs(ramp + 1, 20, ramp, 150);
+  uint8_t chaining[MAX], saved[MOST_SAVED], tag[MAX], wanted[MAX];
+  nattizhu_hmac_state state, loaded;
   for (int i = 0; i < VARIANTS; i++)
-    known |= digest == (size_t)ALL[i] / 8;
-  return known && is_saved(bytes + 1, digest);
-}
-
-static bool is_hmac_state(const uint8_t *bytes) {
-  const size_t digest = bytes[0] & 127;
-  return bytes[0] >= 128 && is_state(bytes, digest) && is_saved(bytes + 1 + digest + 72, digest);
+    for (size_t part = 0; part < 2 && v == ALL[i]; part++) {
+      from_hex(words[i][part], chaining);
+      write_saved(saved + part * (size + 72), chaining, 1, ramp, part ? 0 : 3);
+    }
+  by_call(HMAC, &in, wanted, size);
+  check(nattizhu_hmac_init(v, &state, ramp + 1, 20) && nattizhu_hmac_update(&state, ramp, 3) &&
+            is_saved_as(1, state.bytes, saved) &&
+            nattizhu_hmac_load(v, &loaded, saved, 2 * (size + 72)) &&
+            nattizhu_hmac_update(&loaded, ramp + 3, 147) &&
+            nattizhu_hmac_final(&loaded, tag, size) && !memcmp(tag, wanted, size) &&
+            nattizhu_hmac_verify(&loaded, wanted, size),
+        "a saved HMAC state", 0);
 }
 
 // Bytes that may be no state: each call takes them exactly if they are one, and writes nothing if
-// they are none. `tag` is that of the state from which they were made.
-static void try_bytes(const uint8_t *bytes, const uint8_t *tag, size_t at) {
-  const bool right = is_state(bytes, bytes[0]), right_hmac = is_hmac_state(bytes);
-  nattizhu_state *state = (nattizhu_state *)(void *)copied(STATE, bytes, STATE_SIZE);
-  nattizhu_hmac_state *hmac = (nattizhu_hmac_state *)(void *)copied(KEY, bytes, HMAC_STATE_SIZE);
+// they are none. Other bytes where they mean nothing make no difference. `tag` is that of the state
+// from which they were made.
+static void try_bytes(int keyed, const uint8_t *bytes, const uint8_t *tag, size_t at) {
+  const size_t all = STATE_SIZES[keyed], digest = bytes[0] & (keyed ? 127 : 255);
+  uint8_t other[HMAC_STATE_SIZE], saved[MOST_SAVED] = {0}, again[MOST_SAVED], out[MAX];
+  bool means[HMAC_STATE_SIZE];
+  const bool right = is_state(keyed, bytes, means);
+  const size_t behind = right ? 1 + saved_size(keyed, digest) : all;
+  memcpy(other, bytes, all);
+  muddle(keyed, other);
+  for (size_t i = 1; i < behind; i++)
+    saved[i - 1] = means[i] ? bytes[i] : 0;
+  uint8_t *one = copied(STATE, bytes, all), *two = copied(KEY, other, all);
   for (int i = 0; i < VARIANTS; i++) {
-    const size_t length = (size_t)ALL[i] / 8;
-    bool fits = right && length == bytes[0];
-    uint8_t *out = output(OUT, length);
-    check(nattizhu_final(state, out, length) == fits && (fits || holds(OUT, NULL, length)),
+    const size_t length = (size_t)ALL[i] / 8, room = saved_size(keyed, length);
+    const bool fits = right && length == digest;
+    check(end(keyed, one, output(OUT, length), length) == fits &&
+              (fits || holds(OUT, NULL, length)),
           "the end of bytes as a state", at);
-    fits = right_hmac && length == bytes[0] - 128u;
-    out = output(OUT, length);
-    check(nattizhu_hmac_final(hmac, out, length) == fits && (fits || holds(OUT, NULL, length)),
-          "the end of bytes as an HMAC state", at);
-    check(nattizhu_hmac_verify(hmac, fits ? out : copied(OUT, tag, length), length) == fits,
-          "a tag verified by bytes as an HMAC state", at);
+    memcpy(out, fits ? in_room(OUT, length) : tag, length);
+    check(end(keyed, two, output(OUT, length), length) == fits &&
+              holds(OUT, fits ? out : NULL, length),
+          "the end of other bytes as the state", at);
+    check(save(keyed, one, output(OUT, room), room) == fits &&
+              holds(OUT, fits ? saved : NULL, room) &&
+              save(keyed, two, output(OUT, room), room) == fits &&
+              holds(OUT, fits ? saved : NULL, room),
+          "bytes saved as a state", at);
+    if (keyed)
+      check(nattizhu_hmac_verify((const nattizhu_hmac_state *)(void *)one, copied(OUT, out, length),
+                                 length) == fits &&
+                nattizhu_hmac_verify((const nattizhu_hmac_state *)(void *)two, out, length) == fits,
+            "a tag verified by bytes as an HMAC state", at);
   }
+  check(holds(STATE, bytes, all) && holds(KEY, other, all), "a state that stays", at);
   for (size_t length = 0; length < 20; length += 10) {
-    check(holds(STATE, bytes, STATE_SIZE) && holds(KEY, bytes, HMAC_STATE_SIZE),
-          "a state that stays", at);
+    const size_t room = saved_size(keyed, digest);
+    one = copied(STATE, bytes, all), two = copied(KEY, other, all);
     const uint8_t *text = copied(BYTES, ramp, length);
-    check(nattizhu_update(state, text, length) == right &&
-              (right ? is_state(state->bytes, bytes[0]) : holds(STATE, bytes, STATE_SIZE)),
+    check(update(keyed, one, text, length) == right && update(keyed, two, text, length) == right,
           "an update of bytes as a state", at);
-    check(nattizhu_hmac_update(hmac, text, length) == right_hmac &&
-              (right_hmac ? is_hmac_state(hmac->bytes) : holds(KEY, bytes, HMAC_STATE_SIZE)),
-          "an update of bytes as an HMAC state", at);
+    if (!right)
+      check(holds(STATE, bytes, all) && holds(KEY, other, all), "a state that stays", at);
+    else
+      check(save(keyed, one, output(OUT, room), room) && save(keyed, two, again, room) &&
+                holds(OUT, again, room) && (length || !memcmp(again, saved, room)) &&
+                one[0] == bytes[0] && two[0] == bytes[0] &&
+                !memcmp(one + behind, bytes + behind, all - behind) &&
+                !memcmp(two + behind, other + behind, all - behind) &&
+                all_are(beside(STATE, all), BESIDE, 7) && all_are(beside(KEY, all), BESIDE, 7),
+            "what an update makes of bytes as a state", at);
+  }
+}
+
+// So many bytes that may be no saved state: each variant loads them exactly if they are one of its
+// own, and saves them again. Otherwise the state stays.
+static void try_load(int keyed, const uint8_t *saved, size_t length, size_t at) {
+  const size_t all = STATE_SIZES[keyed];
+  for (int i = 0; i < VARIANTS; i++) {
+    const size_t digest = (size_t)ALL[i] / 8;
+    const bool right = is_saved(keyed, digest, saved, length);
+    uint8_t *state = output(STATE, all);
+    bool as_wanted = load(ALL[i], keyed, state, copied(BYTES, saved, length), length) == right &&
+                     holds(BYTES, saved, length);
+    if (!right)
+      as_wanted &= holds(STATE, NULL, all);
+    else
+      as_wanted &= state[0] == digest + (keyed ? 128 : 0) &&
+                   all_are(state + 1 + length, all - 1 - length, 7) &&
+                   all_are(beside(STATE, all), BESIDE, 7) &&
+                   save(keyed, state, output(OUT, length), length) && holds(OUT, saved, length);
+    check(as_wanted, keyed ? "bytes loaded as an HMAC state" : "bytes loaded as a state", at);
   }
 }
 
 // Zeros; and states of both kinds after some lengths, with each value of the first byte, which has
-// the variant and the kind, and with some values of each other byte.
+// the variant and the kind, and with some values of each other byte. The same of what these are
+// saved as, in any number.
 static void try_states(void) {
-  static const uint8_t zeros[HMAC_STATE_SIZE] = {0}, values[] = {0, 63, 64, 255};
-  try_bytes(zeros, ramp, 0);
+  static const uint8_t zeros[HMAC_STATE_SIZE] = {0}, values[] = {0, 1, 63, 64, 255};
+  for (int keyed = 0; keyed < 2; keyed++) {
+    try_bytes(keyed, zeros, ramp, 0);
+    for (size_t n = 0; n <= MOST_SAVED + 1; n++)
+      try_load(keyed, zeros, n, n);
+  }
   for (size_t length = 0; length <= 70; length += 70)
-    for (int kind = 0; kind < 2; kind++) {
-      uint8_t bytes[HMAC_STATE_SIZE] = {0}, tag[MAX] = {0};
+    for (int keyed = 0; keyed < 2; keyed++) {
+      const size_t all = saved_size(keyed, size);
+      uint8_t bytes[HMAC_STATE_SIZE] = {0}, saved[HMAC_STATE_SIZE] = {0}, tag[MAX] = {0};
       nattizhu_state state;
       nattizhu_hmac_state hmac;
+      memset(&state, 0, sizeof state);
+      memset(&hmac, 0, sizeof hmac);
       check(nattizhu_init(v, &state) && nattizhu_update(&state, ramp, length) &&
                 nattizhu_hmac_init(v, &hmac, ramp, 20) &&
                 nattizhu_hmac_update(&hmac, ramp, length) && nattizhu_hmac_final(&hmac, tag, size),
             "states to change", length);
-      memcpy(bytes, kind ? hmac.bytes : state.bytes, kind ? HMAC_STATE_SIZE : STATE_SIZE);
+      memcpy(bytes, keyed ? hmac.bytes : state.bytes, STATE_SIZES[keyed]);
+      check(save(keyed, bytes, saved, all), "a state to load", length);
       for (size_t at = 0; at < HMAC_STATE_SIZE; at++)
-        for (int i = 0; i < (at ? 4 : 256); i++) {
+        for (int i = 0; i < (at ? 5 : 256); i++) {
           const uint8_t kept = bytes[at];
           bytes[at] = at ? values[i] : (uint8_t)i;
-          try_bytes(bytes, tag, at);
+          for (int as = 0; as < 2; as++)
+            try_bytes(as, bytes, tag, at);
           bytes[at] = kept;
         }
+      for (size_t n = 0; n <= MOST_SAVED + 1; n++)
+        for (int as = 0; as < 2; as++)
+          try_load(as, saved, n, n);
+      for (size_t at = 0; at < all; at++)
+        for (int i = 0; i < 5; i++) {
+          const uint8_t kept = saved[at];
+          saved[at] = values[i];
+          try_load(keyed, saved, all, at);
+          saved[at] = kept;
+        }
     }
-}
-
-// The HMAC state of RIPEMD-160 after the first 3 bytes of "Hi There" under 20 bytes 0x0b: OpenSSL's
-// words after each masked key, one block, and the tail. It goes on to the tag of RFC 2286.
-static void try_saved_hmac(void) {
-  nattizhu_hmac_state state;
-  uint8_t tag[20], wanted[20];
-  memset(&state, 0, sizeof state);
-  state.bytes[0] = 128 + 20;
-  from_hex("b31c08e6adb5b8f2c4215470fdaf49b04ee8f016", state.bytes + 1);
-  from_hex("7c36c7b97037e8e862566eddbc10dfd80504f999", state.bytes + 1 + 92);
-  state.bytes[1 + 20] = state.bytes[1 + 92 + 20] = 1;
-  state.bytes[1 + 28] = 3;
-  memcpy(state.bytes + 1 + 29, "Hi ", 3);
-  from_hex("24cb4bd67d20fc1a5d2ed7732dcc39377f0a5668", wanted);
-  check(nattizhu_hmac_update(&state, (const uint8_t *)"There", 5) &&
-            nattizhu_hmac_final(&state, tag, 20) && !memcmp(tag, wanted, 20) &&
-            nattizhu_hmac_verify(&state, wanted, 20),
-        "a saved HMAC state", 0);
 }
 
 // ---- what is refused
@@ -436,6 +643,7 @@ static void try_refused(nattizhu_variant variant) {
 static void try_no_variant(void) {
   static const uint32_t numbers[] = {0,   1,   20,  64,  127,         129,
                                      159, 384, 416, 511, 65536 + 160, UINT32_MAX};
+  static const uint8_t zeros[MOST_SAVED] = {0};
   const input in = inputs(ramp, 20, ramp, 3);
   uint8_t tag[MAX];
   by_call(HMAC, &in, tag, size);
@@ -447,7 +655,11 @@ static void try_no_variant(void) {
     const nattizhu_variant none = (nattizhu_variant)numbers[i];
     nattizhu_state *state = (nattizhu_state *)(void *)output(STATE, STATE_SIZE);
     nattizhu_hmac_state *hmac = (nattizhu_hmac_state *)(void *)output(OUT, HMAC_STATE_SIZE);
-    check(!nattizhu_digest_size(none) && !nattizhu_init(none, state) &&
+    bool refused = true;
+    for (int k = 0; k < VARIANTS; k++) // these are a state of each variant
+      refused &= !nattizhu_load(none, state, zeros, saved_size(0, (size_t)ALL[k] / 8)) &&
+                 !nattizhu_hmac_load(none, hmac, zeros, saved_size(1, (size_t)ALL[k] / 8));
+    check(refused && !nattizhu_digest_size(none) && !nattizhu_init(none, state) &&
               !nattizhu_hmac_init(none, hmac, ramp, 3) &&
               !nattizhu_hmac_verify_text(none, ramp, 20, ramp, 3, tag, size) &&
               holds(STATE, NULL, STATE_SIZE) && holds(OUT, NULL, HMAC_STATE_SIZE),
@@ -503,15 +715,22 @@ static void try_tag(const input *in, uint8_t *tag) {
   uint8_t *bytes = output(STATE, HMAC_STATE_SIZE), *outer = bytes + 1 + size + 72;
   uint8_t *behind = outer + size + 72;
   const size_t rest = HMAC_STATE_SIZE - (size_t)(behind - bytes);
-  nattizhu_hmac_state *state = (nattizhu_hmac_state *)(void *)bytes;
+  nattizhu_hmac_state *state = (nattizhu_hmac_state *)(void *)bytes, loaded;
+  uint8_t saved[MOST_SAVED];
   try_call(v, HMAC, in, tag, size);
   bool right = nattizhu_hmac_init(v, state, copied(KEY, in->key, in->key_length), in->key_length) &&
-               saves(bytes + 1, 1, ramp, 0) && all_are(behind, rest, 0);
-  memset(behind, 9, rest);
+               has(bytes + 1, 1, ramp, 0) && all_are(behind, rest, 7);
+  muddle(1, bytes);
   right &= nattizhu_hmac_update(state, copied(BYTES, in->bytes, third), third);
+  muddle(1, bytes);
+  memset(behind, 9, rest);
   right &= nattizhu_hmac_update(state, copied(BYTES, in->bytes + third, more), more);
-  right &= bytes[0] == 128 + size && saves(outer, 1, ramp, 0) && all_are(behind, rest, 9) &&
-           saves(bytes + 1, 1 + whole, in->bytes + 64 * whole, in->length % 64);
+  right &= has(outer, 1, ramp, 0) &&
+           has(bytes + 1, 1 + whole, in->bytes + 64 * whole, in->length % 64) &&
+           nattizhu_hmac_save(state, saved, 2 * (size + 72)) && is_kept(STATE, 1, saved, 9) &&
+           is_saved_as(1, bytes, saved) && nattizhu_hmac_load(v, &loaded, saved, 2 * (size + 72)) &&
+           nattizhu_hmac_verify(&loaded, tag, size);
+  muddle(1, bytes);
   const nattizhu_hmac_state kept = *state;
   const uint8_t *key = copied(KEY, in->key, in->key_length);
   const uint8_t *text = copied(BYTES, in->bytes, in->length);
@@ -625,12 +844,12 @@ int main(int argc, char **argv) {
     try_file(argv[1], "tags.txt", HMAC);
     try_file(argv[1], "keys.txt", PBKDF2);
     try_published(argv[1]);
-    if (size == 20)
-      try_saved_hmac();
+    try_saved_hmac();
     try_many();
     try_key_lists();
     try_overlaps();
     try_pieces();
+    try_saved_pieces();
     try_states();
     try_refused(v);
     try_no_variant();

@@ -159,26 +159,96 @@ static void try_outputs(unsigned kind, nattizhu_variant v) {
   free(bytes.bytes);
 }
 
-// Bytes as a state: of a variant's, of which some are replaced by bytes of the input.
+// Some bytes of a state, or of what it is saved as, are replaced by bytes of the input.
 static void replace(uint8_t *state, size_t length) {
   for (size_t n = byte() % 8; n && left; n--)
     state[number() % length] = byte();
 }
 
-// A state is taken by all calls or by none. What is refused stays, and so does what takes in no
-// bytes.
-static void try_state(nattizhu_variant v) {
+// What a state is saved as. If it is none, or is not saved as so many bytes, nothing is written.
+static piece saved(const nattizhu_state *state, size_t length) {
+  piece it = {filled(length, 7), length};
+  if (!nattizhu_save(state, it.bytes, length)) {
+    MUST(all_are(it.bytes, length, 7));
+    it.length = 0;
+  }
+  return it;
+}
+
+static piece saved_hmac(const nattizhu_hmac_state *state, size_t length) {
+  piece it = {filled(length, 7), length};
+  if (!nattizhu_hmac_save(state, it.bytes, length)) {
+    MUST(all_are(it.bytes, length, 7));
+    it.length = 0;
+  }
+  return it;
+}
+
+static bool are_equal(piece one, piece other) {
+  return one.length == other.length && !memcmp(one.bytes, other.bytes, one.length);
+}
+
+// Bytes are loaded exactly if they are what a state is saved as: then it is saved as these again.
+// Otherwise the state stays.
+static void try_load(nattizhu_variant v, piece bytes) {
   nattizhu_state state, before;
+  memset(&state, 7, sizeof state);
+  before = state;
+  if (nattizhu_load(v, &state, bytes.bytes, bytes.length)) {
+    const piece again = saved(&state, NATTIZHU_SAVED_SIZE(nattizhu_digest_size(v)));
+    MUST(are_equal(bytes, again));
+    free(again.bytes);
+  } else {
+    MUST(!memcmp(&state, &before, sizeof state));
+  }
+}
+
+static void try_hmac_load(nattizhu_variant v, piece bytes) {
+  nattizhu_hmac_state state, before;
+  memset(&state, 7, sizeof state);
+  before = state;
+  if (nattizhu_hmac_load(v, &state, bytes.bytes, bytes.length)) {
+    const piece again = saved_hmac(&state, NATTIZHU_HMAC_SAVED_SIZE(nattizhu_digest_size(v)));
+    MUST(are_equal(bytes, again));
+    free(again.bytes);
+  } else {
+    MUST(!memcmp(&state, &before, sizeof state));
+  }
+}
+
+// A state is taken by all calls or by none. What is refused stays; what takes in no bytes is saved
+// as before. Where a state was loaded from what it is saved as, it goes on in the same way.
+static void try_state(nattizhu_variant v) {
+  nattizhu_state state, before, loaded;
   const piece bytes = take();
   memset(&state, byte(), sizeof state);
   if (!nattizhu_init(v, &state))
     MUST(nattizhu_digest_size(v) == 0);
   replace(state.bytes, sizeof state);
   before = state;
+  const size_t size = state.bytes[0], all = NATTIZHU_SAVED_SIZE(size);
+  const piece first = saved(&state, all);
   const bool is_state = nattizhu_update(&state, NULL, 0);
-  MUST(!memcmp(&state, &before, sizeof state));
+  const piece same = saved(&state, all);
+  MUST(is_state == (first.length != 0) && are_equal(first, same));
+  MUST(is_state || !memcmp(&state, &before, sizeof state));
   MUST(nattizhu_update(&state, bytes.bytes, bytes.length) == is_state);
   MUST(is_state || !memcmp(&state, &before, sizeof state));
+  if (is_state) {
+    MUST(nattizhu_load((nattizhu_variant)(8 * size), &loaded, first.bytes, first.length));
+    MUST(nattizhu_update(&loaded, bytes.bytes, bytes.length));
+    const piece one = saved(&state, all), other = saved(&loaded, all);
+    MUST(one.length && are_equal(one, other));
+    free(one.bytes);
+    free(other.bytes);
+  }
+  replace(first.bytes, all);
+  const piece forged = {first.bytes, all}, any = saved(&state, output_length(all));
+  try_load(v, forged);
+  try_load(v, bytes);
+  free(any.bytes);
+  free(first.bytes);
+  free(same.bytes);
   const size_t length = output_length(state.bytes[0]);
   uint8_t *out = filled(length, 7);
   const bool done = nattizhu_final(&state, out, length);
@@ -189,17 +259,36 @@ static void try_state(nattizhu_variant v) {
 }
 
 static void try_hmac_state(nattizhu_variant v) {
-  nattizhu_hmac_state state, before;
+  nattizhu_hmac_state state, before, loaded;
   const piece key = take(), bytes = take();
   memset(&state, byte(), sizeof state);
   if (!nattizhu_hmac_init(v, &state, key.bytes, key.length))
     MUST(nattizhu_digest_size(v) == 0);
   replace(state.bytes, sizeof state);
   before = state;
+  const size_t size = state.bytes[0] & 127, all = NATTIZHU_HMAC_SAVED_SIZE(size);
+  const piece first = saved_hmac(&state, all);
   const bool is_state = nattizhu_hmac_update(&state, NULL, 0);
-  MUST(!memcmp(&state, &before, sizeof state));
+  const piece same = saved_hmac(&state, all);
+  MUST(is_state == (first.length != 0) && are_equal(first, same));
+  MUST(is_state || !memcmp(&state, &before, sizeof state));
   MUST(nattizhu_hmac_update(&state, bytes.bytes, bytes.length) == is_state);
   MUST(is_state || !memcmp(&state, &before, sizeof state));
+  if (is_state) {
+    MUST(nattizhu_hmac_load((nattizhu_variant)(8 * size), &loaded, first.bytes, first.length));
+    MUST(nattizhu_hmac_update(&loaded, bytes.bytes, bytes.length));
+    const piece one = saved_hmac(&state, all), other = saved_hmac(&loaded, all);
+    MUST(one.length && are_equal(one, other));
+    free(one.bytes);
+    free(other.bytes);
+  }
+  replace(first.bytes, all);
+  const piece forged = {first.bytes, all}, any = saved_hmac(&state, output_length(all));
+  try_hmac_load(v, forged);
+  try_hmac_load(v, bytes);
+  free(any.bytes);
+  free(first.bytes);
+  free(same.bytes);
   const size_t length = output_length(state.bytes[0] & 127);
   uint8_t *out = filled(length, 7);
   const bool done = nattizhu_hmac_final(&state, out, length);

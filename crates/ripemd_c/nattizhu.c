@@ -11,6 +11,8 @@ bool nattizhu_each_nonnull(nattizhu_variant, const uint8_t *, size_t, size_t, ui
 bool nattizhu_list_nonnull(nattizhu_variant, const nattizhu_message *, size_t, uint8_t *, size_t);
 bool nattizhu_update_nonnull(nattizhu_state *, const uint8_t *, size_t);
 bool nattizhu_final_nonnull(const nattizhu_state *, uint8_t *, size_t);
+bool nattizhu_save_nonnull(const nattizhu_state *, uint8_t *, size_t);
+bool nattizhu_load_nonnull(nattizhu_variant, nattizhu_state *, const uint8_t *, size_t);
 bool nattizhu_hmac_nonnull(nattizhu_variant, const uint8_t *, size_t, const uint8_t *, size_t,
                            uint8_t *, size_t);
 bool nattizhu_hmac_verify_text_nonnull(nattizhu_variant, const uint8_t *, size_t, const uint8_t *,
@@ -23,6 +25,8 @@ bool nattizhu_hmac_init_nonnull(nattizhu_variant, nattizhu_hmac_state *, const u
 bool nattizhu_hmac_update_nonnull(nattizhu_hmac_state *, const uint8_t *, size_t);
 bool nattizhu_hmac_final_nonnull(const nattizhu_hmac_state *, uint8_t *, size_t);
 bool nattizhu_hmac_verify_nonnull(const nattizhu_hmac_state *, const uint8_t *, size_t);
+bool nattizhu_hmac_save_nonnull(const nattizhu_hmac_state *, uint8_t *, size_t);
+bool nattizhu_hmac_load_nonnull(nattizhu_variant, nattizhu_hmac_state *, const uint8_t *, size_t);
 bool nattizhu_pbkdf2_nonnull(nattizhu_variant, const uint8_t *, size_t, const uint8_t *, size_t,
                              uint32_t, uint8_t *, size_t);
 bool nattizhu_pbkdf2_list_nonnull(nattizhu_variant, const nattizhu_message *, size_t,
@@ -100,6 +104,15 @@ bool nattizhu_final(const nattizhu_state *state, uint8_t *digest, size_t digest_
   return nattizhu_final_nonnull(state, place(digest), digest_length);
 }
 
+bool nattizhu_save(const nattizhu_state *state, uint8_t *saved, size_t saved_length) {
+  return nattizhu_save_nonnull(state, place(saved), saved_length);
+}
+
+bool nattizhu_load(nattizhu_variant variant, nattizhu_state *state, const uint8_t *saved,
+                   size_t saved_length) {
+  return nattizhu_load_nonnull(variant, state, some(saved), saved_length);
+}
+
 bool nattizhu_hmac(nattizhu_variant variant, const uint8_t *key, size_t key_length,
                    const uint8_t *text, size_t text_length, uint8_t *tag, size_t tag_length) {
   return nattizhu_hmac_nonnull(variant, some(key), key_length, some(text), text_length, place(tag),
@@ -159,6 +172,15 @@ bool nattizhu_hmac_final(const nattizhu_hmac_state *state, uint8_t *tag, size_t 
 
 bool nattizhu_hmac_verify(const nattizhu_hmac_state *state, const uint8_t *tag, size_t tag_length) {
   return nattizhu_hmac_verify_nonnull(state, some(tag), tag_length);
+}
+
+bool nattizhu_hmac_save(const nattizhu_hmac_state *state, uint8_t *saved, size_t saved_length) {
+  return nattizhu_hmac_save_nonnull(state, place(saved), saved_length);
+}
+
+bool nattizhu_hmac_load(nattizhu_variant variant, nattizhu_hmac_state *state, const uint8_t *saved,
+                        size_t saved_length) {
+  return nattizhu_hmac_load_nonnull(variant, state, some(saved), saved_length);
 }
 
 bool nattizhu_pbkdf2(nattizhu_variant variant, const uint8_t *password, size_t password_length,

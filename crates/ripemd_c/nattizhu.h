@@ -19,7 +19,7 @@
  * - What a call writes overlaps nothing else that it is given; what it only reads may overlap.
  * - While a call runs, no other thread writes what it reads, or reads or writes what it writes.
  *
- * Outputs, and a state before init, need not be initialized.
+ * Outputs, and a state before init or load, need not be initialized.
  *
  * No call allocates memory, keeps a pointer, or uses global data that changes: all calls may
  * run at once in any number of threads. Nothing is wiped from memory, neither keys nor texts. */
@@ -47,6 +47,10 @@
 /* Bytes of a hash state and of an HMAC state, of every variant. */
 #define NATTIZHU_STATE_SIZE 113
 #define NATTIZHU_HMAC_STATE_SIZE 225
+
+/* Bytes that a hash state and an HMAC state are saved as, whose digests have `size` bytes. */
+#define NATTIZHU_SAVED_SIZE(size) ((size) + 72)
+#define NATTIZHU_HMAC_SAVED_SIZE(size) (2 * NATTIZHU_SAVED_SIZE(size))
 
 /* Compilers warn where the answer of a function with this mark is ignored. */
 #if defined(__cplusplus) ? __cplusplus >= 201703L                                                  \
@@ -107,11 +111,11 @@ NATTIZHU_CHECKED bool nattizhu_list(nattizhu_variant variant, const nattizhu_mes
 
 /* ---- Digests of messages in pieces
  *
- * A hash state is bytes without pointers, the same on every machine: it may be copied, compared,
- * stored, and loaded by another process. Its first byte is the size of its digests, and the next
- * `size + 72` are what the library in Rattle, Python and Rust save of a hasher; those behind them
- * are zeros after init, and no call looks at them. States are not authenticated: only their layout
- * is checked. Zeros are no state. */
+ * A hash state is bytes without pointers, the same on every machine: it may be copied, also to
+ * another process. Its first byte is the size of its digests. Some bytes mean nothing and need not
+ * be initialized. To store a state or to compare states, save them. States are not authenticated:
+ * each call checks the first byte and the number of bytes that wait for a block, and nothing else.
+ * Zeros are no state. */
 typedef struct nattizhu_state {
   uint8_t bytes[NATTIZHU_STATE_SIZE];
 } nattizhu_state;
@@ -126,6 +130,17 @@ NATTIZHU_CHECKED bool nattizhu_update(nattizhu_state *state, const uint8_t *byte
  * state's variant. The state stays as it is, and the message may go on. */
 NATTIZHU_CHECKED bool nattizhu_final(const nattizhu_state *state, uint8_t *digest,
                                      size_t digest_length);
+
+/* Writes the bytes that the state is saved as: those that the library in Rattle, Python, Rust and
+ * JavaScript save of a hasher, and the same of equal states. `saved_length` has to be
+ * NATTIZHU_SAVED_SIZE of the size of the state's digests. The state stays as it is. */
+NATTIZHU_CHECKED bool nattizhu_save(const nattizhu_state *state, uint8_t *saved,
+                                    size_t saved_length);
+
+/* Writes the state that is saved as these bytes, all of them; returns false if no state of the
+ * variant is. */
+NATTIZHU_CHECKED bool nattizhu_load(nattizhu_variant variant, nattizhu_state *state,
+                                    const uint8_t *saved, size_t saved_length);
 
 /* ---- Tags (HMAC)
  *
@@ -154,10 +169,9 @@ NATTIZHU_CHECKED bool nattizhu_hmac_list(nattizhu_variant variant, const uint8_t
                                          size_t key_length, const nattizhu_message *texts,
                                          size_t count, uint8_t *tags, size_t tags_length);
 
-/* An HMAC state is as secret as the key: whoever has it can make tags. For many tags under one key,
- * copy the state after init. It is bytes as a hash state is. Its first byte is 128 plus the size of
- * its tags, and the next `2 * (size + 72)` are what the inner hasher and then the outer one are
- * saved as. */
+/* An HMAC state, and what it is saved as, are as secret as the key: whoever has them can make tags.
+ * For many tags under one key, copy the state after init. It is bytes as a hash state is. Its first
+ * byte is 128 plus the size of its tags. */
 typedef struct nattizhu_hmac_state {
   uint8_t bytes[NATTIZHU_HMAC_STATE_SIZE];
 } nattizhu_hmac_state;
@@ -178,6 +192,14 @@ NATTIZHU_CHECKED bool nattizhu_hmac_final(const nattizhu_hmac_state *state, uint
  * nattizhu_hmac_verify_text does of a whole text; false too if the state is no HMAC state. */
 NATTIZHU_CHECKED bool nattizhu_hmac_verify(const nattizhu_hmac_state *state, const uint8_t *tag,
                                            size_t tag_length);
+
+/* As nattizhu_save and nattizhu_load, with the bytes that an HMAC state is saved as: those of the
+ * inner hasher, and then those of the outer one. `saved_length` has to be NATTIZHU_HMAC_SAVED_SIZE
+ * of the size of the state's tags. */
+NATTIZHU_CHECKED bool nattizhu_hmac_save(const nattizhu_hmac_state *state, uint8_t *saved,
+                                         size_t saved_length);
+NATTIZHU_CHECKED bool nattizhu_hmac_load(nattizhu_variant variant, nattizhu_hmac_state *state,
+                                         const uint8_t *saved, size_t saved_length);
 
 /* ---- Keys from passwords (PBKDF2, RFC 8018) */
 

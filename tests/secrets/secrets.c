@@ -48,6 +48,22 @@ static void is_secret(const uint8_t *bytes, size_t length) {
       must(unknown[i], "an output that is known");
 }
 
+// An output, or a part of it, that shows nothing of secrets, and is written: all of it is known.
+static void is_known(const uint8_t *bytes, size_t length) {
+  must(VALGRIND_CHECK_MEM_IS_DEFINED(bytes, length) == 0, "a secret where none has to be");
+}
+
+// What a hasher is saved as after so many bytes, secret ones. Known are the number of blocks, the
+// length of the tail, and the zeros behind it.
+static void is_saved(const uint8_t *saved, size_t size, size_t length) {
+  const size_t tail = length % NATTIZHU_BLOCK_SIZE;
+  if (length != tail)
+    is_secret(saved, size);
+  is_known(saved + size, 9);
+  is_secret(saved + size + 9, tail);
+  is_known(saved + size + 9 + tail, 63 - tail);
+}
+
 // What verification answers is for everyone to know.
 static bool revealed(bool answer) {
   (void)VALGRIND_MAKE_MEM_DEFINED(&answer, sizeof answer);
@@ -56,8 +72,8 @@ static bool revealed(bool answer) {
 
 static void try_messages(nattizhu_variant v, const uint8_t *message, size_t length) {
   const size_t size = nattizhu_digest_size(v);
-  uint8_t digest[MAX], same[MAX];
-  nattizhu_state state, copy;
+  uint8_t digest[MAX], same[MAX], saved[NATTIZHU_SAVED_SIZE(MAX)];
+  nattizhu_state state, copy, loaded;
   must(nattizhu_digest(v, message, length, digest, size), "digest");
   must(nattizhu_init(v, &state), "init");
   must(nattizhu_update(&state, message, length / 3), "update");
@@ -66,13 +82,18 @@ static void try_messages(nattizhu_variant v, const uint8_t *message, size_t leng
   must(nattizhu_final(&copy, same, size), "final");
   is_secret(digest, size);
   is_secret(same, size);
+  must(nattizhu_save(&copy, saved, NATTIZHU_SAVED_SIZE(size)), "save");
+  is_saved(saved, size, length);
+  must(nattizhu_load(v, &loaded, saved, NATTIZHU_SAVED_SIZE(size)), "load");
+  must(nattizhu_final(&loaded, same, size), "final");
+  is_secret(same, size);
 }
 
 static void try_texts(nattizhu_variant v, const uint8_t *key, size_t key_length,
                       const uint8_t *text, size_t length) {
   const size_t size = nattizhu_digest_size(v);
-  uint8_t tag[MAX], same[MAX];
-  nattizhu_hmac_state state, copy;
+  uint8_t tag[MAX], same[MAX], saved[NATTIZHU_HMAC_SAVED_SIZE(MAX)];
+  nattizhu_hmac_state state, copy, loaded;
   must(nattizhu_hmac(v, key, key_length, text, length, tag, size), "hmac");
   must(nattizhu_hmac_init(v, &state, key, key_length), "hmac_init");
   must(nattizhu_hmac_update(&state, text, length / 3), "hmac_update");
@@ -81,6 +102,11 @@ static void try_texts(nattizhu_variant v, const uint8_t *key, size_t key_length,
   must(nattizhu_hmac_final(&copy, same, size), "hmac_final");
   is_secret(tag, size);
   is_secret(same, size);
+  must(nattizhu_hmac_save(&copy, saved, NATTIZHU_HMAC_SAVED_SIZE(size)), "hmac_save");
+  is_saved(saved, size, NATTIZHU_BLOCK_SIZE + length);
+  is_saved(saved + NATTIZHU_SAVED_SIZE(size), size, NATTIZHU_BLOCK_SIZE);
+  must(nattizhu_hmac_load(v, &loaded, saved, NATTIZHU_HMAC_SAVED_SIZE(size)), "hmac_load");
+  must(revealed(nattizhu_hmac_verify(&loaded, tag, size)), "hmac_verify of a loaded state");
   must(revealed(nattizhu_hmac_verify(&copy, tag, size)), "hmac_verify");
   must(revealed(nattizhu_hmac_verify_text(v, key, key_length, text, length, tag, size)),
        "hmac_verify_text");
