@@ -1,5 +1,5 @@
 // The memory of the WebAssembly module. Below STATE is the module's stack. Behind it are places for a state, for a
-// digest or a tag, and for what a call reads. No call needs what an earlier one left there.
+// digest or a tag, and for what a call reads or what it saves a state as. No call needs what an earlier one left there.
 export const STATE = 65536, OUT = STATE + 256, IN = STATE + 320;
 
 /** The same addresses for the module. */

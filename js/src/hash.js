@@ -1,5 +1,6 @@
 // Hash functions in the form of @noble/hashes 1.x, over an engine (`run`). A kind says how the module is called for
-// one function: `size` bytes of a digest or a tag, `length` of a state, whether it is `keyed`, and the calls.
+// one function: `size` bytes of a digest or a tag, `length` of a state, whether it is `keyed`, the calls, and how a
+// state is saved and loaded.
 import { IN, OUT, PIECE, STATE, big } from './engine.js';
 import { abytes, toBytes } from './input.js';
 
@@ -24,10 +25,11 @@ export const update = (run, kind, state, bytes) => run(Math.min(bytes.length, PI
   state.set(memory.subarray(STATE, STATE + kind.length));
 });
 
-/** The digest or the tag of a state; undefined, where these bytes are none. */
+/** The digest or the tag of a state. */
 export const final = (run, kind, state) => run(0, kind.keyed, (calls, memory, output) => {
   memory.set(state, STATE);
-  return kind.final(calls) ? output(kind.size) : undefined;
+  kind.final(calls);
+  return output(kind.size);
 });
 
 /** A message in pieces, as its state between the calls. */
@@ -86,7 +88,7 @@ export class Hash {
 
   save() {
     this.#check();
-    return this.#state.slice(1);
+    return this.#kind.save(this.#state, this.#run);
   }
 
   destroy() {
@@ -97,10 +99,8 @@ export class Hash {
 
 /** The state that was saved as these bytes, as a Hash or an Hmac. */
 export function loaded(type, run, kind, saved) {
-  const bytes = abytes(saved, kind.length - 1), state = new Uint8Array(kind.length);
-  state[0] = kind.keyed ? 128 + kind.size : kind.size;
-  state.set(bytes, 1);
-  if (!final(run, kind, state)) throw new Error('saved state expected');
+  const state = kind.load(abytes(saved, kind.length - 1), run);
+  if (!state) throw new Error('saved state expected');
   return new type(run, kind, state);
 }
 

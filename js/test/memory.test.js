@@ -38,7 +38,8 @@ test('keyed calls leave nothing in the memory', async () => {
   const calls = [() => hmac(ripemd160, key, text), () => hmac(ripemd160, long, text), () => hmac(ripemd160, key, long),
     () => hmac.create(ripemd160, key), () => hmac.create(ripemd160, long), () => mac.update(text), () => mac.update(long),
     () => mac.clone().digest(), () => mac.clone().digestInto(new Uint8Array(20)), () => mac.verify(tag),
-    () => hmac.load(ripemd160, saved), () => hmac.verify(ripemd160, key, text, tag), () => hmac.verify(ripemd160, key, long, tag),
+    () => mac.save(), () => hmac.load(ripemd160, saved), () => hmac.verify(ripemd160, key, text, tag),
+    () => hmac.verify(ripemd160, key, long, tag),
     () => hmac.each(ripemd160, key, text, 10), () => hmac.list(ripemd160, key, [text, long, 'abc']),
     () => stream(hmac.create(ripemd160, key), [text, long]), () => pbkdf2(ripemd160, key, text, { c: 3, dkLen: 50 }),
     () => pbkdf2(ripemd160, long, text, { c: 2 }), () => pbkdf2(ripemd160, key, long, { c: 2, dkLen: 100000 }),
@@ -117,9 +118,10 @@ test('after a trap', async () => {
   const key = randomBytes(40), long = randomBytes(100000), pieces = ripemd160.create().update('a');
   const mac = hmac.create(ripemd160, key).update('a'), saved = [pieces.save(), mac.save()];
   for (const use of [() => ripemd160('abc'), () => ripemd160.create(), () => ripemd160(long), () => pieces.update('x'),
-    () => pieces.digest(), () => pieces.digestInto(new Uint8Array(20)), () => ripemd160.load(saved[0]),
+    () => pieces.digest(), () => pieces.digestInto(new Uint8Array(20)), () => pieces.save(), () => ripemd160.load(saved[0]),
     () => hmac(ripemd160, key, 'abc'), () => hmac.create(ripemd160, key), () => mac.update('x'), () => mac.digest(),
-    () => mac.verify(new Uint8Array(20)), () => hmac.load(ripemd160, saved[1]), () => pbkdf2(ripemd160, key, 'salt', { c: 2 }),
+    () => mac.verify(new Uint8Array(20)), () => mac.save(), () => hmac.load(ripemd160, saved[1]),
+    () => pbkdf2(ripemd160, key, 'salt', { c: 2 }),
     () => hmac.verify(ripemd160, key, 'abc', new Uint8Array(20)), () => pbkdf2Async(ripemd160, key, 'salt', { c: 2 })]) {
     const made = instances.length;
     trap = new WebAssembly.RuntimeError('unreachable');

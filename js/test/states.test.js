@@ -48,6 +48,20 @@ test('states of HMAC', () => {
   assert.equal(hex(hmac.load(ripemd160, saved).update('c').digest()), tagOf('key', 'abc'));
 });
 
+test('zeros behind the tail, whatever was there', () => {
+  const long = new Uint8Array(63).fill(255);
+  for (const hash of [ripemd128, ripemd160, ripemd256, ripemd320, alone]) {
+    const makers = hash === alone ? [hash.create] : [hash.create, () => hmac.create(hash, 'key')];
+    for (const make of makers) {
+      // Tails of 63, 62 and 2 bytes.
+      const saved = make().update(long).update(long).update('abcd').save(), size = hash.outputLen + 72;
+      assert.deepEqual(saved.subarray(size - 64, size), concat([2, 99, 100], new Uint8Array(61)));
+      assert(saved.subarray(size).subarray(size - 64).every((byte) => byte === 0));
+      assert.deepEqual((saved.length === size ? hash.load(saved) : hmac.load(hash, saved)).save(), saved);
+    }
+  }
+});
+
 test('a saved state is a copy', () => {
   const hash = ripemd160.create().update('ab'), saved = hash.save(), other = ripemd160.load(saved);
   saved.fill(255);

@@ -208,9 +208,10 @@ static void hash_dealloc(PyObject *object) {
   Py_DECREF(type);
 }
 
-/* It is saved as so many bytes: those of its state after the first one. */
+/* It is saved as so many bytes. */
 static Py_ssize_t saved_size(const Hash *self) {
-  return (1 + self->keyed) * (self->variant->size + 72);
+  return self->keyed ? NATTIZHU_HMAC_SAVED_SIZE(self->variant->size)
+                     : NATTIZHU_SAVED_SIZE(self->variant->size);
 }
 
 /* Waits until no other thread is within a call on the state. */
@@ -227,16 +228,10 @@ static void leave(Hash *self) {
     PyThread_release_lock(self->lock);
 }
 
-/* The state is one that the library made or accepted, so that these answer true. */
+/* The state is one that the library made, so that this answers true. */
 static bool update_state(Hash *self, const uint8_t *bytes, size_t length) {
   return self->keyed ? nattizhu_hmac_update(&self->state.hmac, bytes, length)
                      : nattizhu_update(&self->state.hash, bytes, length);
-}
-
-static bool final_of(const Hash *self, uint8_t digest[NATTIZHU_MAX_SIZE]) {
-  size_t size = (size_t)self->variant->size;
-  return self->keyed ? nattizhu_hmac_final(&self->state.hmac, digest, size)
-                     : nattizhu_final(&self->state.hash, digest, size);
 }
 
 static bool update_by(Hash *self, PyObject *data) {
@@ -266,9 +261,11 @@ static PyObject *hash_update(PyObject *self, PyObject *data) {
 }
 
 static bool digest_of(Hash *self, uint8_t digest[NATTIZHU_MAX_SIZE]) {
+  size_t size = (size_t)self->variant->size;
   bool done;
   enter(self);
-  done = final_of(self, digest);
+  done = self->keyed ? nattizhu_hmac_final(&self->state.hmac, digest, size)
+                     : nattizhu_final(&self->state.hash, digest, size);
   leave(self);
   return taken(done);
 }
@@ -307,11 +304,14 @@ static PyObject *hash_copy(PyObject *object, PyObject *Py_UNUSED(none)) {
 
 static PyObject *hash_state(PyObject *object, PyObject *Py_UNUSED(none)) {
   Hash *self = (Hash *)object;
-  nattizhu_hmac_state state;
+  uint8_t saved[NATTIZHU_HMAC_SAVED_SIZE(NATTIZHU_MAX_SIZE)];
+  size_t size = (size_t)saved_size(self);
+  bool done;
   enter(self);
-  state = self->state.hmac;
+  done = self->keyed ? nattizhu_hmac_save(&self->state.hmac, saved, size)
+                     : nattizhu_save(&self->state.hash, saved, size);
   leave(self);
-  return PyBytes_FromStringAndSize((char *)state.bytes + 1, saved_size(self));
+  return taken(done) ? PyBytes_FromStringAndSize((char *)saved, (Py_ssize_t)size) : NULL;
 }
 
 static PyObject *hash_reduce(PyObject *object, PyObject *Py_UNUSED(none)) {
@@ -484,26 +484,21 @@ static PyObject *loaded(PyObject *module, Py_ssize_t keyed, const Variant *varia
                         PyObject *bytes) {
   const Module *types = PyModule_GetState(module);
   const char *kind = keyed ? "Hmac" : "Hasher";
-  uint8_t digest[NATTIZHU_MAX_SIZE];
   Py_buffer held;
   Hash *self;
   if (!hold(bytes, &held, "state"))
     return NULL;
   self = made(keyed ? types->hmac : types->hasher, variant, keyed);
-  if (self != NULL && held.len != saved_size(self)) {
-    PyErr_Format(PyExc_ValueError, "the state of a %s of %s has %zd bytes, not %zd", kind,
-                 variant->names[0], saved_size(self), held.len);
-    Py_CLEAR(self);
-  }
-  if (self != NULL) {
-    uint8_t *state = self->state.hmac.bytes;
-    state[0] = (uint8_t)(128 * keyed + variant->size);
-    memcpy(state + 1, held.buf, (size_t)held.len);
-    if (!final_of(self, digest)) {
+  if (self != NULL &&
+      !(keyed ? nattizhu_hmac_load(variant->number, &self->state.hmac, held.buf, (size_t)held.len)
+              : nattizhu_load(variant->number, &self->state.hash, held.buf, (size_t)held.len))) {
+    if (held.len != saved_size(self))
+      PyErr_Format(PyExc_ValueError, "the state of a %s of %s has %zd bytes, not %zd", kind,
+                   variant->names[0], saved_size(self), held.len);
+    else
       PyErr_Format(PyExc_ValueError, "no %s of %s is saved as these bytes", kind,
                    variant->names[0]);
-      Py_CLEAR(self);
-    }
+    Py_CLEAR(self);
   }
   PyBuffer_Release(&held);
   return (PyObject *)self;

@@ -693,6 +693,35 @@ class States(unittest.TestCase):
                 with self.assertRaises(ValueError):
                     nattizhu.hmac_from_state(name, forged)
 
+    def test_not_zero_behind_a_tail(self):
+        for name, size in zip(NAMES, (88, 92, 104, 112)):
+            for kind, load, saved, places in (
+                    ("Hasher", nattizhu.from_state,
+                     nattizhu.new(name, b"abc").state(),
+                     (size - 60, size - 1)),
+                    ("Hmac", nattizhu.hmac_from_state,
+                     nattizhu.hmac_new(b"key", b"abc", name).state(),
+                     (size - 60, size - 1, 2 * size - 63, 2 * size - 1))):
+                self.assertEqual(load(name, saved).state(), saved)
+                for place in places:
+                    forged = bytearray(saved)
+                    forged[place] = 1
+                    with self.assertRaisesRegex(ValueError, (
+                            f"^no {kind} of {name} is saved as these bytes$")):
+                        load(name, forged)
+
+    def test_shorter_tail(self):
+        """Zeros are saved behind it, whatever was there."""
+        for name, size in zip(NAMES, (88, 92, 104, 112)):
+            for made in (nattizhu.new(name),
+                         nattizhu.hmac_new(b"key", digestmod=name)):
+                # Tails of 63, 62 and 2 bytes.
+                for piece in (b"\xff" * 63, b"\xff" * 63, b"abcd"):
+                    made.update(piece)
+                saved = made.state()
+                self.assertEqual(saved[size - 64:size], b"\2cd" + bytes(61))
+                self.assertFalse(any(saved[size:][-64:]))
+
     def test_from_outside(self):
         # After "Hi " under 20 bytes 0x0b: OpenSSL's words after each masked
         # key, one block, and the tail. The tag is that of RFC 2286.

@@ -3,8 +3,8 @@
 use core::fmt;
 
 /// Hashers and HMACs that can be saved as bytes, and go on from them in another process, or in a program
-/// in C or Python: the bytes are those of a state of `nattizhu.h` after its first byte, the same on every
-/// machine.
+/// in C or Python: the bytes are those that `nattizhu_save` and `nattizhu_hmac_save` of `nattizhu.h` write,
+/// the same on every machine.
 ///
 /// Saved states are not authenticated, and that of an [`Hmac`](crate::Hmac) is as secret as its key.
 ///

@@ -16,7 +16,7 @@ use core::marker::PhantomData;
 use core::mem::{size_of, size_of_val};
 use core::slice;
 use digest::generic_array::{ArrayLength, GenericArray};
-use digest::typenum::{Unsigned, U16, U20, U32, U40, U64};
+use digest::typenum::{U16, U20, U32, U40, U64};
 
 /// A block of a message.
 pub type Block = GenericArray<u8, U64>;
@@ -91,12 +91,12 @@ pub fn bytes_of(blocks: &[Block]) -> &[u8] {
     unsafe { slice::from_raw_parts(blocks.as_ptr().cast(), size_of_val(blocks)) }
 }
 
-/// A state of the library: how many bytes it has, what those after the first one are saved as, which the
-/// first one is, and the functions that make it, update it, and write its digest. What `update`, `finalize`
-/// and `verify` return is what `nattizhu.h` says.
+/// A state of the library: how many bytes it has, what it is saved as, and the functions that make it,
+/// update it, write its digest, save it and load it. What `update`, `finalize` and `verify` return is what
+/// `nattizhu.h` says.
 macro_rules! state {
-    ($state:ident, $size:literal, $saved:ident after $first:expr,
-     $init:ident($($key:ident)?), $update:ident, $final:ident) => {
+    ($state:ident, $size:literal, $saved:ident,
+     $init:ident($($key:ident)?), $update:ident, $final:ident, $save:ident, $load:ident) => {
         #[derive(Clone)]
         pub struct $state<V>([u8; $size], PhantomData<V>);
 
@@ -104,6 +104,8 @@ macro_rules! state {
             fn $init(_: u32, _: *mut [u8; $size] $(, $key: *const u8, _: usize)?) -> bool;
             fn $update(_: *mut [u8; $size], _: *const u8, _: usize) -> bool;
             fn $final(_: *const [u8; $size], _: *mut u8, _: usize) -> bool;
+            fn $save(_: *const [u8; $size], _: *mut u8, _: usize) -> bool;
+            fn $load(_: u32, _: *mut [u8; $size], _: *const u8, _: usize) -> bool;
         }
 
         impl<V: Variant> $state<V> {
@@ -128,29 +130,33 @@ macro_rules! state {
             }
 
             pub fn save(&self) -> V::$saved {
-                let saved = V::$saved::try_from(&self.0[1..=size_of::<V::$saved>()]);
+                let mut room = [0; $size];
+                let saved = &mut room[..size_of::<V::$saved>()];
+                // SAFETY: memory, null, overlap and threads by the reference and the exclusive slice.
+                taken(unsafe { $save(&self.0, saved.as_mut_ptr(), saved.len()) });
+                let saved = V::$saved::try_from(&*saved);
                 saved.unwrap_or_else(|_| unreachable!("the slice has the size of the array"))
             }
 
             /// The state that is saved as these bytes, if there is one.
             pub fn load(saved: &[u8]) -> Option<Self> {
-                let saved = V::$saved::try_from(saved).ok()?;
                 let mut state = Self([0; $size], PhantomData);
-                state.0[0] = $first;
-                state.0[1..=size_of::<V::$saved>()].copy_from_slice(saved.as_ref());
-                state.update(&[]).then(|| state)
+                // SAFETY: memory, null, overlap and threads by the exclusive reference and the slice.
+                let is_one = unsafe { $load(V::NUMBER, &mut state.0, saved.as_ptr(), saved.len()) };
+                is_one.then(|| state)
             }
         }
     };
 }
 
 state! {
-    HashState, 113, Saved after V::OutputSize::U8,
-    nattizhu_init(), nattizhu_update, nattizhu_final
+    HashState, 113, Saved,
+    nattizhu_init(), nattizhu_update, nattizhu_final, nattizhu_save, nattizhu_load
 }
 state! {
-    HmacState, 225, SavedHmac after 128 + V::OutputSize::U8,
-    nattizhu_hmac_init(key), nattizhu_hmac_update, nattizhu_hmac_final
+    HmacState, 225, SavedHmac,
+    nattizhu_hmac_init(key), nattizhu_hmac_update, nattizhu_hmac_final,
+    nattizhu_hmac_save, nattizhu_hmac_load
 }
 
 impl<V: Variant> HmacState<V> {

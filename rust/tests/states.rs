@@ -6,7 +6,7 @@ use common::{every_length, hex, lines_of, ramp};
 use digest::Mac;
 use nattizhu::*;
 
-each_variant! { from_outside hmac_from_outside every_cut no_state no_hmac_state }
+each_variant! { from_outside hmac_from_outside every_cut shorter_tail no_state no_hmac_state }
 
 /// The bytes of a state: the words, the number of blocks, the length of the tail, the tail, zeros.
 fn state(words: &str, blocks: u8, tail: &[u8]) -> Vec<u8> {
@@ -96,6 +96,22 @@ fn every_cut<D: Ripemd>(bits: usize) {
             assert_eq!(hasher.finalize()[..], digest[..]);
         }
     }
+}
+
+/// An HMAC saved after tails of 63, 62 and 2 bytes: zeros are behind the last.
+fn shorter_tail<D: Ripemd>(bits: usize) {
+    let size = bits / 8 + 72;
+    let mut mac = Hmac::<D>::new(b"key");
+    for piece in [&[0xff; 63][..], &[0xff; 63], b"abcd"] {
+        mac.update(piece);
+    }
+    let saved = mac.serialize();
+    let (inner, outer) = saved.as_ref().split_at(size);
+    assert_eq!(inner[size - 64..size - 61], [2, b'c', b'd']);
+    assert_eq!(inner[size - 61..], [0; 61]);
+    assert_eq!(outer[size - 64..], [0; 64]);
+    let loaded = Hmac::<D>::deserialize(saved.as_ref()).unwrap();
+    assert_eq!(loaded.serialize().as_ref(), saved.as_ref());
 }
 
 /// Bytes that are no hash state.
