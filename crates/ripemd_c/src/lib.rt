@@ -9,6 +9,7 @@
 
 ghost use Rattle.std.specs.Prelude.{◌≡◌};
 ghost use Rattle.ripemd_calls.specs.KeptStates.{FinalizesHmac, FinalizesState, InitsHmac, InitsState};
+ghost use Rattle.ripemd_calls.specs.KeptStates.{LoadsHmac, LoadsState, SavesHmac, SavesState};
 ghost use Rattle.ripemd_calls.specs.KeptStates.{UpdatesHmac, UpdatesState, VerifiesHmac};
 ghost use Rattle.ripemd_calls.specs.Variants.{AtVariant, VerifiesTag, WritesDigest, WritesTag, digest_size};
 
@@ -56,6 +57,22 @@ pub extern "C" fn nattizhu_final_nonnull(state: &[u8; 113], digest: &mut [u8]) -
     ensures { FinalizesState state.now digest.old digest.new result }
 {
     streams::finalize(state, digest)
+}
+
+/// Does what [`streams::save`] does.
+#[unsafe(no_mangle)]
+pub extern "C" fn nattizhu_save_nonnull(state: &[u8; 113], saved: &mut [u8]) -> bool
+    ensures { SavesState state.now saved.old saved.new result }
+{
+    streams::save(state, saved)
+}
+
+/// Does what [`streams::load`] does.
+#[unsafe(no_mangle)]
+pub extern "C" fn nattizhu_load_nonnull(variant: u32, state: &mut [u8; 113], saved: &[u8]) -> bool
+    ensures { LoadsState variant saved.now state.old state.new result }
+{
+    streams::load(variant, state, saved)
 }
 
 /// Does what [`hmac::tag`] does.
@@ -118,4 +135,24 @@ pub extern "C" fn nattizhu_hmac_verify_nonnull(state: &[u8; 225], tag: &[u8]) ->
     ensures { VerifiesHmac state.now tag.now result }
 {
     hmac::verify(state, tag)
+}
+
+/// Does what [`hmac::save`] does.
+#[unsafe(no_mangle)]
+pub extern "C" fn nattizhu_hmac_save_nonnull(state: &[u8; 225], saved: &mut [u8]) -> bool
+    ensures { SavesHmac state.now saved.old saved.new result }
+{
+    hmac::save(state, saved)
+}
+
+/// Does what [`hmac::load`] does.
+#[unsafe(no_mangle)]
+pub extern "C" fn nattizhu_hmac_load_nonnull(
+    variant: u32,
+    state: &mut [u8; 225],
+    saved: &[u8],
+) -> bool
+    ensures { LoadsHmac variant saved.now state.old state.new result }
+{
+    hmac::load(variant, state, saved)
 }

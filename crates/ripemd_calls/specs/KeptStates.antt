@@ -1,14 +1,14 @@
--- Hash states and HMAC states as callers have them, a mark and the bytes that they are saved as, and what the calls that
+-- Hash states and HMAC states as callers have them, a mark and the bytes that they are kept as, and what the calls that
 -- take them do.
-use Rattle.std.specs.Prelude.{◌≡◌, ◌↔◌, ℕ, ◌+◌, ◌-◌, ◌*◌, List, [], ◌++◌, length, replicate, drop, Bool, IsTrue, IsFalse, ⊤}
+use Rattle.std.specs.Prelude.{◌≡◌, ◌↔◌, ℕ, ◌+◌, ◌-◌, ◌*◌, List, [], ◌++◌, length, drop, Bool, IsTrue, IsFalse, ⊤}
 use Rattle.std.specs.Prelude.{slice_index, slice_range}
 use Rattle.ripemd.specs.Standard.Words.{word_bytes}
 use Rattle.ripemd.specs.Standard.Compression.{Parameters, compress}
 use Rattle.ripemd.specs.Standard.Hashing.{ripemd}
 use Rattle.ripemd.specs.States.{HashState, AreWords, IsState, new_state, fed, finish, hasher_bytes}
-use Rattle.ripemd.specs.Saved.{IsSaved}
+use Rattle.ripemd.specs.Saved.{IsSaved, cleared}
 use Rattle.ripemd_mac.specs.Hmac.{KeyedState, hmac, keyed_state, fed_text, tag_of}
-use Rattle.ripemd_mac.specs.Saved.{IsKeyedState, hmac_bytes}
+use Rattle.ripemd_mac.specs.Saved.{IsKeyedState, cleared_hmac, hmac_bytes}
 use Rattle.ripemd_calls.specs.Variants.{AtVariant, ByVariant, Refuses, Writes, digest_size}
 
 -- ---- states
@@ -26,9 +26,16 @@ saved_size v = digest_size v + 72
 abbrev pub saved_hmac_size : Parameters → ℕ
 saved_hmac_size v = 2 * saved_size v
 
--- callers keep a mark, the saved bytes, which are so many, and then any bytes
-abbrev pub saved_in : (size : ℕ) → List ℕ → List ℕ
-saved_in size bytes = slice_range bytes 1 (1 + size)
+-- callers keep them as these, but that any bytes may stand behind a tail
+abbrev pub IsKeptState : Parameters → HashState → List ℕ → Type 0
+IsKeptState v h kept = IsSavedState v h (cleared (digest_size v + 8) kept)
+
+abbrev pub IsKeptHmac : Parameters → KeyedState → List ℕ → Type 0
+IsKeptHmac v s kept = IsSavedHmac v s (cleared_hmac (digest_size v + 8) kept)
+
+-- before the kept bytes, which are so many, is a mark, and behind them are any bytes
+abbrev pub kept_in : (size : ℕ) → List ℕ → List ℕ
+kept_in size bytes = slice_range bytes 1 (1 + size)
 
 -- the mark is the size of a digest, and that and 128 for HMAC. So it names the variant, by the bits of its digests
 abbrev pub bits_of_state : List ℕ → ℕ
@@ -39,47 +46,52 @@ bits_of_hmac bytes = 8 * (slice_index bytes 0 - 128)
 
 -- ---- calls
 
--- a call makes the saved bytes of a state those of the state after a piece, and answers whether it did: it refuses
+-- a call makes the kept bytes of a state those of the state after a piece, and answers whether it did: it refuses
 -- exactly the bytes of no state. So where the state began with some start and has taken in a message, it has taken in
 -- the message and the piece
-pub record Updates {S : Type 0} (IsSavedAs : S → List ℕ → Type 0) (fed : S → List ℕ → S)
+pub record Updates {S : Type 0} (IsKeptAs : S → List ℕ → Type 0) (fed : S → List ℕ → S)
     (old piece new : List ℕ) (done : Bool) : Type 0 where
-  pub state : (s : S) → IsSavedAs s old → IsTrue done × IsSavedAs (fed s piece) new
-  pub message : (start : S) (message : List ℕ) → IsSavedAs (fed start message) old
-      → IsTrue done × IsSavedAs (fed start (message ++ piece)) new
-  pub refused : IsFalse done ↔ ((s : S) → ¬ IsSavedAs s old)
+  pub state : (s : S) → IsKeptAs s old → IsTrue done × IsKeptAs (fed s piece) new
+  pub message : (start : S) (message : List ℕ) → IsKeptAs (fed start message) old
+      → IsTrue done × IsKeptAs (fed start (message ++ piece)) new
+  pub refused : IsFalse done ↔ ((s : S) → ¬ IsKeptAs s old)
 
--- so it does with the saved bytes in a state; what is around them stays, and if the call refuses, all does
-pub record TakesIn {S : Type 0} (IsSavedAs : S → List ℕ → Type 0) (fed : S → List ℕ → S) (size : ℕ)
+-- so it does with the kept bytes in a state; what is around them stays, and if the call refuses, all does
+pub record TakesIn {S : Type 0} (IsKeptAs : S → List ℕ → Type 0) (fed : S → List ℕ → S) (size : ℕ)
     (piece old new : List ℕ) (done : Bool) : Type 0 where
-  pub saved : Updates IsSavedAs fed (saved_in size old) piece (saved_in size new) done
+  pub kept : Updates IsKeptAs fed (kept_in size old) piece (kept_in size new) done
   pub mark : slice_index new 0 ≡ slice_index old 0
   pub behind : drop (1 + size) new ≡ drop (1 + size) old
   pub unchanged : IsFalse done → new ≡ old
 
--- a call keeps a state behind a mark, and writes zeros behind it
-pub record Keeps {S : Type 0} (IsSavedAs : S → List ℕ → Type 0) (mark size : ℕ) (s : S) (old new : List ℕ) (done : Bool) : Type 0 where
-  pub kept : IsTrue done
+-- a call keeps a state behind a mark; what is behind the kept bytes stays
+pub record Keeps {S : Type 0} (IsKeptAs : S → List ℕ → Type 0) (mark size : ℕ) (s : S) (old new : List ℕ) (done : Bool) : Type 0 where
+  pub yes : IsTrue done
   pub marked : slice_index new 0 ≡ mark
-  pub saved : IsSavedAs s (saved_in size new)
-  pub zeros : drop (1 + size) new ≡ replicate (length old - (1 + size)) 0
+  pub kept : IsKeptAs s (kept_in size new)
+  pub behind : drop (1 + size) new ≡ drop (1 + size) old
 
--- a call does this with the output of a saved state, and so, where the state took in a message from its start, with
+-- a call does this with a state that is kept or saved as some bytes; it refuses the bytes of no state
+pub record WithState {S : Type 0} (IsAs : S → List ℕ → Type 0) (bytes : List ℕ) (Does : S → Type 0) (Otherwise : Type 0) : Type 0 where
+  pub state : (s : S) → IsAs s bytes → Does s
+  pub refused : ((s : S) → ¬ IsAs s bytes) → Otherwise
+
+-- a call does this with the output of a kept state, and so, where the state took in a message from its start, with
 -- the output of the message; it refuses the bytes of no state
-pub record WithOutput {S O : Type 0} (IsSavedAs : S → List ℕ → Type 0) (new_state : O → S) (fed : S → List ℕ → S)
-    (output : S → List ℕ) (whole : O → List ℕ → List ℕ) (saved : List ℕ) (Does : List ℕ → Type 0) (Otherwise : Type 0) : Type 0 where
-  pub state : (s : S) → IsSavedAs s saved → Does (output s)
-  pub message : (o : O) (message : List ℕ) → IsSavedAs (fed (new_state o) message) saved → Does (whole o message)
-  pub refused : ((s : S) → ¬ IsSavedAs s saved) → Otherwise
+pub record WithOutput {S O : Type 0} (IsKeptAs : S → List ℕ → Type 0) (new_state : O → S) (fed : S → List ℕ → S)
+    (output : S → List ℕ) (whole : O → List ℕ → List ℕ) (kept : List ℕ) (Does : List ℕ → Type 0) (Otherwise : Type 0) : Type 0 where
+  pub state : (s : S) → IsKeptAs s kept → Does (output s)
+  pub message : (o : O) (message : List ℕ) → IsKeptAs (fed (new_state o) message) kept → Does (whole o message)
+  pub refused : ((s : S) → ¬ IsKeptAs s kept) → Otherwise
 
 -- with the digest of a hash state of a variant, and with the tag of an HMAC state
-abbrev pub WithDigest : Parameters → (saved : List ℕ) → (Does : List ℕ → Type 0) → (Otherwise : Type 0) → Type 0
+abbrev pub WithDigest : Parameters → (kept : List ℕ) → (Does : List ℕ → Type 0) → (Otherwise : Type 0) → Type 0
 WithDigest v =
-    WithOutput {O = ⊤} (IsSavedState v) (λ _. new_state v) (fed (compress v)) (finish (compress v) word_bytes) (λ _. ripemd v)
+    WithOutput {O = ⊤} (IsKeptState v) (λ _. new_state v) (fed (compress v)) (finish (compress v) word_bytes) (λ _. ripemd v)
 
-abbrev pub WithTag : Parameters → (saved : List ℕ) → (Does : List ℕ → Type 0) → (Otherwise : Type 0) → Type 0
+abbrev pub WithTag : Parameters → (kept : List ℕ) → (Does : List ℕ → Type 0) → (Otherwise : Type 0) → Type 0
 WithTag v =
-    WithOutput (IsSavedHmac v) (keyed_state v.start (compress v) word_bytes) (fed_text (compress v))
+    WithOutput (IsKeptHmac v) (keyed_state v.start (compress v) word_bytes) (fed_text (compress v))
     (tag_of (compress v) word_bytes) (hmac (ripemd v))
 
 -- ---- calls by number, or at the variant of a state
@@ -87,32 +99,54 @@ WithTag v =
 -- the state of no bytes
 abbrev pub InitsState : (bits : ℕ) → (old new : List ℕ) → Bool → Type 0
 InitsState bits =
-    ByVariant bits (λ v. Keeps (IsSavedState v) (digest_size v) (saved_size v) (fed (compress v) (new_state v) []))
+    ByVariant bits (λ v. Keeps (IsKeptState v) (digest_size v) (saved_size v) (fed (compress v) (new_state v) []))
 
 abbrev pub InitsHmac : (bits : ℕ) → (key old new : List ℕ) → Bool → Type 0
 InitsHmac bits key =
-    ByVariant bits (λ v. Keeps (IsSavedHmac v) (128 + digest_size v) (saved_hmac_size v)
+    ByVariant bits (λ v. Keeps (IsKeptHmac v) (128 + digest_size v) (saved_hmac_size v)
     (fed_text (compress v) (keyed_state v.start (compress v) word_bytes key) []))
 
+-- the state that is saved as some bytes
+abbrev pub LoadsState : (bits : ℕ) → (saved old new : List ℕ) → Bool → Type 0
+LoadsState bits saved =
+    ByVariant bits (λ v old new done. WithState (IsSavedState v) saved
+    (λ h. Keeps (IsKeptState v) (digest_size v) (saved_size v) h old new done) (Refuses old new done))
+
+abbrev pub LoadsHmac : (bits : ℕ) → (saved old new : List ℕ) → Bool → Type 0
+LoadsHmac bits saved =
+    ByVariant bits (λ v old new done. WithState (IsSavedHmac v) saved
+    (λ s. Keeps (IsKeptHmac v) (128 + digest_size v) (saved_hmac_size v) s old new done) (Refuses old new done))
+
+-- and the bytes that a state is saved as
+abbrev pub SavesState : (state old new : List ℕ) → Bool → Type 0
+SavesState state =
+    ByVariant (bits_of_state state) (λ v old new done. WithState (IsKeptState v) (kept_in (saved_size v) state)
+    (λ h. Writes (length old ≡ saved_size v) (hasher_bytes h) old new done) (Refuses old new done))
+
+abbrev pub SavesHmac : (state old new : List ℕ) → Bool → Type 0
+SavesHmac state =
+    ByVariant (bits_of_hmac state) (λ v old new done. WithState (IsKeptHmac v) (kept_in (saved_hmac_size v) state)
+    (λ s. Writes (length old ≡ saved_hmac_size v) (hmac_bytes word_bytes s) old new done) (Refuses old new done))
+
 abbrev pub UpdatesState : (old piece new : List ℕ) → Bool → Type 0
-UpdatesState old piece = ByVariant (bits_of_state old) (λ v. TakesIn (IsSavedState v) (fed (compress v)) (saved_size v) piece) old
+UpdatesState old piece = ByVariant (bits_of_state old) (λ v. TakesIn (IsKeptState v) (fed (compress v)) (saved_size v) piece) old
 
 abbrev pub UpdatesHmac : (old piece new : List ℕ) → Bool → Type 0
 UpdatesHmac old piece =
-    ByVariant (bits_of_hmac old) (λ v. TakesIn (IsSavedHmac v) (fed_text (compress v)) (saved_hmac_size v) piece) old
+    ByVariant (bits_of_hmac old) (λ v. TakesIn (IsKeptHmac v) (fed_text (compress v)) (saved_hmac_size v) piece) old
 
 abbrev pub FinalizesState : (state old new : List ℕ) → Bool → Type 0
 FinalizesState state =
-    ByVariant (bits_of_state state) (λ v old new done. WithDigest v (saved_in (saved_size v) state)
+    ByVariant (bits_of_state state) (λ v old new done. WithDigest v (kept_in (saved_size v) state)
     (λ digest. Writes (length old ≡ digest_size v) digest old new done) (Refuses old new done))
 
 abbrev pub FinalizesHmac : (state old new : List ℕ) → Bool → Type 0
 FinalizesHmac state =
-    ByVariant (bits_of_hmac state) (λ v old new done. WithTag v (saved_in (saved_hmac_size v) state)
+    ByVariant (bits_of_hmac state) (λ v old new done. WithTag v (kept_in (saved_hmac_size v) state)
     (λ tag. Writes (length old ≡ digest_size v) tag old new done) (Refuses old new done))
 
 abbrev pub VerifiesHmac : (state tag : List ℕ) → Bool → Type 0
 VerifiesHmac state bytes answer =
     AtVariant (bits_of_hmac state)
-    (λ v. WithTag v (saved_in (saved_hmac_size v) state) (λ tag. IsTrue answer ↔ (bytes ≡ tag)) (IsFalse answer))
+    (λ v. WithTag v (kept_in (saved_hmac_size v) state) (λ tag. IsTrue answer ↔ (bytes ≡ tag)) (IsFalse answer))
     (IsFalse answer)

@@ -1,5 +1,5 @@
 -- What calls that derive keys from passwords do.
-use Rattle.std.specs.Prelude.{◌≡◌, ◌≢◌, ◌≤◌, ℕ, ◌-◌, ◌*◌, ◌^◌, Bool, List, length}
+use Rattle.std.specs.Prelude.{◌≢◌, ◌≤◌, ℕ, ◌-◌, ◌*◌, ◌^◌, Bool, List, length}
 use Rattle.ripemd.specs.Standard.Hashing.{ripemd}
 use Rattle.ripemd_mac.specs.Hmac.{hmac}
 use Rattle.ripemd_mac.specs.Pbkdf2.{pbkdf2}

@@ -6,8 +6,8 @@ use Rattle.ripemd.specs.Published.{hexadecimal}
 use Rattle.ripemd_mac.specs.Worked.{saved_inner, saved_outer}
 use Rattle.ripemd_calls.specs.Variants.{Refuses, WritesDigest, WritesTag, VerifiesTag}
 use Rattle.ripemd_calls.specs.Pbkdf2.{FillsKey, DerivesKey}
-use Rattle.ripemd_calls.specs.KeptStates.{InitsState, UpdatesState, FinalizesState}
-use Rattle.ripemd_calls.specs.KeptStates.{InitsHmac, UpdatesHmac, FinalizesHmac, VerifiesHmac}
+use Rattle.ripemd_calls.specs.KeptStates.{InitsState, UpdatesState, FinalizesState, LoadsState, SavesState}
+use Rattle.ripemd_calls.specs.KeptStates.{InitsHmac, UpdatesHmac, FinalizesHmac, VerifiesHmac, LoadsHmac, SavesHmac}
 
 -- a call that does this fills a place of so many bytes with an output
 abbrev pub Gives : (Does : (old new : List ℕ) → Bool → Type 0) → (size : ℕ) → (output : List ℕ) → Type 0
@@ -74,9 +74,13 @@ pub record WorkedKeys : Type 0 where
 
 -- ---- states
 
+-- from a place on, these bytes are 7
+abbrev pub soiled : (from : ℕ) → List ℕ → List ℕ
+soiled from bytes = take from bytes ++ replicate (length bytes - from) 7
+
 -- what callers keep of a RIPEMD-160 state, and of an HMAC state
 abbrev pub kept : List ℕ → List ℕ
-kept saved = 20 ∷ saved ++ replicate 20 0
+kept bytes = 20 ∷ bytes ++ replicate 20 0
 
 abbrev pub kept_hmac : (inner outer : List ℕ) → List ℕ
 kept_hmac inner outer = 148 ∷ (inner ++ outer) ++ replicate 40 0
@@ -88,26 +92,42 @@ saved_bytes =
     ∷ 0x74 ∷ 0x28 ∷ 0xf1 ∷ 0xaa ∷ 0x67 ∷ 0xdf ∷ 0x1c ∷ 0xbe ∷ 0xc1 ∷ 0xc6 ∷ [])
     ++ 1 ∷ replicate 7 0 ++ 1 ∷ 0x62 ∷ replicate 62 0
 
+-- the same, kept with other bytes behind the tail
+abbrev pub soiled_bytes : List ℕ
+soiled_bytes = soiled 30 saved_bytes
+
 -- bytes of no state: a tail has fewer than 64 bytes
 abbrev pub forged : List ℕ
 forged = replicate 92 0xff
 
--- that state gives the digest of its message, and after "c" the one that OpenSSL gives; bytes of no state and of one of
--- the other kind are refused
+-- that state gives the digest of its message, and after "c" the one that OpenSSL gives, whatever is kept behind the tail;
+-- it is saved with zeros there, and loaded of nothing else. Bytes of no state and of one of the other kind are refused
 pub record WorkedStates : Type 0 where
-  pub finalized : Gives (FinalizesState (kept saved_bytes)) 20 (codes "d747cddb32a3bc8e8029dd1cacdcca01392299d6")
-  pub updated : (next : List ℕ) (fed : Bool) → UpdatesState (kept saved_bytes) (codes "c") next fed
+  pub finalized : Gives (FinalizesState (kept soiled_bytes)) 20 (codes "d747cddb32a3bc8e8029dd1cacdcca01392299d6")
+  pub updated : (next : List ℕ) (fed : Bool) → UpdatesState (kept soiled_bytes) (codes "c") next fed
       → IsTrue fed × Gives (FinalizesState next) 20 (codes "62cb6e1e229809278596f9d17bd382cc9a0ff0a0")
+  pub saved : Gives (SavesState (kept soiled_bytes)) 92 (hexadecimal saved_bytes)
+  pub loaded : (any next : List ℕ) (done : Bool) → LoadsState 160 saved_bytes any next done
+      → IsTrue done × Gives (FinalizesState next) 20 (codes "d747cddb32a3bc8e8029dd1cacdcca01392299d6")
   pub short : RefusesRoom (FinalizesState (kept saved_bytes)) 19
   pub not_finalized : RefusesRoom (FinalizesState (kept forged)) 20
   pub other_kind : RefusesRoom (FinalizesState (148 ∷ saved_bytes ++ replicate 20 0)) 20
   pub not_updated : (piece new : List ℕ) (done : Bool) → UpdatesState (kept forged) piece new done → Refuses (kept forged) new done
+  pub short_saved : RefusesRoom (SavesState (kept saved_bytes)) 91
+  pub not_saved : RefusesRoom (SavesState (kept forged)) 92
+  pub not_zeros : RefusesRoom (LoadsState 160 soiled_bytes) 113
+  pub other_variant : RefusesRoom (LoadsState 128 saved_bytes) 113
+  pub no_variant : RefusesRoom (LoadsState 20 saved_bytes) 113
   pub behind : (first next : List ℕ) (begun fed : Bool) → InitsState 160 (replicate 113 7) first begun
-      → UpdatesState first abc next fed → drop 93 next ≡ replicate 20 0
+      → UpdatesState first abc next fed → drop 93 next ≡ replicate 20 7
 
 -- the same of the HMAC state of "Hi There" under that key, with OpenSSL's words, and of an outer state that is none
 pub record WorkedHmacStates : Type 0 where
-  pub finalized : Gives (FinalizesHmac (kept_hmac saved_inner saved_outer)) 20 (hexadecimal tag)
+  pub finalized : Gives (FinalizesHmac (kept_hmac (soiled 37 saved_inner) (soiled 29 saved_outer))) 20 (hexadecimal tag)
+  pub saved : Gives (SavesHmac (kept_hmac (soiled 37 saved_inner) (soiled 29 saved_outer))) 184
+      (hexadecimal (saved_inner ++ saved_outer))
+  pub loaded : (any next : List ℕ) (done : Bool) → LoadsHmac 160 (saved_inner ++ saved_outer) any next done
+      → IsTrue done × Gives (FinalizesHmac next) 20 (hexadecimal tag)
   pub short : RefusesRoom (FinalizesHmac (kept_hmac saved_inner saved_outer)) 19
   pub not_finalized : RefusesRoom (FinalizesHmac (kept_hmac saved_inner forged)) 20
   pub other_kind : (answer : Bool) → VerifiesHmac (20 ∷ (saved_inner ++ saved_outer) ++ replicate 40 0) tag answer → IsFalse answer
@@ -117,6 +137,10 @@ pub record WorkedHmacStates : Type 0 where
       → IsFalse answer
   pub not_updated : (piece new : List ℕ) (done : Bool) → UpdatesHmac (kept_hmac saved_inner forged) piece new done
       → Refuses (kept_hmac saved_inner forged) new done
+  pub short_saved : RefusesRoom (SavesHmac (kept_hmac saved_inner saved_outer)) 183
+  pub not_saved : RefusesRoom (SavesHmac (kept_hmac saved_inner forged)) 184
+  pub not_zeros : RefusesRoom (LoadsHmac 160 (saved_inner ++ soiled 29 saved_outer)) 225
+  pub no_variant : RefusesRoom (LoadsHmac 20 (saved_inner ++ saved_outer)) 225
   pub tagged : (any first next : List ℕ) (begun fed : Bool) → InitsHmac 160 key any first begun
       → UpdatesHmac first (codes "Hi There") next fed
       → IsTrue begun × IsTrue fed × Gives (FinalizesHmac next) 20 (hexadecimal tag)

@@ -3,10 +3,11 @@
 ghost use Rattle.std.specs.Prelude.{◌≡◌, ◌↔◌, length, IsTrue};
 ghost use Rattle.ripemd.specs.Standard.Hashing.{hash};
 ghost use Rattle.ripemd_mac.specs.Hmac.{StandsFor, hmac};
-ghost use Rattle.ripemd_calls.specs.KeptStates.{FinalizesHmac, InitsHmac, UpdatesHmac, VerifiesHmac};
+ghost use Rattle.ripemd_calls.specs.KeptStates.{FinalizesHmac, InitsHmac, LoadsHmac, SavesHmac};
+ghost use Rattle.ripemd_calls.specs.KeptStates.{UpdatesHmac, VerifiesHmac};
 ghost use Rattle.ripemd_calls.specs.Variants.{VerifiesTag, Writes, WritesTag};
 
-use crate::states::{final_kept, init_kept, update_kept, verify_kept};
+use crate::states::{final_kept, init_kept, load_saved, save_kept, update_kept, verify_kept};
 use crate::write;
 use ripemd::digest::BlockDigest;
 use ripemd::{Ripemd128, Ripemd160, Ripemd256, Ripemd320};
@@ -64,6 +65,27 @@ pub fn verify(state: &[u8; 225], tag: &[u8]) -> bool
 {
     let bits = 8 * state[0].saturating_sub(128) as u32;
     by_variant!(bits, verify_kept::<Hmac>(state, tag))
+}
+
+/// Writes the bytes that the HMAC state is saved as to `saved`: those of its inner hash state and of its outer one.
+/// True exactly if these are the bytes of an HMAC state, and `saved` has twice the size of a tag and 72 bytes;
+/// otherwise nothing is written.
+pub fn save(state: &[u8; 225], saved: &mut [u8]) -> bool
+    ensures { SavesHmac state.now saved.old saved.new result }
+{
+    let bits = 8 * state[0].saturating_sub(128) as u32;
+    by_variant!(bits, save_kept::<Hmac>(state, saved))
+}
+
+/// Writes the HMAC state over the variant that is saved as these bytes. False exactly if there is no such variant,
+/// or none of its HMAC states is, and then nothing is written.
+pub fn load(variant: u32, state: &mut [u8; 225], saved: &[u8]) -> bool
+    ensures { LoadsHmac variant saved.now state.old state.new result }
+{
+    by_variant!(
+        variant,
+        load_saved::<Hmac>(saved, 128 + (variant / 8) as u8, state)
+    )
 }
 
 // Writes the tag of a text that is there as a whole, if its place has the size of it.

@@ -1,11 +1,11 @@
 //! What is done to the states that callers keep, the same for hash states and HMAC states. Between the pieces of a
-//! message the caller keeps a state as a mark and the bytes that it is saved as.
+//! message the caller keeps a state as a mark and the bytes that it is saved as, but that any may stand behind a tail.
 
-ghost use Rattle.std.specs.Prelude.{◌≡◌, ◌↔◌, ℕ, ◌+◌, ◌-◌, ◌<◌, ◌≤◌, List, [], length, replicate, drop, slice_index, IsTrue, IsFalse};
+ghost use Rattle.std.specs.Prelude.{◌≡◌, ◌↔◌, ℕ, ◌+◌, ◌<◌, ◌≤◌, List, [], length, drop, slice_index, IsTrue, IsFalse};
 ghost use Rattle.ripemd.specs.Saved.{IsSaved};
 ghost use Rattle.ripemd.specs.States.{initial_state};
 ghost use Rattle.ripemd_mac.specs.Hmac.{keyed_state};
-ghost use Rattle.ripemd_calls.specs.KeptStates.{Updates, WithOutput, saved_in};
+ghost use Rattle.ripemd_calls.specs.KeptStates.{Keeps, Updates, WithOutput, WithState, kept_in};
 ghost use Rattle.ripemd_calls.specs.Variants.{Refuses, Writes};
 
 use crate::write;
@@ -52,70 +52,115 @@ impl<F: ResumableFunction> Kept for Hmac<BlockHasher<F>> {
     ghost fed_nothing = { fed_nothing (F.list F.start_of) F.step F.output };
 }
 
-// Keeps the state before the first byte behind a mark, and zeros behind it.
+// Keeps the state before the first byte behind a mark.
 pub(crate) fn init_kept<S: Kept>(key: &[u8], mark: u8, state: &mut [u8]) -> bool
     requires room { S.Saved.LEN < length state.old }
-    ensures kept { IsTrue result }
+    ensures yes { IsTrue result }
     ensures marked { slice_index state.new 0 ≡ mark }
-    ensures saved { IsSaved S.is_valid S.state_bytes (S.fed (S.first key.now) []) (saved_in S.Saved.LEN state.new) }
-    ensures zeros { drop (1 + S.Saved.LEN) state.new ≡ replicate (length state.old - (1 + S.Saved.LEN)) 0 }
+    ensures kept { IsSaved S.is_valid S.state_bytes (S.fed (S.first key.now) [])
+        (S.cleared (kept_in S.Saved.LEN state.new)) }
+    ensures behind { drop (1 + S.Saved.LEN) state.new ≡ drop (1 + S.Saved.LEN) state.old }
+{
+    put_kept(&S::begin(key), mark, state)
+}
+
+// Keeps the state that is saved as these bytes behind a mark. False exactly if none is, and then nothing is
+// written.
+pub(crate) fn load_saved<S: Resumable>(saved: &[u8], mark: u8, state: &mut [u8]) -> bool
+    requires room { S.Saved.LEN < length state.old }
+    ensures { WithState (IsSaved S.is_valid S.state_bytes) saved.now
+        (λ s. Keeps (λ s kept. IsSaved S.is_valid S.state_bytes s (S.cleared kept)) mark S.Saved.LEN s
+        state.old state.new result)
+        (Refuses state.old state.new result) }
+{
+    match S::load_from(saved) {
+        Ok(loaded) => put_kept(&loaded, mark, state),
+        Err(_) => false,
+    }
+}
+
+// Keeps a state behind a mark.
+#[inline(always)]
+fn put_kept<S: Resumable>(kept: &S, mark: u8, state: &mut [u8]) -> bool
+    requires room { S.Saved.LEN < length state.old }
+    ensures yes { IsTrue result }
+    ensures marked { slice_index state.new 0 ≡ mark }
+    ensures kept { IsSaved S.is_valid S.state_bytes kept.now
+        (S.cleared (kept_in S.Saved.LEN state.new)) }
+    ensures behind { drop (1 + S.Saved.LEN) state.new ≡ drop (1 + S.Saved.LEN) state.old }
 {
     let (first, rest) = state.split_at_mut(1);
-    let (saved, behind) = rest.split_at_mut(<S::Saved as ByteArray>::LEN);
+    let (place, _) = rest.split_at_mut(<S::Saved as ByteArray>::LEN);
     first[0] = mark;
-    saved.copy_from_slice(S::begin(key).save().as_bytes());
-    behind.fill(0);
+    kept.keep(place);
     true
 }
 
-// Appends bytes to a kept state. False exactly if no state is saved in these bytes, and then nothing is
+// Writes the bytes that a kept state is saved as to their place, if that has their size. False too if no state
+// is kept as these bytes, and then nothing is written.
+pub(crate) fn save_kept<S: Resumable>(state: &[u8], saved: &mut [u8]) -> bool
+    requires room { S.Saved.LEN < length state.now }
+    ensures { WithState (λ s kept. IsSaved S.is_valid S.state_bytes s (S.cleared kept))
+        (kept_in S.Saved.LEN state.now)
+        (λ s. Writes (length saved.old ≡ S.Saved.LEN) (S.state_bytes s) saved.old saved.new result)
+        (Refuses saved.old saved.new result) }
+{
+    match S::load_kept(&state[1..1 + <S::Saved as ByteArray>::LEN]) {
+        Some(kept) => write(kept.save().as_bytes(), saved),
+        None => false,
+    }
+}
+
+// Appends bytes to a kept state. False exactly if no state is kept as these bytes, and then nothing is
 // written.
 pub(crate) fn update_kept<S: Resumable>(state: &mut [u8], bytes: &[u8]) -> bool
     requires room { S.Saved.LEN < length state.old }
-    ensures updates { Updates (IsSaved S.is_valid S.state_bytes) S.fed
-        (saved_in S.Saved.LEN state.old) bytes.now (saved_in S.Saved.LEN state.new) result }
+    ensures updates { Updates (λ s kept. IsSaved S.is_valid S.state_bytes s (S.cleared kept)) S.fed
+        (kept_in S.Saved.LEN state.old) bytes.now (kept_in S.Saved.LEN state.new) result }
     ensures mark { slice_index state.new 0 ≡ slice_index state.old 0 }
     ensures behind { drop (1 + S.Saved.LEN) state.new ≡ drop (1 + S.Saved.LEN) state.old }
     ensures unchanged { IsFalse result → state.new ≡ state.old }
 {
     let (_, rest) = state.split_at_mut(1);
-    let (saved, _) = rest.split_at_mut(<S::Saved as ByteArray>::LEN);
-    update_saved::<S>(saved, bytes)
+    let (kept, _) = rest.split_at_mut(<S::Saved as ByteArray>::LEN);
+    append::<S>(kept, bytes)
 }
 
-// Appends bytes to a saved state.
+// Appends bytes to the state that is kept as these bytes.
 #[inline(always)]
-fn update_saved<S: Resumable>(saved: &mut [u8], bytes: &[u8]) -> bool
-    ensures updates { Updates (IsSaved S.is_valid S.state_bytes) S.fed saved.old bytes.now saved.new result }
-    ensures unchanged { IsFalse result → saved.new ≡ saved.old }
+fn append<S: Resumable>(kept: &mut [u8], bytes: &[u8]) -> bool
+    ensures updates { Updates (λ s kept. IsSaved S.is_valid S.state_bytes s (S.cleared kept)) S.fed
+        kept.old bytes.now kept.new result }
+    ensures unchanged { IsFalse result → kept.new ≡ kept.old }
 {
-    S::update_saved(saved, bytes)
+    S::update_kept(kept, bytes)
 }
 
 // Writes the digest or the tag of a kept state to its place, if that has its size. False too if no state
-// is saved in these bytes, and then nothing is written.
+// is kept as these bytes, and then nothing is written.
 pub(crate) fn final_kept<S: Resumable>(state: &[u8], output: &mut [u8]) -> bool
     requires room { S.Saved.LEN < length state.now }
-    ensures { WithOutput (IsSaved S.is_valid S.state_bytes) S.new_state S.fed S.finish S.whole
-        (saved_in S.Saved.LEN state.now)
+    ensures { WithOutput (λ s kept. IsSaved S.is_valid S.state_bytes s (S.cleared kept)) S.new_state S.fed
+        S.finish S.whole (kept_in S.Saved.LEN state.now)
         (λ out. Writes (length output.old ≡ S.Hash.OUTPUT_SIZE) out output.old output.new result)
         (Refuses output.old output.new result) }
 {
-    match S::load_from(&state[1..1 + <S::Saved as ByteArray>::LEN]) {
-        Ok(loaded) => write(S::Hash::output_bytes(&loaded.finalize()), output),
-        Err(_) => false,
+    match S::load_kept(&state[1..1 + <S::Saved as ByteArray>::LEN]) {
+        Some(kept) => write(S::Hash::output_bytes(&kept.finalize()), output),
+        None => false,
     }
 }
 
 // Whether these bytes are the digest or the tag of a kept state, all of them. False too if no state is
-// saved there.
+// kept as these bytes.
 pub(crate) fn verify_kept<S: Resumable>(state: &[u8], output: &[u8]) -> bool
     requires room { S.Saved.LEN < length state.now }
-    ensures { WithOutput (IsSaved S.is_valid S.state_bytes) S.new_state S.fed S.finish S.whole
-        (saved_in S.Saved.LEN state.now) (λ out. IsTrue result ↔ (output.now ≡ out)) (IsFalse result) }
+    ensures { WithOutput (λ s kept. IsSaved S.is_valid S.state_bytes s (S.cleared kept)) S.new_state S.fed
+        S.finish S.whole (kept_in S.Saved.LEN state.now)
+        (λ out. IsTrue result ↔ (output.now ≡ out)) (IsFalse result) }
 {
-    match S::load_from(&state[1..1 + <S::Saved as ByteArray>::LEN]) {
-        Ok(loaded) => all_equal(S::Hash::output_bytes(&loaded.finalize()), output),
-        Err(_) => false,
+    match S::load_kept(&state[1..1 + <S::Saved as ByteArray>::LEN]) {
+        Some(kept) => all_equal(S::Hash::output_bytes(&kept.finalize()), output),
+        None => false,
     }
 }

@@ -1,8 +1,8 @@
 //! Digests of messages that come in pieces.
 
-ghost use Rattle.ripemd_calls.specs.KeptStates.{FinalizesState, InitsState, UpdatesState};
+ghost use Rattle.ripemd_calls.specs.KeptStates.{FinalizesState, InitsState, LoadsState, SavesState, UpdatesState};
 
-use crate::states::{final_kept, init_kept, update_kept};
+use crate::states::{final_kept, init_kept, load_saved, save_kept, update_kept};
 use ripemd::{Ripemd128, Ripemd160, Ripemd256, Ripemd320};
 
 /// Writes the hash state of the empty message by the variant. False exactly if there is none, and then
@@ -29,4 +29,21 @@ pub fn finalize(state: &[u8; 113], digest: &mut [u8]) -> bool
     ensures { FinalizesState state.now digest.old digest.new result }
 {
     by_variant!(8 * state[0] as u32, final_kept(state, digest))
+}
+
+/// Writes the bytes that the hash state is saved as to `saved`: its core, the length of the tail, the tail and
+/// zeros. True exactly if these are the bytes of a hash state, and `saved` has the size of a digest and 72 bytes;
+/// otherwise nothing is written.
+pub fn save(state: &[u8; 113], saved: &mut [u8]) -> bool
+    ensures { SavesState state.now saved.old saved.new result }
+{
+    by_variant!(8 * state[0] as u32, save_kept(state, saved))
+}
+
+/// Writes the hash state of the variant that is saved as these bytes. False exactly if there is no such variant,
+/// or none of its hash states is, and then nothing is written.
+pub fn load(variant: u32, state: &mut [u8; 113], saved: &[u8]) -> bool
+    ensures { LoadsState variant saved.now state.old state.new result }
+{
+    by_variant!(variant, load_saved(saved, (variant / 8) as u8, state))
 }

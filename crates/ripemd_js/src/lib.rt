@@ -4,6 +4,7 @@
 
 ghost use Rattle.std.specs.Prelude.{◌≡◌, ◌≢◌, slice_index};
 ghost use Rattle.ripemd_calls.specs.KeptStates.{FinalizesHmac, FinalizesState, InitsHmac, InitsState};
+ghost use Rattle.ripemd_calls.specs.KeptStates.{LoadsHmac, LoadsState, SavesHmac, SavesState};
 ghost use Rattle.ripemd_calls.specs.KeptStates.{UpdatesHmac, UpdatesState, VerifiesHmac};
 ghost use Rattle.ripemd_calls.specs.Pbkdf2.{DerivesKey};
 ghost use Rattle.ripemd_calls.specs.Variants.{Refuses, VerifiesTag, WritesDigest, WritesTag};
@@ -40,6 +41,22 @@ pub extern "C" fn nattizhu_final(state: &[u8; 113], digest: &mut [u8]) -> bool
     ensures { FinalizesState state.now digest.old digest.new result }
 {
     streams::finalize(state, digest)
+}
+
+/// Does what [`streams::save`] does.
+#[unsafe(no_mangle)]
+pub extern "C" fn nattizhu_save(state: &[u8; 113], saved: &mut [u8]) -> bool
+    ensures { SavesState state.now saved.old saved.new result }
+{
+    streams::save(state, saved)
+}
+
+/// Does what [`streams::load`] does.
+#[unsafe(no_mangle)]
+pub extern "C" fn nattizhu_load(variant: u32, state: &mut [u8; 113], saved: &[u8]) -> bool
+    ensures { LoadsState variant saved.now state.old state.new result }
+{
+    streams::load(variant, state, saved)
 }
 
 /// Does what [`hmac::tag`] does.
@@ -95,6 +112,22 @@ pub extern "C" fn nattizhu_hmac_verify(state: &[u8; 225], tag: &[u8]) -> bool
     hmac::verify(state, tag)
 }
 
+/// Does what [`hmac::save`] does.
+#[unsafe(no_mangle)]
+pub extern "C" fn nattizhu_hmac_save(state: &[u8; 225], saved: &mut [u8]) -> bool
+    ensures { SavesHmac state.now saved.old saved.new result }
+{
+    hmac::save(state, saved)
+}
+
+/// Does what [`hmac::load`] does.
+#[unsafe(no_mangle)]
+pub extern "C" fn nattizhu_hmac_load(variant: u32, state: &mut [u8; 225], saved: &[u8]) -> bool
+    ensures { LoadsHmac variant saved.now state.old state.new result }
+{
+    hmac::load(variant, state, saved)
+}
+
 /// Does what [`pbkdf2::derive`] does.
 #[unsafe(no_mangle)]
 pub extern "C" fn nattizhu_pbkdf2(
@@ -141,4 +174,21 @@ pub extern "C" fn ripemd160_final(state: &[u8; 113], digest: &mut [u8]) -> bool
     ensures refused { slice_index state.now 0 ≢ 20 → Refuses digest.old digest.new result }
 {
     state[0] == 20 && streams::finalize(state, digest)
+}
+
+/// Does what [`streams::save`] does with a RIPEMD-160 state, and refuses any other.
+#[unsafe(no_mangle)]
+pub extern "C" fn ripemd160_save(state: &[u8; 113], saved: &mut [u8]) -> bool
+    ensures saves { slice_index state.now 0 ≡ 20 → SavesState state.now saved.old saved.new result }
+    ensures refused { slice_index state.now 0 ≢ 20 → Refuses saved.old saved.new result }
+{
+    state[0] == 20 && streams::save(state, saved)
+}
+
+/// Does what [`streams::load`] does by RIPEMD-160.
+#[unsafe(no_mangle)]
+pub extern "C" fn ripemd160_load(state: &mut [u8; 113], saved: &[u8]) -> bool
+    ensures { LoadsState 160 saved.now state.old state.new result }
+{
+    streams::load(160, state, saved)
 }

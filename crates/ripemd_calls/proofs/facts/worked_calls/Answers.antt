@@ -21,8 +21,8 @@ pieces : (bits : ℕ) (v : Parameters) {digest : List ℕ} (any first next : Lis
 pieces bits v any first next begun fed is eight computed init update =
     let inits = rw is at init in
     let call = rw (inits.marked, eight, is) at update in
-    let after = call.saved.message (new_state v) [] inits.saved in (
-      inits.kept,
+    let after = call.kept.message (new_state v) [] inits.kept in (
+      inits.yes,
       after.0,
       λ new done does. written (length-range_with_len 0 (digest_size v)) computed
           ((rw (call.mark ∙ inits.marked, eight, is) at does).message tt abc after.1),

@@ -1,14 +1,17 @@
-use Rattle.std.proofs.Common.{◌≡◌, ℕ, List, [], ◌∷◌, ◌++◌, codes, length, replicate, drop, get_or, refl, sym, ap, subst, ◌∙◌, arith, rules}
-use Rattle.std.proofs.Math.Seq.{drop-append_seam}
+use Rattle.std.proofs.Common.{◌≡◌, ◌+◌, ℕ, List, [], ◌∷◌, ◌++◌, codes, length, replicate, drop, get_or, refl, sym, ap, subst, ◌∙◌, arith, rules}
 use Rattle.ripemd.specs.Standard.Words.{word_bytes}
 use Rattle.ripemd.specs.Standard.Compression.{ripemd160, registers_after, lines_after, compress}
 use Rattle.ripemd.specs.Standard.Hashing.{with_padding, blocks, partial_block, hash}
 use Rattle.ripemd.specs.States.{HashState, IsState, new_state, fed, output_and_count, tail_bytes, core_and_tail}
-use Rattle.ripemd_block.specs.Laws.Saved.{word_bytes_output, length-output_and_count, length-core_and_tail, core_and_tail-split}
+use Rattle.ripemd.specs.SavedLaws.{length-core_and_tail}
+use Rattle.ripemd_block.specs.Laws.Saved.{word_bytes_output}
+use Rattle.ripemd.proofs.Saved.{tail_back, behind_tail}
+use Rattle.ripemd_mac.specs.Laws.{outer_part}
+use Rattle.ripemd.specs.Published.{hexadecimal}
 use Rattle.ripemd_mac.specs.Hmac.{KeyedState, key_block, inner_message, outer_message, hmac, keyed_state, fed_text}
 use Rattle.ripemd_mac.specs.Worked.{saved_inner, saved_outer}
 use Rattle.ripemd_calls.specs.KeptStates.{IsSavedState, IsSavedHmac}
-use Rattle.ripemd_calls.specs.Worked.{forged, key}
+use Rattle.ripemd_calls.specs.Worked.{forged, key, soiled, soiled_bytes}
 use Rattle.ripemd_calls.proofs.Working.{written, refused, not_answered}
 use Rattle.ripemd_calls.proofs.facts.worked_states.Goals as goal
 
@@ -30,21 +33,24 @@ is_state = record {
 -- the forged bytes have a tail of 255
 not_state : (h : HashState) → ¬ IsSavedState ripemd160 h forged
 not_state h is =
-    let core : length (output_and_count word_bytes h) ≡ 28 = length-output_and_count (word_bytes_output 5) h is.valid in
     let tail : tail_bytes h.tail ≡ drop 28 forged =
-    sym (drop-append_seam (output_and_count word_bytes h) (tail_bytes h.tail))
-    ∙ rw core (ap (drop 28) (sym (core_and_tail-split word_bytes h) ∙ is.saved)) in
+    tail_back (word_bytes_output 5) h is.valid 28 refl forged is.saved (drop 28 forged) refl in
     let size : length h.tail ≡ 255 = ap (λ (bs : List ℕ). get_or bs 0 0) tail in
     omega (arith, size, is.valid.tail.short)
 
-no_outer : (s : KeyedState) → ¬ IsSavedHmac ripemd160 s (saved_inner ++ forged)
-no_outer s is =
-    let inner : length (core_and_tail word_bytes s.inner) ≡ 92 = length-core_and_tail (word_bytes_output 5) s.inner is.valid.inner in
-    not_state s.outer (record {
-      valid = is.valid.outer;
-      saved = sym (drop-append_seam (core_and_tail word_bytes s.inner) (core_and_tail word_bytes s.outer))
-          ∙ rw inner (ap (drop 92) is.saved);
-    })
+-- where the byte behind the tail is 7, they are saved of no state
+no_zeros : (n : ℕ) (bytes rest : List ℕ) → get_or (drop 28 bytes) 0 0 ≡ n → drop (29 + n) bytes ≡ 7 ∷ rest
+    → (h : HashState) → ¬ IsSavedState ripemd160 h bytes
+no_zeros n bytes rest len behind h is =
+    let tail = tail_back (word_bytes_output 5) h is.valid 28 refl bytes is.saved (drop 28 bytes) refl in
+    let size : length h.tail ≡ n = ap (λ (bs : List ℕ). get_or bs 0 0) tail ∙ len in
+    let zeros = behind_tail (word_bytes_output 5) h is.valid 28 refl bytes is.saved (29 + n) (omega (arith, size)) (7 ∷ rest) (sym behind) in
+    omega (arith, ap (λ (bs : List ℕ). get_or bs 0 0) zeros)
+
+no_outer : (outer : List ℕ) → ((h : HashState) → ¬ IsSavedState ripemd160 h outer) → (s : KeyedState)
+    → ¬ IsSavedHmac ripemd160 s (saved_inner ++ outer)
+no_outer outer none s is =
+    none s.outer (record { valid = is.valid.outer; saved = outer_part (word_bytes_output 5) s is.valid (saved_inner ++ outer) is.saved })
 
 -- the HMAC state of the key
 abbrev start : KeyedState
@@ -56,17 +62,30 @@ returns-clause-states c = record {
   finalized = λ new done does. written refl refl (does.message tt (replicate 64 0x61 ++ 0x62 ∷ [])
       (record { valid = is_state; saved = refl }));
   updated = λ next fed does.
-      let after_message = does.saved.message (new_state ripemd160) (replicate 64 0x61 ++ 0x62 ∷ [])
+      let after_message = does.kept.message (new_state ripemd160) (replicate 64 0x61 ++ 0x62 ∷ [])
       (record { valid = is_state; saved = refl }) in (
-        (does.saved.state after (record { valid = is_state; saved = refl })).0,
+        after_message.0,
         λ new done gives. written refl refl ((rw does.mark at gives).message tt (replicate 64 0x61 ++ 0x62 ∷ 0x63 ∷ []) after_message.1),
+      );
+  saved = λ new done does. written refl refl (does.state after (record { valid = is_state; saved = refl }));
+  loaded = λ any next done does.
+      let keeps = does.state (fed (compress ripemd160) (new_state ripemd160) (replicate 64 0x61 ++ 0x62 ∷ []))
+      (record { valid = is_state; saved = refl }) in (
+        keeps.yes,
+        λ new done gives. written refl refl ((rw keeps.marked at gives).message tt (replicate 64 0x61 ++ 0x62 ∷ []) keeps.kept),
       );
   short = λ new done does. refused done (λ fits. absurd (omega (arith, fits))) (does.state after (record { valid = is_state; saved = refl }));
   not_finalized = λ new done does. does.refused not_state;
   other_kind = λ new done does. does;
   not_updated = λ piece new done does.
-      let unfit = does.saved.refused.1 not_state in (unfit, does.unchanged unfit);
-  behind = λ first next begun fed init update. (rw init.marked at update).behind ∙ init.zeros;
+      let unfit = does.kept.refused.1 not_state in (unfit, does.unchanged unfit);
+  short_saved = λ new done does. refused done (λ fits. absurd (omega (arith, fits))) (does.state after (record { valid = is_state; saved = refl }));
+  not_saved = λ new done does. does.refused not_state;
+  not_zeros = λ new done does. does.refused (no_zeros 1 soiled_bytes (replicate 61 7) refl refl);
+  other_variant = λ new done does. does.refused (λ h is.
+      omega (arith, ap length is.saved, length-core_and_tail (word_bytes_output 4) h is.valid));
+  no_variant = λ new done does. does;
+  behind = λ first next begun fed init update. (rw init.marked at update).behind ∙ init.behind;
 }
 
 pub returns-clause-hmac_states : goal.returns-clause-hmac_states
@@ -78,20 +97,31 @@ returns-clause-hmac_states c =
     saved_for.stands.is (record { valid = saved_for.valid; saved = saved_for.saved }) in
     record {
       finalized = λ new done does. written refl refl (does.message key (codes "Hi There") text);
+      saved = λ new done does. written refl (ap hexadecimal text.saved) (does.state (fed_text (compress ripemd160) start (codes "Hi There")) text);
+      loaded = λ any next done does.
+          let keeps = does.state (fed_text (compress ripemd160) start (codes "Hi There")) text in (
+            keeps.yes,
+            λ new done gives. written refl refl ((rw keeps.marked at gives).message key (codes "Hi There") keeps.kept),
+          );
       short = λ new done does. refused done (λ fits. absurd (omega (arith, fits))) (does.message key (codes "Hi There") text);
-      not_finalized = λ new done does. does.refused no_outer;
+      not_finalized = λ new done does. does.refused (no_outer forged not_state);
       other_kind = λ answer does. does;
       verified = λ answer does. (does.message key (codes "Hi There") text).1 refl;
       wrong = λ answer does.
           not_answered answer (λ same. omega (arith, ap (λ (bytes : List ℕ). get_or bytes 0 0) same))
           (does.message key (codes "Hi There") text).0;
-      not_verified = λ some answer does. does.refused no_outer;
+      not_verified = λ some answer does. does.refused (no_outer forged not_state);
       not_updated = λ piece new done does.
-          let unfit = does.saved.refused.1 no_outer in (unfit, does.unchanged unfit);
+          let unfit = does.kept.refused.1 (no_outer forged not_state) in (unfit, does.unchanged unfit);
+      short_saved = λ new done does. refused done (λ fits. absurd (omega (arith, fits)))
+          (does.state (fed_text (compress ripemd160) start (codes "Hi There")) text);
+      not_saved = λ new done does. does.refused (no_outer forged not_state);
+      not_zeros = λ new done does. does.refused (no_outer (soiled 29 saved_outer) (no_zeros 0 (soiled 29 saved_outer) (replicate 62 7) refl refl));
+      no_variant = λ new done does. does;
       tagged = λ any first next begun fed init update.
           let call = rw init.marked at update in
-          let after = call.saved.message start [] init.saved in (
-            init.kept,
+          let after = call.kept.message start [] init.kept in (
+            init.yes,
             after.0,
             λ new done does. written refl refl ((rw (call.mark ∙ init.marked) at does).message key (codes "Hi There") after.1),
           );
