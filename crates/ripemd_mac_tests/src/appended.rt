@@ -9,28 +9,22 @@ use ripemd::{BlockHasher, Digest, ResumableFunction};
 use ripemd_mac::Hmac;
 
 // A state's bytes where it is kept among bytes that are all 7.
-fn kept<S: Resumable>(state: &S) -> [u8; 224] {
+fn kept<S: Resumable>(state: &S) -> Option<[u8; 224]> {
     let mut bytes = [7; 224];
-    state.keep(&mut bytes[..<S::Saved as ByteArray>::LEN]);
-    bytes
+    state.keep(bytes.get_mut(..<S::Saved as ByteArray>::LEN)?);
+    Some(bytes)
 }
 
-// Whether a kept state is, after a piece, saved as these bytes; and whether it stays so when it is kept once more.
-fn appends<S: Resumable>(before: &S, piece: &[u8], after: &[u8]) -> bool {
-    let mut bytes = kept(before);
-    let place = &mut bytes[..<S::Saved as ByteArray>::LEN];
+// Whether a state that is kept, takes in a piece there, and is kept once more, is saved as these bytes.
+fn appends<S: Resumable>(before: &S, piece: &[u8], after: &[u8]) -> Option<bool> {
+    let mut bytes = kept(before)?;
+    let place = bytes.get_mut(..<S::Saved as ByteArray>::LEN)?;
     if !S::update_kept(place, piece) {
-        return false;
+        return None;
     }
-    match S::load_kept(place) {
-        Some(state) => {
-            let again = kept(&state);
-            state.save().as_bytes() == after
-                && S::load_kept(&again[..<S::Saved as ByteArray>::LEN])
-                    .is_some_and(|state| state.save().as_bytes() == after)
-        }
-        None => false,
-    }
+    let again = kept(&S::load_kept(place)?)?;
+    let loaded = S::load_kept(again.get(..<S::Saved as ByteArray>::LEN)?)?;
+    Some(loaded.save().as_bytes() == after)
 }
 
 // Whether those of hashers and HMACs do, with tails of all lengths and pieces that end no block, one, or two.
@@ -46,8 +40,8 @@ fn appends_pieces<F: ResumableFunction>() -> bool {
             let piece = &letters[..more];
             hasher.update(piece);
             mac.update(piece);
-            if !appends(&hasher_before, piece, hasher.serialize().as_bytes())
-                || !appends(&mac_before, piece, mac.save().as_bytes())
+            if appends(&hasher_before, piece, hasher.serialize().as_bytes()) != Some(true)
+                || appends(&mac_before, piece, mac.save().as_bytes()) != Some(true)
             {
                 return false;
             }
