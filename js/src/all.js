@@ -8,19 +8,6 @@ import { otherTasks, pieces, stream } from './pieces.js';
 const VARIANTS = [128, 160, 256, 320];
 const MOST = 2 ** 32 - 1;
 
-// How a state is saved as so many bytes, and loaded, by these calls. `load` gives 0 for bytes that are no state.
-const saving = (length, keyed, save, load) => ({
-  save: (state, run) => run(length, keyed, (calls, memory) => {
-    memory.set(state, STATE);
-    save(calls, big(length));
-    return memory.slice(IN, IN + length);
-  }),
-  load: (saved, run) => run(length, keyed, (calls, memory) => {
-    memory.set(saved, IN);
-    return load(calls, big(length)) && memory.slice(STATE, STATE + 1 + length);
-  }),
-});
-
 const hashKind = (bits, size = bits / 8, n = BigInt(size)) => ({
   size,
   length: 1 + size + 72,
@@ -28,9 +15,8 @@ const hashKind = (bits, size = bits / 8, n = BigInt(size)) => ({
   init: (calls) => calls.nattizhu_init(bits, AT.state),
   update: (calls, length) => calls.nattizhu_update(AT.state, AT.in, length),
   final: (calls) => calls.nattizhu_final(AT.state, AT.out, n),
-  ...saving(size + 72, false,
-    (calls, length) => calls.nattizhu_save(AT.state, AT.in, length),
-    (calls, length) => calls.nattizhu_load(bits, AT.state, AT.in, length)),
+  save: (calls, length) => calls.nattizhu_save(AT.state, AT.in, length),
+  load: (calls, length) => calls.nattizhu_load(bits, AT.state, AT.in, length),
 });
 
 const hmacKind = (bits, size = bits / 8, n = BigInt(size)) => ({
@@ -40,9 +26,8 @@ const hmacKind = (bits, size = bits / 8, n = BigInt(size)) => ({
   init: (calls, length) => calls.nattizhu_hmac_init(bits, AT.state, AT.in, length),
   update: (calls, length) => calls.nattizhu_hmac_update(AT.state, AT.in, length),
   final: (calls) => calls.nattizhu_hmac_final(AT.state, AT.out, n),
-  ...saving(2 * (size + 72), true,
-    (calls, length) => calls.nattizhu_hmac_save(AT.state, AT.in, length),
-    (calls, length) => calls.nattizhu_hmac_load(bits, AT.state, AT.in, length)),
+  save: (calls, length) => calls.nattizhu_hmac_save(AT.state, AT.in, length),
+  load: (calls, length) => calls.nattizhu_hmac_load(bits, AT.state, AT.in, length),
 });
 
 function ahash(hash) {

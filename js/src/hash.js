@@ -1,6 +1,5 @@
 // Hash functions in the form of @noble/hashes 1.x, over an engine (`run`). A kind says how the module is called for
-// one function: `size` bytes of a digest or a tag, `length` of a state, whether it is `keyed`, the calls, and how a
-// state is saved and loaded.
+// one function: `size` bytes of a digest or a tag, `length` of a state, whether it is `keyed`, and the calls.
 import { IN, OUT, PIECE, STATE, big } from './engine.js';
 import { abytes, toBytes } from './input.js';
 
@@ -30,6 +29,13 @@ export const final = (run, kind, state) => run(0, kind.keyed, (calls, memory, ou
   memory.set(state, STATE);
   kind.final(calls);
   return output(kind.size);
+});
+
+// The bytes that a state is saved as, which are one fewer than those of the state.
+const save = (run, kind, state) => run(kind.length, kind.keyed, (calls, memory) => {
+  memory.set(state, STATE);
+  kind.save(calls, big(kind.length - 1));
+  return memory.slice(IN, IN + kind.length - 1);
 });
 
 /** A message in pieces, as its state between the calls. */
@@ -88,7 +94,7 @@ export class Hash {
 
   save() {
     this.#check();
-    return this.#kind.save(this.#state, this.#run);
+    return save(this.#run, this.#kind, this.#state);
   }
 
   destroy() {
@@ -99,7 +105,11 @@ export class Hash {
 
 /** The state that was saved as these bytes, as a Hash or an Hmac. */
 export function loaded(type, run, kind, saved) {
-  const state = kind.load(abytes(saved, kind.length - 1), run);
+  const bytes = abytes(saved, kind.length - 1);
+  const state = run(bytes.length, kind.keyed, (calls, memory) => {
+    memory.set(bytes, IN);
+    return kind.load(calls, big(bytes.length)) && memory.slice(STATE, STATE + kind.length);
+  });
   if (!state) throw new Error('saved state expected');
   return new type(run, kind, state);
 }
