@@ -2,3 +2,4 @@
 pub mod KeptStates
 -- What calls do with some values.
 pub mod Working
+pub mod Clearing

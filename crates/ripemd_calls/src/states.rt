@@ -1,8 +1,8 @@
 //! What is done to the states that callers keep, the same for hash states and HMAC states. Between the pieces of a
 //! message the caller keeps a state as a mark and the bytes that it is saved as, but that any may stand behind a tail.
 
-ghost use Rattle.std.specs.Prelude.{◌≡◌, ◌↔◌, ℕ, ◌+◌, ◌<◌, ◌≤◌, List, [], length, drop, slice_index, IsTrue, IsFalse};
-ghost use Rattle.ripemd.specs.Saved.{IsSaved};
+ghost use Rattle.std.specs.Prelude.{◌≡◌, ◌↔◌, ℕ, ◌+◌, ◌<◌, ◌≤◌, List, [], length, drop, replicate, slice_index, IsTrue, IsFalse};
+ghost use Rattle.ripemd.specs.Saved.{IsSaved, cleared};
 ghost use Rattle.ripemd.specs.States.{initial_state};
 ghost use Rattle.ripemd_mac.specs.Hmac.{keyed_state};
 ghost use Rattle.ripemd_calls.specs.KeptStates.{Keeps, Updates, WithOutput, WithState, kept_in};
@@ -24,8 +24,25 @@ pub(crate) trait Kept: Resumable {
     fn begin(key: &[u8]) -> Self
         ensures { result ≡ first key.now };
 
+    /// Puts zeros behind the tails of kept bytes.
+    fn clear(kept: &mut [u8])
+        requires { length kept.old ≡ Self.Saved.LEN }
+        ensures { kept.new ≡ Self.Resumable.cleared kept.old };
+
+    /// Whether zeros are behind the tails of kept bytes.
+    fn is_clear(kept: &[u8]) -> bool
+        requires { length kept.now ≡ Self.Saved.LEN }
+        ensures { IsTrue result ↔ (Self.Resumable.cleared kept.now ≡ kept.now) };
+
     // No bytes leave it as it is.
     ghost fed_nothing: { (key : List ℕ) → Self.Incremental.fed (first key) [] ≡ first key };
+
+    // What a state is saved as has as many bytes, and is clear.
+    ghost saved_size: { (s : Self) → Self.Resumable.is_valid s
+        → length (Self.Resumable.state_bytes s) ≡ Self.Saved.LEN };
+
+    ghost saved_is_clear: { (s : Self) → Self.Resumable.is_valid s
+        → Self.Resumable.state_bytes s ≡ Self.Resumable.cleared (Self.Resumable.state_bytes s) };
 }
 
 impl<F: ResumableFunction> Kept for BlockHasher<F> {
@@ -35,9 +52,24 @@ impl<F: ResumableFunction> Kept for BlockHasher<F> {
         BlockHasher::new()
     }
 
+    fn clear(kept: &mut [u8]) {
+        clear_behind(<F::SavedCore as ByteArray>::LEN, kept);
+    }
+
+    fn is_clear(kept: &[u8]) -> bool {
+        is_clear_behind(<F::SavedCore as ByteArray>::LEN, kept)
+    }
+
     ghost use Rattle.ripemd.specs.Laws.{fed_nothing_at_first};
 
     ghost fed_nothing = { λ _. fed_nothing_at_first F.step (F.list F.start_of) };
+
+    ghost use Rattle.ripemd_calls.specs.KeptLaws.{saved_is_clear, saved_size};
+
+    ghost saved_size = { saved_size F.injective_output F.SavedCore.LEN F.saved_core_size F.SavedHasher.LEN
+        F.saved_hasher_size };
+
+    ghost saved_is_clear = { saved_is_clear F.injective_output F.SavedCore.LEN F.saved_core_size };
 }
 
 impl<F: ResumableFunction> Kept for Hmac<BlockHasher<F>> {
@@ -47,9 +79,59 @@ impl<F: ResumableFunction> Kept for Hmac<BlockHasher<F>> {
         Hmac::new(key)
     }
 
+    fn clear(kept: &mut [u8]) {
+        let (inner, outer) = kept.split_at_mut(<F::SavedHasher as ByteArray>::LEN);
+        clear_behind(<F::SavedCore as ByteArray>::LEN, inner);
+        clear_behind(<F::SavedCore as ByteArray>::LEN, outer);
+    }
+
+    fn is_clear(kept: &[u8]) -> bool {
+        let (inner, outer) = kept.split_at(<F::SavedHasher as ByteArray>::LEN);
+        is_clear_behind(<F::SavedCore as ByteArray>::LEN, inner)
+            && is_clear_behind(<F::SavedCore as ByteArray>::LEN, outer)
+    }
+
     ghost use Rattle.ripemd_mac.specs.Laws.{fed_nothing};
 
     ghost fed_nothing = { fed_nothing (F.list F.start_of) F.step F.output };
+
+    ghost use Rattle.ripemd_calls.specs.KeptLaws.{saved_hmac_is_clear, saved_hmac_size};
+
+    ghost saved_size = { saved_hmac_size F.injective_output F.SavedCore.LEN F.saved_core_size F.SavedHasher.LEN
+        F.SavedHmac.LEN F.saved_hasher_size F.saved_hmac_size };
+
+    ghost saved_is_clear = { saved_hmac_is_clear F.injective_output F.SavedCore.LEN F.saved_core_size };
+}
+
+// Puts zeros behind the tail of a kept hasher, whose core has so many bytes.
+fn clear_behind(core: usize, kept: &mut [u8])
+    requires { core < length kept.old }
+    ensures { kept.new ≡ cleared core kept.old }
+{
+    let (_, tail) = kept.split_at_mut(core);
+    let (len, rest) = tail.split_at_mut(1);
+    let held = (len[0] as usize).min(rest.len());
+    let (_, behind) = rest.split_at_mut(held);
+    behind.fill(0);
+}
+
+// Whether zeros are there.
+fn is_clear_behind(core: usize, kept: &[u8]) -> bool
+    requires { core < length kept.now }
+    ensures { IsTrue result ↔ (cleared core kept.now ≡ kept.now) }
+{
+    let (_, tail) = kept.split_at(core);
+    let (len, rest) = tail.split_at(1);
+    let held = (len[0] as usize).min(rest.len());
+    let (_, behind) = rest.split_at(held);
+    are_zeros(behind)
+}
+
+// Whether all bytes are zero.
+fn are_zeros(bytes: &[u8]) -> bool
+    ensures { IsTrue result ↔ (bytes.now ≡ replicate (length bytes.now) 0) }
+{
+    bytes.iter().all(|byte| *byte == 0)
 }
 
 // Keeps the state before the first byte behind a mark.
@@ -61,54 +143,64 @@ pub(crate) fn init_kept<S: Kept>(key: &[u8], mark: u8, state: &mut [u8]) -> bool
         (S.cleared (kept_in S.Saved.LEN state.new)) }
     ensures behind { drop (1 + S.Saved.LEN) state.new ≡ drop (1 + S.Saved.LEN) state.old }
 {
-    put_kept(&S::begin(key), mark, state)
+    let (first, rest) = state.split_at_mut(1);
+    let (place, _) = rest.split_at_mut(<S::Saved as ByteArray>::LEN);
+    first[0] = mark;
+    S::begin(key).keep(place);
+    true
 }
 
 // Keeps the state that is saved as these bytes behind a mark. False exactly if none is, and then nothing is
 // written.
-pub(crate) fn load_saved<S: Resumable>(saved: &[u8], mark: u8, state: &mut [u8]) -> bool
+pub(crate) fn load_saved<S: Kept>(saved: &[u8], mark: u8, state: &mut [u8]) -> bool
     requires room { S.Saved.LEN < length state.old }
     ensures { WithState (IsSaved S.is_valid S.state_bytes) saved.now
         (λ s. Keeps (λ s kept. IsSaved S.is_valid S.state_bytes s (S.cleared kept)) mark S.Saved.LEN s
         state.old state.new result)
         (Refuses state.old state.new result) }
 {
-    match S::load_from(saved) {
-        Ok(loaded) => put_kept(&loaded, mark, state),
-        Err(_) => false,
+    if saved.len() != <S::Saved as ByteArray>::LEN {
+        return false;
     }
+    if !S::is_clear(saved) {
+        return false;
+    }
+    let Some(_state) = S::load_kept(saved) else {
+        return false;
+    };
+    put(saved, mark, state);
+    true
 }
 
-// Keeps a state behind a mark.
-#[inline(always)]
-fn put_kept<S: Resumable>(kept: &S, mark: u8, state: &mut [u8]) -> bool
-    requires room { S.Saved.LEN < length state.old }
-    ensures yes { IsTrue result }
+// Writes a mark and some bytes. What is behind them stays.
+fn put(bytes: &[u8], mark: u8, state: &mut [u8])
+    requires room { length bytes.now < length state.old }
     ensures marked { slice_index state.new 0 ≡ mark }
-    ensures kept { IsSaved S.is_valid S.state_bytes kept.now
-        (S.cleared (kept_in S.Saved.LEN state.new)) }
-    ensures behind { drop (1 + S.Saved.LEN) state.new ≡ drop (1 + S.Saved.LEN) state.old }
+    ensures kept { kept_in (length bytes.now) state.new ≡ bytes.now }
+    ensures behind { drop (1 + length bytes.now) state.new ≡ drop (1 + length bytes.now) state.old }
 {
     let (first, rest) = state.split_at_mut(1);
-    let (place, _) = rest.split_at_mut(<S::Saved as ByteArray>::LEN);
+    let (place, _) = rest.split_at_mut(bytes.len());
     first[0] = mark;
-    kept.keep(place);
-    true
+    place.copy_from_slice(bytes);
 }
 
 // Writes the bytes that a kept state is saved as to their place, if that has their size. False too if no state
 // is kept as these bytes, and then nothing is written.
-pub(crate) fn save_kept<S: Resumable>(state: &[u8], saved: &mut [u8]) -> bool
+pub(crate) fn save_kept<S: Kept>(state: &[u8], saved: &mut [u8]) -> bool
     requires room { S.Saved.LEN < length state.now }
     ensures { WithState (λ s kept. IsSaved S.is_valid S.state_bytes s (S.cleared kept))
         (kept_in S.Saved.LEN state.now)
         (λ s. Writes (length saved.old ≡ S.Saved.LEN) (S.state_bytes s) saved.old saved.new result)
         (Refuses saved.old saved.new result) }
 {
-    match S::load_kept(&state[1..1 + <S::Saved as ByteArray>::LEN]) {
-        Some(kept) => write(kept.save().as_bytes(), saved),
-        None => false,
+    let kept = &state[1..1 + <S::Saved as ByteArray>::LEN];
+    if S::load_kept(kept).is_none() || saved.len() != kept.len() {
+        return false;
     }
+    saved.copy_from_slice(kept);
+    S::clear(saved);
+    true
 }
 
 // Appends bytes to a kept state. False exactly if no state is kept as these bytes, and then nothing is
