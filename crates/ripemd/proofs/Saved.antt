@@ -5,24 +5,18 @@ use Rattle.std.proofs.Common.{All, length-append, slice_set, suc, Result, Ok, Er
 use Rattle.std.specs.Result.{IsOk}
 use Rattle.std.proofs.lemmas.List.Elements.{All-append}
 use Rattle.std.proofs.lemmas.Bool.{cases_lt}
-use Rattle.std.proofs.lemmas.List.{append_assoc, length-replicate, length-drop, drop-drop}
+use Rattle.std.proofs.lemmas.List.{append_assoc, length-replicate, length-drop}
 use Rattle.std.proofs.lemmas.List.{length-take-le, take-append-drop, take_all, take_at, drop_at}
 use Rattle.std.proofs.Math.Seq.{take-append_seam, drop-append_seam}
 use Rattle.ripemd_block.specs.States.{HashState, IsTail, IsHashState, IsWithoutTail, with_tail}
 use Rattle.ripemd_block.specs.States.{output_and_count, tail_bytes, core_and_tail, fed}
 use Rattle.ripemd_block.specs.Laws.Pieces.{fed_short}
 use Rattle.ripemd.specs.Saved.{IsAppended, cleared, cleared_tail}
+use Rattle.ripemd.specs.SavedLaws.{cleared_behind}
 use Rattle.ripemd_block.specs.OverLists.{IsInjectiveOutput}
 use Rattle.ripemd_block.specs.Laws.Saved.{length-output_and_count, length-core_and_tail, core_and_tail-split}
 
 -- ---- bytes with zeros behind a tail
-
--- the length of a tail, the tail and any bytes are, with zeros in place of these, what the tail is saved as
-pub cleared_behind : (tail behind : List ℕ) → length behind ≡ 63 - length tail
-    → cleared_tail (length tail ∷ tail ++ behind) ≡ tail_bytes tail
-cleared_behind tail behind size =
-    let left : length (tail ++ behind) - length tail ≡ 63 - length tail = omega (arith, length-append tail behind, size) in
-    rw (take_at tail behind (length tail) refl, left) refl
 
 -- a number and as many of the bytes behind it
 pub cleared_front : (kept : List ℕ) → length kept ≡ 64 → get_or kept 0 0 < 64
@@ -91,10 +85,6 @@ length-cleared n kept =
     ∙ ap (λ (k : ℕ). length (take n kept) + k) (length-cleared_tail (drop n kept))
     ∙ sym (length-append (take n kept) (drop n kept)) ∙ ap length (take-append-drop n kept)
 
--- zeros are put behind the tail, and the core's bytes stay
-pub cleared-both : (front back : List ℕ) (n : ℕ) → length front ≡ n → cleared n (front ++ back) ≡ front ++ cleared_tail back
-cleared-both front back n size = rw (take_at front back n size, drop_at front back n size) refl
-
 -- a result whose error can't be is a value
 pub ok_without_error : {X E : Type 0} {P : E → Type 0} (r : Result X E) → IfErr r P → ((e : E) → ¬ P e) → IsOk r
 ok_without_error (Ok x) h never = search rules
@@ -129,17 +119,6 @@ module _ {are_words : List ℕ → Type 0} {output : List ℕ → List ℕ} {siz
   pub tail_back : (tail : List ℕ) → tail ≡ drop n bytes → tail_bytes h.tail ≡ tail
   tail_back tail back =
       sym (back ∙ rw (split, place) (drop-append_seam (output_and_count output h) (tail_bytes h.tail)))
-
-  -- and behind the tail are zeros
-  pub behind_tail : (used : ℕ) → used ≡ n + 1 + length h.tail → (rest : List ℕ) → rest ≡ drop used bytes
-      → rest ≡ replicate (length rest) 0
-  behind_tail used used_is rest is =
-      let m : ℕ = length h.tail in
-      let zeros : List ℕ = replicate (63 - m) 0 in
-      let all : rest ≡ zeros =
-      is ∙ ap (λ (k : ℕ). drop k bytes) (omega (arith, used_is)) ∙ sym (drop-drop (suc m) n bytes)
-      ∙ ap (drop (suc m)) (sym (tail_back (drop n bytes) refl)) ∙ drop_at (m ∷ h.tail) zeros (suc m) refl in
-      all ∙ ap (λ (k : ℕ). replicate {A = ℕ} k 0) (sym (ap length all ∙ length-replicate {A = ℕ} (63 - m) 0))
 
   -- a piece that ends no block goes behind the tail
   pub both_appended : (step : List ℕ → List ℕ → List ℕ) (piece front new : List ℕ) → front ≡ take n bytes
@@ -184,34 +163,6 @@ module _ {are_words : List ℕ → Type 0} {output : List ℕ → List ℕ} {siz
   kept_tail back is =
       tail_back told h valid n core_size (cleared n kept) same (cleared_tail back)
       (ap cleared_tail is ∙ sym (drop_at (take n kept) (cleared_tail (drop n kept)) n front_size))
-
-  -- with zeros behind the tail it is saved as the same bytes
-  pub kept_with_zeros : (used : ℕ) → used ≡ n + 1 + length h.tail → (rest : List ℕ) → rest ≡ drop used kept
-      → rest ≡ replicate (length rest) 0 → core_and_tail output h ≡ kept
-  kept_with_zeros used used_is rest is zeros =
-      let m : ℕ = length h.tail in
-      let back : List ℕ = drop n kept in
-      let of_back : tail_bytes h.tail ≡ cleared_tail back = kept_tail back refl in
-      let back_size : length back ≡ 64 = omega (arith, length-drop n kept, kept_size) in
-      let left : rest ≡ drop (suc m) back =
-      is ∙ ap (λ (k : ℕ). drop k kept) (omega (arith, used_is)) ∙ sym (drop-drop (suc m) n kept) in
-      let count : length rest ≡ 63 - m = omega (arith, ap length left, length-drop (suc m) back, back_size) in
-      let own : back ≡ tail_bytes h.tail =
-      begins h.tail back back_size valid.tail.short of_back
-      ∙ ap (λ (bs : List ℕ). m ∷ h.tail ++ bs) (sym left ∙ zeros ∙ ap (λ (k : ℕ). replicate {A = ℕ} k 0) count) in
-      same ∙ ap (λ (bs : List ℕ). take n kept ++ bs) (sym of_back ∙ sym own) ∙ take-append-drop n kept
-
--- what a hasher is saved as has zeros behind the tail
-pub cleared_saved : {are_words : List ℕ → Type 0} {output : List ℕ → List ℕ} {size : ℕ} → IsInjectiveOutput are_words output size
-    → (h : HashState) → IsHashState are_words h → (n : ℕ) → n ≡ size + 8 → (bytes : List ℕ)
-    → core_and_tail output h ≡ bytes → core_and_tail output h ≡ cleared n bytes
-cleared_saved {output = output} told h valid n core_size bytes same =
-    let zeros : List ℕ = replicate (63 - length h.tail) 0 in
-    let core : length (output_and_count output h) ≡ n = length-output_and_count told h valid ∙ sym core_size in
-    let tail : cleared_tail (tail_bytes h.tail) ≡ tail_bytes h.tail =
-    cleared_behind h.tail zeros (length-replicate {A = ℕ} (63 - length h.tail) 0) in
-    core_and_tail-split output h
-    ∙ sym (rw (← same, core_and_tail-split output h) (cleared-both (output_and_count output h) (tail_bytes h.tail) n core ∙ rw tail refl))
 
 -- bytes that are those of a core and of a tail are what a hasher of both is saved as
 pub both_saved : (output : List ℕ → List ℕ) (h : HashState) (n : ℕ) (bytes core tail : List ℕ) → core ≡ take n bytes

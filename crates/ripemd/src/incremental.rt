@@ -81,8 +81,7 @@ pub trait Resumable: Incremental {
     // The bytes that a kept state is saved as.
     ghost cleared: { List ℕ → List ℕ };
 
-    /// Keeps the state as bytes: those that it is saved as, but that behind a tail of the message these stay as they
-    /// are.
+    /// Keeps the state as bytes: those that it is saved as, but that any bytes may stand behind a tail of the message.
     fn keep(&self, kept: &mut [u8])
         requires { length kept.old ≡ Self.Saved.LEN }
         ensures kept { state_bytes self.now ≡ cleared kept.new }

@@ -35,9 +35,7 @@ impl<F: ResumableFunction> SerializableState for BlockHasher<F> {
         let Some(hasher) = load_kept::<F>(bytes) else {
             return Err(DeserializeStateError);
         };
-        let used = <F::SavedCore as ByteArray>::LEN + 1 + hasher.buffer.get_pos();
-        let (_, behind) = bytes.split_at(used);
-        if are_zeros(behind) {
+        if is_clear(<F::SavedCore as ByteArray>::LEN, bytes) {
             Ok(hasher)
         } else {
             Err(DeserializeStateError)
@@ -156,6 +154,30 @@ fn absorb_kept<F: ResumableFunction>(kept: &mut [u8], len: usize, bytes: &[u8])
     let mut core = BlockCore::<F>::load_slice(front).unwrap();
     let rest = take_blocks(&mut core, tail, len, bytes);
     keep(&core, rest, kept);
+}
+
+/// Puts zeros behind the tail of a kept hasher, whose core is saved as so many bytes.
+pub fn clear(core: usize, kept: &mut [u8])
+    requires { core < length kept.old }
+    ensures { kept.new ≡ cleared core kept.old }
+{
+    let (_, tail) = kept.split_at_mut(core);
+    let (len, rest) = tail.split_at_mut(1);
+    let held = (len[0] as usize).min(rest.len());
+    let (_, behind) = rest.split_at_mut(held);
+    behind.fill(0);
+}
+
+/// Whether zeros are there.
+pub fn is_clear(core: usize, kept: &[u8]) -> bool
+    requires { core < length kept.now }
+    ensures { IsTrue result ↔ (cleared core kept.now ≡ kept.now) }
+{
+    let (_, tail) = kept.split_at(core);
+    let (len, rest) = tail.split_at(1);
+    let held = (len[0] as usize).min(rest.len());
+    let (_, behind) = rest.split_at(held);
+    are_zeros(behind)
 }
 
 // Whether all bytes are zero.

@@ -2,4 +2,3 @@
 pub mod KeptStates
 -- What calls do with some values.
 pub mod Working
-pub mod Clearing

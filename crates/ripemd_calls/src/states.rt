@@ -1,7 +1,7 @@
 //! What is done to the states that callers keep, the same for hash states and HMAC states. Between the pieces of a
 //! message the caller keeps a state as a mark and the bytes that it is saved as, but that any may stand behind a tail.
 
-ghost use Rattle.std.specs.Prelude.{◌≡◌, ◌↔◌, ℕ, ◌+◌, ◌<◌, ◌≤◌, List, [], length, drop, replicate, slice_index, IsTrue, IsFalse};
+ghost use Rattle.std.specs.Prelude.{◌≡◌, ◌↔◌, ℕ, ◌+◌, ◌<◌, List, [], length, drop, slice_index, IsTrue, IsFalse};
 ghost use Rattle.ripemd.specs.Saved.{IsSaved, cleared};
 ghost use Rattle.ripemd.specs.States.{initial_state};
 ghost use Rattle.ripemd_mac.specs.Hmac.{keyed_state};
@@ -11,6 +11,7 @@ ghost use Rattle.ripemd_calls.specs.Variants.{Refuses, Writes};
 use crate::write;
 use ripemd::block_api::ByteArray;
 use ripemd::incremental::{Incremental, Resumable};
+use ripemd::state::{clear, is_clear};
 use ripemd::{BlockHasher, Digest, ResumableFunction};
 use ripemd_mac::Hmac;
 use ripemd_mac::hmac::all_equal;
@@ -53,18 +54,18 @@ impl<F: ResumableFunction> Kept for BlockHasher<F> {
     }
 
     fn clear(kept: &mut [u8]) {
-        clear_behind(<F::SavedCore as ByteArray>::LEN, kept);
+        clear(<F::SavedCore as ByteArray>::LEN, kept);
     }
 
     fn is_clear(kept: &[u8]) -> bool {
-        is_clear_behind(<F::SavedCore as ByteArray>::LEN, kept)
+        is_clear(<F::SavedCore as ByteArray>::LEN, kept)
     }
 
     ghost use Rattle.ripemd.specs.Laws.{fed_nothing_at_first};
 
     ghost fed_nothing = { λ _. fed_nothing_at_first F.step (F.list F.start_of) };
 
-    ghost use Rattle.ripemd_calls.specs.KeptLaws.{saved_is_clear, saved_size};
+    ghost use Rattle.ripemd.specs.SavedLaws.{saved_is_clear, saved_size};
 
     ghost saved_size = { saved_size F.injective_output F.SavedCore.LEN F.saved_core_size F.SavedHasher.LEN
         F.saved_hasher_size };
@@ -81,14 +82,14 @@ impl<F: ResumableFunction> Kept for Hmac<BlockHasher<F>> {
 
     fn clear(kept: &mut [u8]) {
         let (inner, outer) = kept.split_at_mut(<F::SavedHasher as ByteArray>::LEN);
-        clear_behind(<F::SavedCore as ByteArray>::LEN, inner);
-        clear_behind(<F::SavedCore as ByteArray>::LEN, outer);
+        clear(<F::SavedCore as ByteArray>::LEN, inner);
+        clear(<F::SavedCore as ByteArray>::LEN, outer);
     }
 
     fn is_clear(kept: &[u8]) -> bool {
         let (inner, outer) = kept.split_at(<F::SavedHasher as ByteArray>::LEN);
-        is_clear_behind(<F::SavedCore as ByteArray>::LEN, inner)
-            && is_clear_behind(<F::SavedCore as ByteArray>::LEN, outer)
+        is_clear(<F::SavedCore as ByteArray>::LEN, inner)
+            && is_clear(<F::SavedCore as ByteArray>::LEN, outer)
     }
 
     ghost use Rattle.ripemd_mac.specs.Laws.{fed_nothing};
@@ -101,37 +102,6 @@ impl<F: ResumableFunction> Kept for Hmac<BlockHasher<F>> {
         F.SavedHmac.LEN F.saved_hasher_size F.saved_hmac_size };
 
     ghost saved_is_clear = { saved_hmac_is_clear F.injective_output F.SavedCore.LEN F.saved_core_size };
-}
-
-// Puts zeros behind the tail of a kept hasher, whose core has so many bytes.
-fn clear_behind(core: usize, kept: &mut [u8])
-    requires { core < length kept.old }
-    ensures { kept.new ≡ cleared core kept.old }
-{
-    let (_, tail) = kept.split_at_mut(core);
-    let (len, rest) = tail.split_at_mut(1);
-    let held = (len[0] as usize).min(rest.len());
-    let (_, behind) = rest.split_at_mut(held);
-    behind.fill(0);
-}
-
-// Whether zeros are there.
-fn is_clear_behind(core: usize, kept: &[u8]) -> bool
-    requires { core < length kept.now }
-    ensures { IsTrue result ↔ (cleared core kept.now ≡ kept.now) }
-{
-    let (_, tail) = kept.split_at(core);
-    let (len, rest) = tail.split_at(1);
-    let held = (len[0] as usize).min(rest.len());
-    let (_, behind) = rest.split_at(held);
-    are_zeros(behind)
-}
-
-// Whether all bytes are zero.
-fn are_zeros(bytes: &[u8]) -> bool
-    ensures { IsTrue result ↔ (bytes.now ≡ replicate (length bytes.now) 0) }
-{
-    bytes.iter().all(|byte| *byte == 0)
 }
 
 // Keeps the state before the first byte behind a mark.

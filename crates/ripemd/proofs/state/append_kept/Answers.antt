@@ -1,7 +1,8 @@
 use Rattle.std.proofs.Common.{◌≡◌, ◌∙◌, ◌+◌, ◌<◌, ap, length, arith}
 use Rattle.std.proofs.lemmas.List.{length-drop}
 use Rattle.ripemd.specs.Saved.{cleared}
-use Rattle.ripemd.proofs.Saved.{tail_appended, both_appended, cleared-both, kept_size, kept_front, kept_tail}
+use Rattle.ripemd.specs.SavedLaws.{cleared-both}
+use Rattle.ripemd.proofs.Saved.{tail_appended, both_appended, kept_size, kept_front, kept_tail}
 use Rattle.ripemd.proofs.state.append_kept.Goals as goal
 
 pub returns : goal.returns

@@ -3,7 +3,7 @@ use Rattle.std.proofs.lemmas.List.{append-nil, drop_all, length-drop}
 use Rattle.ripemd_block.specs.States.{HashState, with_tail, tail_bytes, output_and_count}
 use Rattle.ripemd_block.specs.Laws.Saved.{core_and_tail-split}
 use Rattle.ripemd.specs.Saved.{cleared_tail}
-use Rattle.ripemd.proofs.Saved.{cleared-both, cleared_behind}
+use Rattle.ripemd.specs.SavedLaws.{cleared-both, cleared_behind}
 use Rattle.ripemd.proofs.state.keep.Goals as goal
 
 pub returns : goal.returns

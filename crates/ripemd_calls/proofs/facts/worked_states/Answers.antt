@@ -1,11 +1,12 @@
-use Rattle.std.proofs.Common.{◌≡◌, ◌+◌, ℕ, List, [], ◌∷◌, ◌++◌, codes, length, replicate, drop, get_or, refl, sym, ap, subst, ◌∙◌, arith, rules}
+use Rattle.std.proofs.Common.{◌≡◌, ℕ, List, [], ◌∷◌, ◌++◌, codes, length, replicate, drop, get_or, refl, sym, ap, subst, ◌∙◌, arith, rules}
 use Rattle.ripemd.specs.Standard.Words.{word_bytes}
 use Rattle.ripemd.specs.Standard.Compression.{ripemd160, registers_after, lines_after, compress}
 use Rattle.ripemd.specs.Standard.Hashing.{with_padding, blocks, partial_block, hash}
 use Rattle.ripemd.specs.States.{HashState, IsState, new_state, fed, output_and_count, tail_bytes, core_and_tail}
-use Rattle.ripemd.specs.SavedLaws.{length-core_and_tail}
+use Rattle.ripemd.specs.SavedLaws.{length-core_and_tail, saved_is_clear}
+use Rattle.ripemd.specs.Saved.{cleared}
 use Rattle.ripemd_block.specs.Laws.Saved.{word_bytes_output}
-use Rattle.ripemd.proofs.Saved.{tail_back, behind_tail}
+use Rattle.ripemd.proofs.Saved.{tail_back}
 use Rattle.ripemd_mac.specs.Laws.{outer_part}
 use Rattle.ripemd.specs.Published.{hexadecimal}
 use Rattle.ripemd_mac.specs.Hmac.{KeyedState, key_block, inner_message, outer_message, hmac, keyed_state, fed_text}
@@ -38,14 +39,13 @@ not_state h is =
     let size : length h.tail ≡ 255 = ap (λ (bs : List ℕ). get_or bs 0 0) tail in
     omega (arith, size, is.valid.tail.short)
 
--- where the byte behind the tail is 7, they are saved of no state
-no_zeros : (n : ℕ) (bytes rest : List ℕ) → get_or (drop 28 bytes) 0 0 ≡ n → drop (29 + n) bytes ≡ 7 ∷ rest
+-- where a byte is 7 that is 0 with zeros behind the tail, they are saved of no state
+no_zeros : (bytes : List ℕ) (place : ℕ) → get_or bytes place 0 ≡ 7 → get_or (cleared 28 bytes) place 0 ≡ 0
     → (h : HashState) → ¬ IsSavedState ripemd160 h bytes
-no_zeros n bytes rest len behind h is =
-    let tail = tail_back (word_bytes_output 5) h is.valid 28 refl bytes is.saved (drop 28 bytes) refl in
-    let size : length h.tail ≡ n = ap (λ (bs : List ℕ). get_or bs 0 0) tail ∙ len in
-    let zeros = behind_tail (word_bytes_output 5) h is.valid 28 refl bytes is.saved (29 + n) (omega (arith, size)) (7 ∷ rest) (sym behind) in
-    omega (arith, ap (λ (bs : List ℕ). get_or bs 0 0) zeros)
+no_zeros bytes place seven zero h is =
+    let clear : bytes ≡ cleared 28 bytes =
+    sym is.saved ∙ saved_is_clear (word_bytes_output 5) 28 refl h is.valid ∙ ap (cleared 28) is.saved in
+    omega (arith, seven, zero, ap (λ (bs : List ℕ). get_or bs place 0) clear)
 
 no_outer : (outer : List ℕ) → ((h : HashState) → ¬ IsSavedState ripemd160 h outer) → (s : KeyedState)
     → ¬ IsSavedHmac ripemd160 s (saved_inner ++ outer)
@@ -81,7 +81,7 @@ returns-clause-states c = record {
       let unfit = does.kept.refused.1 not_state in (unfit, does.unchanged unfit);
   short_saved = λ new done does. refused done (λ fits. absurd (omega (arith, fits))) (does.state after (record { valid = is_state; saved = refl }));
   not_saved = λ new done does. does.refused not_state;
-  not_zeros = λ new done does. does.refused (no_zeros 1 soiled_bytes (replicate 61 7) refl refl);
+  not_zeros = λ new done does. does.refused (no_zeros soiled_bytes 30 refl refl);
   other_variant = λ new done does. does.refused (λ h is.
       omega (arith, ap length is.saved, length-core_and_tail (word_bytes_output 4) h is.valid));
   no_variant = λ new done does. does;
@@ -116,7 +116,7 @@ returns-clause-hmac_states c =
       short_saved = λ new done does. refused done (λ fits. absurd (omega (arith, fits)))
           (does.state (fed_text (compress ripemd160) start (codes "Hi There")) text);
       not_saved = λ new done does. does.refused (no_outer forged not_state);
-      not_zeros = λ new done does. does.refused (no_outer (soiled 29 saved_outer) (no_zeros 0 (soiled 29 saved_outer) (replicate 62 7) refl refl));
+      not_zeros = λ new done does. does.refused (no_outer (soiled 29 saved_outer) (no_zeros (soiled 29 saved_outer) 29 refl refl));
       no_variant = λ new done does. does;
       tagged = λ any first next begun fed init update.
           let call = rw init.marked at update in

@@ -1,7 +1,7 @@
 use Rattle.std.proofs.Common.{◌≡◌, ◌++◌, drop, sym, ap, ◌∙◌}
 use Rattle.std.proofs.lemmas.List.{take-append-drop}
-use Rattle.ripemd_calls.proofs.Clearing.{clear_kept}
-use Rattle.ripemd_calls.proofs.states.is_clear_behind.Goals as goal
+use Rattle.ripemd.proofs.Clearing.{clear_kept}
+use Rattle.ripemd.proofs.state.is_clear.Goals as goal
 
 pub returns : goal.returns
 returns c =

@@ -3,7 +3,7 @@ use Rattle.std.proofs.Common.{◌≡◌, ◌↔◌, ◌⊎◌, inl, inr, ℕ, �
 use Rattle.std.proofs.lemmas.Bool.{cases_lt}
 use Rattle.std.proofs.lemmas.List.{append-nil, take_all, drop_all, drop_at, length-drop, length-take-le, take-append-drop}
 use Rattle.ripemd.specs.Saved.{cleared}
-use Rattle.ripemd.proofs.Saved.{cleared-both}
+use Rattle.ripemd.specs.SavedLaws.{cleared-both}
 
 clear_rest : (n : ℕ) (rest behind : List ℕ) → behind ≡ drop (min n (length rest)) rest
     → (take n rest ++ replicate (length rest - n) 0 ≡ rest) ↔ (behind ≡ replicate (length behind) 0)
