@@ -19,6 +19,7 @@ use ripemd::{Ripemd128, Ripemd160, Ripemd256, Ripemd320};
 use ripemd_block::block_api::{
     BlockFunction, ByteArray, ListBlockFunction, Ripemd128Function, Ripemd160Function,
     Ripemd256Function, Ripemd320Function, walk_message,
+    walk_words,
 };
 
 /// A hash function of which four or eight messages can be hashed at once. It has no functions of its own.
@@ -304,6 +305,25 @@ pub(crate) fn last_state<D: BatchDigest>(
         ≡ hash_after before (D.Function.list first) D.step D.output message.now }
 {
     walk_message::<D::Function>(first, before, message)
+}
+
+// The digest of a digest, as a message after one block, which led to the state `first`.
+#[inline(always)]
+pub(crate) fn digest_of_digest<D: BatchDigest>(first: StateOf<D>, digest: &[u8]) -> D::Output
+    requires { D.Function.is_state first }
+    ensures { D.bytes_of result ≡ hash_after 64 (D.Function.list first) D.step D.output digest.now }
+{
+    D::Function::output(state_of_digest::<D>(first, digest))
+}
+
+// The state whose output that is.
+#[inline(always)]
+pub(crate) fn state_of_digest<D: BatchDigest>(first: StateOf<D>, digest: &[u8]) -> StateOf<D>
+    requires { D.Function.is_state first }
+    ensures { D.output (D.Function.list result)
+        ≡ hash_after 64 (D.Function.list first) D.step D.output digest.now }
+{
+    walk_words::<D::Function>(first, 64, digest)
 }
 
 // Message `i`.

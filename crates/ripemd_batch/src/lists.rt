@@ -5,7 +5,9 @@ ghost use Rattle.ripemd_block.specs.Standard.Hashing.{hash};
 ghost use Rattle.ripemd_mac.specs.Hmac.{hmac};
 ghost use Rattle.ripemd_batch.specs.Lanes.{hash_after, made_by, targets};
 
-use crate::groups::{BatchDigest, StateOf, digest_from, digest_one, group_end, message_at};
+use crate::groups::{
+    BatchDigest, StateOf, digest_from, digest_of_digest, digest_one, group_end, message_at,
+};
 use ripemd_block::block_api::{BlockFunction, ByteArray, walk};
 use ripemd_mac::hmac::{filled, masked_keys};
 use std::marker::Model;
@@ -152,7 +154,7 @@ impl<D: BatchDigest> ListHasher<D> {
     {
         let digest = digest_one::<D>(self.first, self.before, message);
         match self.outer {
-            Some(outer) => digest_one::<D>(outer, 64, D::output_bytes(&digest)),
+            Some(outer) => digest_of_digest::<D>(outer, D::output_bytes(&digest)),
             None => digest,
         }
     }

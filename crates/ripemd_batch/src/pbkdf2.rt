@@ -8,7 +8,7 @@ ghost use Rattle.ripemd_mac.specs.Pbkdf2.{F, pbkdf2};
 ghost use Rattle.ripemd_batch.specs.Pbkdf2.{HasBlocks, InGroup, IsFilled, block_at, combined_tags, pbkdf2_each, tag_after, total};
 ghost use Rattle.ripemd_batch.specs.Lanes.{hash_after, list_at, targets};
 
-use crate::groups::{BatchDigest, StateOf, digest_one, last_state};
+use crate::groups::{BatchDigest, StateOf, digest_of_digest, state_of_digest};
 use crate::lane_states::LaneStates;
 use crate::lanes::Lanes;
 use crate::lists::state_after;
@@ -269,7 +269,7 @@ fn chain_of<D: BatchDigest>(password: &[u8], salt: &[u8], number: u32) -> Chain<
     Chain {
         inner: state_after::<D>(keys.inner),
         outer,
-        first: last_state::<D>(outer, 64, D::output_bytes(&digest)),
+        first: state_of_digest::<D>(outer, D::output_bytes(&digest)),
     }
 }
 
@@ -296,25 +296,12 @@ fn one_by_one<D: BatchDigest>(chain: Chain<D>, rounds: u32) -> [u8; 64]
     let mut tag = D::Function::output(chain.first);
     let mut sum = filled(D::output_bytes(&tag));
     for k in 1..rounds {
-        let next = digest_after_one::<D>(chain.outer, &digest_after_one::<D>(chain.inner, &tag));
+        let inner = digest_of_digest::<D>(chain.inner, D::output_bytes(&tag));
+        let next = digest_of_digest::<D>(chain.outer, D::output_bytes(&inner));
         tag = next;
         sum = combined(&sum, &filled(D::output_bytes(&next)));
     }
     sum
-}
-
-// The digest of a digest, as a message after one block, which led to the state `first`.
-#[inline(always)]
-fn digest_after_one<D: BatchDigest>(first: StateOf<D>, digest: &D::Output) -> D::Output
-    requires { D.Function.is_state first }
-    ensures digest { D.bytes_of result ≡ hash_after 64 (D.Function.list first) D.step D.output
-        (D.bytes_of digest.now) }
-    ensures size { length (D.bytes_of result) ≡ D.OUTPUT_SIZE }
-{
-    let result = digest_one::<D>(first, 64, D::output_bytes(digest));
-    // Proof only: its contract gives the size of the digest.
-    D::output_bytes(&result);
-    result
 }
 
 /// How many bytes a digest has.

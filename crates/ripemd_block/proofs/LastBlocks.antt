@@ -1,10 +1,12 @@
 -- The one or two blocks that end a padded message.
-use Rattle.std.proofs.Common.{◌≡◌, ℕ, suc, ◌+◌, ◌-◌, ◌<◌, ◌≤◌, refl, sym, arith}
-use Rattle.std.proofs.Common.{List, [], ◌∷◌, ◌++◌, length, take, drop, set, replicate}
+use Rattle.std.proofs.Common.{◌≡◌, ℕ, zero, suc, ◌+◌, ◌-◌, ◌*◌, ◌<◌, ◌≤◌, refl, sym, ap, ◌∙◌, arith}
+use Rattle.std.proofs.Common.{List, [], ◌∷◌, ◌++◌, length, take, drop, set, replicate, slice_set}
 use Rattle.std.proofs.lemmas.List.{length-append, length-replicate, append_assoc, append-nil}
-use Rattle.std.proofs.lemmas.List.{take_at, drop_all, set_at, drop-drop, drop-replicate, replicate-append-replicate}
+use Rattle.std.proofs.lemmas.List.{take_at, drop_all, set_at, drop-drop, drop-replicate, take-replicate, replicate-append-replicate}
 use borrow.Rule.Slice.PartMut.{put_mid}
-use Rattle.ripemd_block.specs.Standard.Words.{eight_bytes}
+use Rattle.std.specs.Int.{w32, to_le_bytes}
+use Rattle.std.proofs.lemmas.Grind.{flat_map-append}
+use Rattle.ripemd_block.specs.Standard.Words.{eight_bytes, word_bytes}
 use Rattle.ripemd_block.specs.Laws.Blocks.{blocks_of_one, blocks_of_two}
 use Rattle.ripemd_block.specs.Standard.Hashing.{with_padding, blocks, zero_count}
 
@@ -24,20 +26,27 @@ marked_block tail ys byte short same =
 -- ---- a tail with its padding
 
 -- after a short tail the length has its place in the same block
-pub with_padding_short : (tail : List ℕ) (n : ℕ) → length tail < 56
-    → (take 56 (tail ++ 0x80 ∷ replicate (63 - length tail) 0) ++ eight_bytes n) ∷ [] ≡ blocks (with_padding tail n)
+with_padding_one : (tail : List ℕ) (n : ℕ) → length tail < 56
+    → ((tail ++ 0x80 ∷ replicate (55 - length tail) 0) ++ eight_bytes n) ∷ [] ≡ blocks (with_padding tail n)
 unfolding with_padding
-with_padding_short tail n h =
+with_padding_one tail n h =
     let mark : List ℕ = 0x80 ∷ replicate (55 - length tail) 0 in
     let zeros : length mark ≡ 56 - length tail = omega (arith, length-replicate {A = ℕ} (55 - length tail) 0) in
     let front : length (tail ++ mark) ≡ 56 = omega (arith, zeros, length-append tail mark) in
     let all : List ℕ = (tail ++ mark) ++ eight_bytes n in
     let size : length all ≡ 64 = omega (arith, front, length-append (tail ++ mark) (eight_bytes n)) in
+    let count : zero_count (length tail) ≡ 55 - length tail = omega arith in
+    rw count (sym (blocks_of_one all size))
+
+pub with_padding_short : (tail : List ℕ) (n : ℕ) → length tail < 56
+    → (take 56 (tail ++ 0x80 ∷ replicate (63 - length tail) 0) ++ eight_bytes n) ∷ [] ≡ blocks (with_padding tail n)
+with_padding_short tail n h =
+    let mark : List ℕ = 0x80 ∷ replicate (55 - length tail) 0 in
+    let front : length (tail ++ mark) ≡ 56 = omega (arith, length-replicate {A = ℕ} (55 - length tail) 0, length-append tail mark) in
     let more : 63 - length tail ≡ 55 - length tail + 8 = omega arith in
     let split : tail ++ 0x80 ∷ replicate (63 - length tail) 0 ≡ (tail ++ mark) ++ replicate 8 0 =
     rw (more, ← replicate-append-replicate {A = ℕ} (55 - length tail) 8 0, append_assoc tail mark (replicate 8 0)) in
-    let count : zero_count (length tail) ≡ 55 - length tail = omega arith in
-    rw (split, take_at (tail ++ mark) (replicate 8 0) 56 front, count) (sym (blocks_of_one all size))
+    rw (split, take_at (tail ++ mark) (replicate 8 0) 56 front) (with_padding_one tail n h)
 
 -- after a long one it has its place in a second block
 pub with_padding_long : (tail : List ℕ) (n : ℕ) → 56 ≤ length tail → length tail < 64
@@ -54,3 +63,32 @@ with_padding_long tail n low high =
     rw (← replicate-append-replicate {A = ℕ} (63 - length tail) 56 0, ← append_assoc tail mark (replicate 56 0))
     (append_assoc (tail ++ mark) (replicate 56 0) (eight_bytes n)) in
     rw (count, split) (sym (blocks_of_two (tail ++ mark) end front refl))
+
+-- ---- the same, put together in words
+
+zero_bytes : (k : ℕ) → word_bytes (replicate k 0) ≡ replicate (4 * k) 0
+zero_bytes zero = refl
+zero_bytes (suc k) =
+    let next : 4 * suc k ≡ suc (suc (suc (suc (4 * k)))) = omega arith in
+    rw (next, zero_bytes k) refl
+
+pub words_padded : (tail : List ℕ) (n : ℕ) (front behind last : List ℕ) → word_bytes front ≡ tail → length tail < 56
+    → length tail ≡ 4 * length front → behind ≡ 0x80 ∷ replicate (13 - length front) 0 → word_bytes last ≡ eight_bytes n
+    → word_bytes (front ++ (behind ++ last)) ∷ [] ≡ blocks (with_padding tail n)
+words_padded tail n front behind last of_front short words is_behind of_last =
+    let bytes = to_le_bytes w32 in
+    let zeros : 55 - length tail ≡ suc (suc (suc (4 * (13 - length front)))) = omega (arith, words, short) in
+    let mark : word_bytes behind ≡ 0x80 ∷ replicate (55 - length tail) 0 = rw (is_behind, zeros, zero_bytes (13 - length front)) refl in
+    rw (flat_map-append bytes front (behind ++ last), flat_map-append bytes behind last, of_front, mark, of_last)
+    (ap (λ (bs : List ℕ). bs ∷ []) (sym (append_assoc tail (0x80 ∷ replicate (55 - length tail) 0) (eight_bytes n)))
+    ∙ with_padding_one tail n short)
+
+-- of sixteen zeros behind n words and before the last two, the first becomes the mark
+pub words_marked : (n k : ℕ) (behind : List ℕ) → n < 14 → k ≡ 14 - n → behind ≡ take k (drop n (replicate 16 0))
+    → slice_set behind 0 0x80 ≡ 0x80 ∷ replicate (13 - n) 0
+words_marked n k behind few count is =
+    let left : k ≡ suc (13 - n) = omega (arith, count, few) in
+    let zeros : behind ≡ replicate (suc (13 - n)) 0 =
+    is ∙ ap (take k) (drop-replicate {X = ℕ} n 16 0) ∙ take-replicate {X = ℕ} k (16 - n) 0 (omega (arith, count))
+    ∙ ap (λ (i : ℕ). replicate {A = ℕ} i 0) left in
+    rw zeros refl

@@ -1,18 +1,43 @@
--- Bytes written as their first and their last, which may overlap.
-use Rattle.std.proofs.Common.{◌≡◌, ℕ, ◌+◌, ◌*◌, ◌≤◌, List, ◌++◌, length, take, drop, arith, ◌∙◌, sym, ap}
-use Rattle.std.proofs.lemmas.List.{append_assoc, take-append-le, take-take, take-append-drop, length-take-le, drop-drop}
-use Rattle.std.proofs.lemmas.Slice.{drop-append-drop}
+-- Bytes written as their last and their first, which may overlap.
+use Rattle.std.proofs.Common.{◌≡◌, ℕ, suc, ◌+◌, ◌-◌, ◌*◌, ◌/◌, ◌%◌, ◌<◌, ◌≤◌, List, [], ◌∷◌, ◌++◌, length, take, drop, arith, refl, ◌∙◌, sym, ap}
+use lib.Lanes.{digits_l, number_l, Each1}
+use Rattle.std.proofs.Math.Seq.{drop-append-add}
+use Rattle.ripemd_block.specs.Standard.Words.{word_bytes}
+use Rattle.std.proofs.lemmas.List.{append_assoc, drop-append-le, take-append-drop, length-drop, length-take-le, drop-drop}
 
--- the first n of them are written, and then those from m on, which are n too
-pub ends_written : (n m : ℕ) (place bytes : List ℕ) → m + n ≡ length bytes → length bytes ≤ 2 * n
-    → (let half = take n bytes ++ drop n place in
-    take m half ++ (drop m bytes ++ drop n (drop m half)) ≡ bytes ++ drop (length bytes) place)
-ends_written n m place bytes all most =
-    let half = take n bytes ++ drop n place in
-    let size = length-take-le n bytes (omega arith) in
-    let rest : drop n (drop m half) ≡ drop (length bytes) place =
-    drop-drop n m half ∙ ap (λ (i : ℕ). drop i half) all
-    ∙ drop-append-drop n place (take n bytes) (length bytes) (omega arith) size in
-    rw (take-append-le m (take n bytes) (drop n place) (omega (arith, size)), take-take m n bytes (omega arith), rest)
-    (sym (append_assoc (take m bytes) (drop m bytes) (drop (length bytes) place))
-    ∙ ap (λ (x : List ℕ). x ++ drop (length bytes) place) (take-append-drop m bytes))
+-- those from m on, which are n, are written, and then the first n
+pub ends_written : (n m : ℕ) (place bytes : List ℕ) → m + n ≡ length bytes → length bytes ≤ 2 * n → length bytes ≤ length place
+    → take n bytes ++ drop n (take m place ++ (drop m bytes ++ drop n (drop m place))) ≡ bytes ++ drop (length bytes) place
+ends_written n m place bytes all most room =
+    let rest : List ℕ = drop (length bytes) place in
+    let left : drop n (drop m place) ≡ rest = drop-drop n m place ∙ ap (λ (i : ℕ). drop i place) all in
+    let size = length-take-le m place (omega (arith, all, room)) in
+    let over : drop n (take m place ++ (drop m bytes ++ rest)) ≡ drop n bytes ++ rest =
+    ap (λ (i : ℕ). drop i (take m place ++ (drop m bytes ++ rest))) (omega (arith, size, all, most))
+    ∙ drop-append-add (take m place) (drop m bytes ++ rest) (n - m)
+    ∙ drop-append-le (n - m) (drop m bytes) rest (omega (arith, length-drop m bytes, all))
+    ∙ ap (λ (bs : List ℕ). bs ++ rest) (drop-drop (n - m) m bytes ∙ ap (λ (i : ℕ). drop i bytes) (omega (arith, all, most))) in
+    rw (left, over) (sym (append_assoc (take n bytes) (drop n bytes) rest) ∙ ap (λ (bs : List ℕ). bs ++ rest) (take-append-drop n bytes))
+
+-- ---- the bytes of a vector of words
+
+pub words_narrowed : (words : List ℕ) → Each1 (λ w. w < 4294967296) words
+    → digits_l 256 (4 * length words) (number_l 4294967296 words) ≡ word_bytes words
+words_narrowed [] fit = refl
+words_narrowed (w ∷ words) fit =
+    let next : 4 * suc (length words) ≡ suc (suc (suc (suc (4 * length words)))) = omega arith in
+    let left : ℕ = number_l 4294967296 words in
+    let all : ℕ = w + 4294967296 * left in
+    let rest : ℕ → List ℕ = digits_l 256 (4 * length words) in
+    let small : w < 4294967296 = fit.0 in
+    let first : all % 256 ≡ w % 256 = omega arith in
+    let second : all / 256 % 256 ≡ w / 256 % 256 = omega (arith, small) in
+    let third : all / 256 / 256 % 256 ≡ w / 65536 % 256 = omega (arith, small) in
+    let fourth : all / 256 / 256 / 256 % 256 ≡ w / 16777216 % 256 = omega (arith, small) in
+    let last : all / 256 / 256 / 256 / 256 ≡ left = omega (arith, small) in
+    rw next
+    (ap (λ (b : ℕ). b ∷ all / 256 % 256 ∷ all / 256 / 256 % 256 ∷ all / 256 / 256 / 256 % 256 ∷ rest (all / 256 / 256 / 256 / 256)) first
+    ∙ ap (λ (b : ℕ). w % 256 ∷ b ∷ all / 256 / 256 % 256 ∷ all / 256 / 256 / 256 % 256 ∷ rest (all / 256 / 256 / 256 / 256)) second
+    ∙ ap (λ (b : ℕ). w % 256 ∷ w / 256 % 256 ∷ b ∷ all / 256 / 256 / 256 % 256 ∷ rest (all / 256 / 256 / 256 / 256)) third
+    ∙ ap (λ (b : ℕ). w % 256 ∷ w / 256 % 256 ∷ w / 65536 % 256 ∷ b ∷ rest (all / 256 / 256 / 256 / 256)) fourth
+    ∙ ap (λ (bs : List ℕ). w % 256 ∷ w / 256 % 256 ∷ w / 65536 % 256 ∷ w / 16777216 % 256 ∷ bs) (ap rest last ∙ words_narrowed words fit.1))

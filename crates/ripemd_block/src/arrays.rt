@@ -104,7 +104,8 @@ pub fn write_short(place: &mut [u8], bytes: &[u8])
     }
 }
 
-// The same of `N` to `2 * N` bytes: the first `N` and the last, which may overlap.
+// The same of `N` to `2 * N` bytes: the last `N` and the first, which may overlap. The first come last, so that one
+// store has them all: who reads as many waits long for bytes of two.
 #[inline(always)]
 fn write_ends<const N: usize>(place: &mut [u8], bytes: &[u8])
     requires few { (N ≤ length bytes.now) × (length bytes.now ≤ 2 * N) }
@@ -112,8 +113,8 @@ fn write_ends<const N: usize>(place: &mut [u8], bytes: &[u8])
     ensures { place.new ≡ bytes.now ++ drop (length bytes.now) place.old }
 {
     let len = bytes.len();
-    write_array::<N>(&mut place[..N], &bytes[..N]);
     write_array::<N>(&mut place[len - N..len], &bytes[len - N..]);
+    write_array::<N>(&mut place[..N], &bytes[..N]);
 }
 
 // Writes `N` bytes as an array, which the compiler copies without asking whether the places overlap.

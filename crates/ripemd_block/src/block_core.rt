@@ -8,7 +8,7 @@ ghost use Rattle.ripemd_block.specs.States.{initial_state, after_blocks, with_ta
 
 use crate::arrays::{ByteArray, read_count};
 use crate::buffer::Buffer;
-use crate::padding::{whole_blocks, write_length, write_marked};
+use crate::padding::{padded_words, whole_blocks, write_length, write_marked};
 use crate::traits::{
     AlgorithmName, BlockFunction, BlockSizeUser, BufferKindUser, DeserializeStateError, Eager,
     FixedOutputCore, HashMarker, HashMeaning, ListBlockFunction, OutputSizeUser, Reset,
@@ -221,6 +221,25 @@ pub fn walk_message<F: ListBlockFunction>(first: F::State, before: u64, message:
     let bit_len = before.wrapping_add(message.len() as u64).wrapping_mul(8);
     let mut state = walk::<F>(first, whole);
     walk_tail::<F>(&mut state, tail, bit_len);
+    state
+}
+
+/// The same, which takes less time of a message, as a digest, whose length the compiler knows, and that is fewer than
+/// fourteen whole words.
+#[inline(always)]
+pub fn walk_words<F: ListBlockFunction>(first: F::State, before: u64, message: &[u8]) -> F::State
+    requires { F.is_state first }
+    ensures value { F.list result ≡ walk F.step (F.list first)
+        (blocks (with_padding message.now (8 * (before + length message.now) % 2 ^ 64))) }
+    ensures valid { F.is_state result }
+{
+    let len = message.len();
+    if len % 4 != 0 || len >= 56 {
+        return walk_message::<F>(first, before, message);
+    }
+    let bit_len = before.wrapping_add(len as u64).wrapping_mul(8);
+    let mut state = first;
+    F::walk_on(&mut state, from_ref(&padded_words(message, bit_len)));
     state
 }
 

@@ -1,15 +1,16 @@
 //! The padding, which is that of MD4: the whole blocks of a message, the last blocks, which its tail
 //! and the padding make up, and each of its blocks by its place, so that nothing has to be stored.
 
-ghost use Rattle.std.specs.Prelude.{◌≡◌, ◌-◌, ◌%◌, ◌<◌, ◌≤◌, ◌↔◌, ◌∷◌, ◌++◌, length, take, replicate, IsSome};
+ghost use Rattle.std.specs.Prelude.{◌≡◌, ◌-◌, ◌%◌, ◌<◌, ◌≤◌, ◌↔◌, ◌∷◌, ◌++◌, length, take, replicate, IsSome, []};
 ghost use Rattle.std.specs.List.{slice_get};
 ghost use Rattle.std.specs.Option.{option_to_list};
-ghost use Rattle.ripemd_block.specs.Standard.Words.{block_size, eight_bytes};
+ghost use Rattle.ripemd_block.specs.Standard.Words.{block_size, eight_bytes, word_bytes};
 ghost use Rattle.ripemd_block.specs.Standard.Hashing.{length_place, with_padding};
 ghost use Rattle.ripemd_block.specs.Standard.Hashing.{padded_message, blocks, partial_block};
 ghost use Rattle.ripemd_block.specs.States.{IsTail};
 
-use crate::arrays::write_short;
+use crate::arrays::{read_words, write_short};
+use std::simd::prelude::*;
 
 /// The last block or the last two blocks of a padded message.
 #[derive(Clone, Copy, PartialEq, Eq, Debug)]
@@ -113,4 +114,31 @@ pub fn write_length(block: &mut [u8; 64], bit_len: u64)
     ensures { block.new ≡ take length_place block.old ++ eight_bytes bit_len }
 {
     block[56..].copy_from_slice(&bit_len.to_le_bytes());
+}
+
+// The block that a tail of whole words, fewer than fourteen, makes up with its padding. It is put together in
+// words: who reads a block waits long for small parts that were only just stored.
+#[inline(always)]
+pub(crate) fn padded_words(tail: &[u8], bit_len: u64) -> [u8; 64]
+    requires words { length tail.now % 4 ≡ 0 }
+    requires short { length tail.now < length_place }
+    ensures { result ∷ [] ≡ blocks (with_padding tail.now bit_len) }
+{
+    let mut words = [0; 16];
+    let (front, back) = words.split_at_mut(tail.len() / 4);
+    let (behind, length) = back.split_at_mut(back.len() - 2);
+    read_words(tail, front);
+    behind[0] = 0x80;
+    read_words(&bit_len.to_le_bytes(), length);
+    block_of(&words)
+}
+
+// The block of sixteen message words. By vectors: of sixteen words that it writes one by one, the compiler makes no
+// larger parts.
+#[inline(always)]
+fn block_of(words: &[u32]) -> [u8; 64]
+    requires { length words.now ≡ 16 }
+    ensures { result ≡ word_bytes words.now }
+{
+    u32x16::from_slice(words).to_le_bytes().to_array()
 }

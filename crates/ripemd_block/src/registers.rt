@@ -21,8 +21,9 @@ pub(crate) trait InRegisters: BlockFunction {
         ensures value { result ≡ Self.step_of state block.now }
         ensures valid { Self.is_state result };
 
-    /// Writes a state to its place, with four words in each store, since who copies it loads as many at once:
-    /// such a load waits long for single words that were only just stored.
+    /// Writes a state to its place. Where it has more than four words, four go into each store, since who copies it
+    /// loads as many at once: such a load waits long for single words that were only just stored. Of four words the
+    /// compiler would make a vector that goes from block to block, and the next block waits for its words.
     fn put(state: Self::State, place: &mut Self::State)
         ensures { place.new ≡ state };
 }
@@ -57,7 +58,7 @@ impl InRegisters for Ripemd128Function {
 
     #[inline(always)]
     fn put(state: [u32; 4], place: &mut [u32; 4]) {
-        put_four(state, place);
+        *place = state;
     }
 }
 

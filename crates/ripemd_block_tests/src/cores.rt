@@ -4,7 +4,7 @@ use ripemd_block::block_api::{
     BlockCore, BlockFunction, BufferKindUser, ByteArray, Eager, FixedOutputCore, HashMarker,
     HashMeaning, ListBlockFunction, Reset, ResumableFunction, Ripemd128Core, Ripemd128Function,
     Ripemd160Core, Ripemd160Function, Ripemd256Core, Ripemd256Function, Ripemd320Core,
-    Ripemd320Function, SerializableState, UpdateCore,
+    Ripemd320Function, SerializableState, UpdateCore, walk, walk_message, walk_words,
 };
 use ripemd_block::buffer::Buffer;
 use ripemd_block::padding::{block_count, pad_block};
@@ -45,6 +45,47 @@ fn published_digests_of_tails(rt: HostRuntime) {
     assert!(rt; finishes::<Ripemd320Function>(EMPTY_320, ABC_320));
     // On this digest five other implementations agree.
     assert!(rt; gives(&mut Ripemd320Core::default(), b"Hello world!", HELLO_320));
+}
+
+// Whether the state after a message of so many bytes behind a block is the same by words.
+fn walks_by_words<F: ListBlockFunction>(len: usize) -> bool {
+    let bytes = [0xa5; 64];
+    let message = &bytes[..len.min(64)];
+    let first = walk::<F>(F::start(), &[[0x5a; 64]]);
+    walk_words::<F>(first, 64, message) == walk_message::<F>(first, 64, message)
+}
+
+// The number of bytes may be any; up to 52 those of words take a shorter way.
+#[test]
+fn walks_any_message_by_words(rt: HostRuntime) {
+    for len in 0..65 {
+        assert!(rt;
+            walks_by_words::<Ripemd128Function>(len),
+            "128, {len} bytes"
+        );
+        assert!(rt;
+            walks_by_words::<Ripemd160Function>(len),
+            "160, {len} bytes"
+        );
+        assert!(rt;
+            walks_by_words::<Ripemd256Function>(len),
+            "256, {len} bytes"
+        );
+        assert!(rt;
+            walks_by_words::<Ripemd320Function>(len),
+            "320, {len} bytes"
+        );
+    }
+    assert!(rt;
+        is_written(
+            Ripemd160Function::output(walk_words::<Ripemd160Function>(
+                Ripemd160Function::start(),
+                0,
+                b""
+            )).as_bytes(),
+            EMPTY_160
+        )
+    );
 }
 
 // Whether this is the output of a block function after its walk through a message with its padding,

@@ -7,7 +7,7 @@ returns-clause-block g c rounds =
     let d = g.D.Digest in
     let keys = c.masked_keys-keys.result in
     rw (
-      c.last_state.ensures,
+      c.state_of_digest.ensures,
       c.state_after.ensures.value,
       c.state_after-outer.ensures.value,
       c.output_bytes.ensures.bytes,

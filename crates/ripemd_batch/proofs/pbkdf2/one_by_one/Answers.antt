@@ -38,20 +38,22 @@ loop-k-preserved g c =
     let first : List ℕ = d.output (list c.args.chain.first) in
     let k = c.loop-k.k in
     let so_far = c.loop-k.invariant in
-    let next = c.digest_after_one-next.ensures in
-    let tag : bytes_of c.digest_after_one-next.result ≡ iterate tag_of (k + 1 - 1) first =
-    next.digest
-    ∙ ap (hash_after 64 (list c.args.chain.outer) d.step d.output) c.digest_after_one.ensures.digest
+    let tag : bytes_of c.digest_of_digest-next.result ≡ iterate tag_of (k + 1 - 1) first =
+    c.digest_of_digest-next.ensures
+    ∙ ap (hash_after 64 (list c.args.chain.outer) d.step d.output)
+    (c.output_bytes-in-loop-k-2.ensures.bytes ∙ c.digest_of_digest-inner.ensures
+    ∙ ap (hash_after 64 (list c.args.chain.inner) d.step d.output) c.output_bytes-in-loop-k.ensures.bytes)
     ∙ ap tag_of so_far.tag ∙ sym (next_tag tag_of first k c.loop-k.auto.k) in
+    let bytes = c.output_bytes-in-loop-k-3.ensures.bytes ∙ tag in
     let added = next_combined tag_of first k c.loop-k.auto.k in
-    let size : length (iterate tag_of (k + 1 - 1) first) ≡ g.D.OutputSizeUser.OUTPUT_SIZE = ap length (sym tag) ∙ next.size in
+    let size : length (iterate tag_of (k + 1 - 1) first) ≡ g.D.OutputSizeUser.OUTPUT_SIZE = ap length (sym bytes) ∙ c.output_bytes-in-loop-k-3.ensures.size in
     let same : length (combined_tags tag_of k first) ≡ length (iterate tag_of (k + 1 - 1) first) = so_far.size ∙ sym size in
     record {
       tag = tag;
       sum = c.combined-sum.ensures
           ∙ ap (λ a. zip2 bit_xor a c.filled.result) so_far.sum
           ∙ ap (λ b. zip2 bit_xor (filled (combined_tags tag_of k first)) b)
-          (c.filled.ensures ∙ ap filled (c.output_bytes-in-loop-k.ensures.bytes ∙ tag))
+          (c.filled.ensures ∙ ap filled bytes)
           ∙ combined_filled (combined_tags tag_of k first) (iterate tag_of (k + 1 - 1) first) same
           ∙ ap filled (sym added);
       size = ap length added ∙ length-combined (combined_tags tag_of k first) (iterate tag_of (k + 1 - 1) first) same ∙ so_far.size;

@@ -11,4 +11,4 @@ returns g c =
     let few = c.requires.few in
     let last : len - (len - n) ≡ n = omega (arith, few.0) in
     rw (c.write_array-2.ensures, c.write_array.ensures, slice_from (len - n) bytes, last)
-    (ends_written n (len - n) c.args.place.now bytes (omega (arith, few.0)) few.1)
+    (ends_written n (len - n) c.args.place.now bytes (omega (arith, few.0)) few.1 c.requires.room)

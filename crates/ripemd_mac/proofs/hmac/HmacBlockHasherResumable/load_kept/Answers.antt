@@ -1,4 +1,4 @@
-use Rattle.std.proofs.Common.{◌≡◌, ◌≢◌, ◌+◌, ◌∙◌, ap, length, take, drop, arith}
+use Rattle.std.proofs.Common.{◌≢◌, ◌∙◌, arith}
 use Rattle.ripemd_mac.specs.Hmac.{KeyedState}
 use Rattle.ripemd_mac.specs.Saved.{IsKeyedState, hmac_bytes, cleared_hmac}
 use Rattle.ripemd_mac.proofs.Kept.{of_none, kept_size, kept_inner, kept_outer}

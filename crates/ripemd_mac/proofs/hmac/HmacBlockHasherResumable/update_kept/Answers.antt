@@ -1,6 +1,4 @@
-use Rattle.std.proofs.Common.{◌≡◌, ◌+◌, ◌∙◌, length, take, drop, refl, sym, ap, arith}
-use Rattle.std.proofs.lemmas.List.{take-append-drop}
-use Rattle.ripemd_mac.specs.Hmac.{KeyedState}
+use Rattle.std.proofs.Common.{◌≡◌, ◌+◌, ◌∙◌, length, refl, sym, arith}
 use Rattle.ripemd_mac.proofs.Kept.{cleared-both, kept_size, kept_inner, kept_outer}
 use Rattle.ripemd_mac.proofs.hmac.HmacBlockHasherResumable.update_kept.Goals as goal
 

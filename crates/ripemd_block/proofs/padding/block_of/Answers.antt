@@ -1,0 +1,14 @@
+use Rattle.std.proofs.Common.{◌≡◌, ℕ, ◌*◌, ◌∙◌, length, ap, arith, w32, Fits}
+use Rattle.std.proofs.lemmas.List.{take_all}
+use Rattle.std.proofs.lemmas.Simd.{Each1-from_get_or, below_from_Fits}
+use lib.Lanes.{digits_l, number_l}
+use Rattle.ripemd_block.proofs.Writing.{words_narrowed}
+use Rattle.ripemd_block.proofs.padding.block_of.Goals as goal
+
+pub returns : goal.returns
+returns c =
+    let words = c.args.words.now in
+    let size : 64 ≡ 4 * length words = omega (arith, c.requires) in
+    let fit = below_from_Fits w32 words (Each1-from_get_or (Fits w32) words 0 (λ k within. c.type_inv.words k)) in
+    rw (take_all 16 words (omega (arith, c.requires)))
+    (ap (λ (n : ℕ). digits_l 256 n (number_l 4294967296 words)) size ∙ words_narrowed words fit)
