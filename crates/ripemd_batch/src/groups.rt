@@ -18,8 +18,7 @@ use ripemd::padding::block_count;
 use ripemd::{Ripemd128, Ripemd160, Ripemd256, Ripemd320};
 use ripemd_block::block_api::{
     BlockFunction, ByteArray, ListBlockFunction, Ripemd128Function, Ripemd160Function,
-    Ripemd256Function, Ripemd320Function, walk_message,
-    walk_words,
+    Ripemd256Function, Ripemd320Function, walk_message, walk_words,
 };
 
 /// A hash function of which four or eight messages can be hashed at once. It has no functions of its own.

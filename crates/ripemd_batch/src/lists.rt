@@ -8,7 +8,7 @@ ghost use Rattle.ripemd_batch.specs.Lanes.{hash_after, made_by, targets};
 use crate::groups::{
     BatchDigest, StateOf, digest_from, digest_of_digest, digest_one, group_end, message_at,
 };
-use ripemd_block::block_api::{BlockFunction, ByteArray, walk};
+use ripemd_block::block_api::{BlockFunction, ByteArray, walk, write_short};
 use ripemd_mac::hmac::{filled, masked_keys};
 use std::marker::Model;
 
@@ -207,11 +207,11 @@ fn digest_block<D: BatchDigest>(digests: &[D::Output], j: usize) -> [u8; 64]
     ensures { j < length digests.now → take D.Output.LEN result
         ≡ slice_index_or (map D.bytes_of digests.now) j [] }
 {
+    let mut block = [0; 64];
     if j < digests.len() {
-        filled(digests[j].as_bytes())
-    } else {
-        [0; 64]
+        write_short(&mut block, digests[j].as_bytes());
     }
+    block
 }
 
 // The digests with which eight blocks begin.
