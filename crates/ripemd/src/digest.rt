@@ -69,7 +69,7 @@ pub trait Digest: OutputSizeUser + HashMeaning + Drop {
         ensures most { length result.now ≤ 64 };
 
     /// A hasher of the message `prefix`.
-    final fn new_with_prefix(prefix: &[u8]) -> Self
+    fn new_with_prefix(prefix: &[u8]) -> Self
     where
         Self: Sized,
         ensures fed { Self.meaning result ≡ fed Self.step (initial_state Self.start) prefix.now }

@@ -5,13 +5,14 @@ ghost use Rattle.ripemd_block.specs.States.{HashState, IsHashState, initial_stat
 
 use crate::digest::{
     AlgorithmName, BlockDigest, BlockSizeUser, Digest, FixedOutputCore, HashMarker, HashMeaning,
-    OutputSizeUser, Reset,
+    OutputSizeUser, Reset, UpdateCore,
 };
 use ripemd_block::block_api::{
     BlockCore, ByteArray, ListBlockFunction, Ripemd128Function, Ripemd160Function,
     Ripemd256Function, Ripemd320Function, digest_message,
 };
 use ripemd_block::buffer::Buffer;
+use ripemd_block::padding::whole_blocks;
 use std::alloc::AllocError;
 use std::fmt;
 use std::marker::Model;
@@ -172,6 +173,18 @@ impl<F: ListBlockFunction> Digest for BlockHasher<F> {
 
     fn output_bytes(out: &F::Digest) -> &[u8] {
         out.as_bytes()
+    }
+
+    #[inline(always)]
+    #[tactic(auto, unfolding(ripemd_block::specs::States::fed))]
+    fn new_with_prefix(prefix: &[u8]) -> BlockHasher<F> {
+        let (whole, tail) = whole_blocks(prefix);
+        let mut core = BlockCore::default();
+        core.update_blocks(whole);
+        BlockHasher {
+            core,
+            buffer: Buffer::try_new(tail).unwrap(),
+        }
     }
 
     fn digest(message: &[u8]) -> F::Digest {

@@ -46,14 +46,10 @@ impl<D: BlockDigest> Hmac<D> {
         ensures text { StandsFor D.start D.step D.output key.now [] result }
     {
         let keys = masked_keys::<D>(key);
-        // Both are made in place, so that none is copied.
-        let mut mac = Hmac {
-            inner: D::new(),
-            outer: D::new(),
-        };
-        mac.inner.update(&keys.inner);
-        mac.outer.update(&keys.outer);
-        mac
+        Hmac {
+            inner: D::new_with_prefix(&keys.inner),
+            outer: D::new_with_prefix(&keys.outer),
+        }
     }
 
     /// Appends bytes to the text.

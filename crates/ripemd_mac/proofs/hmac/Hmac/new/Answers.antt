@@ -7,8 +7,8 @@ returns-clause-state g c =
     let d = g.D.Digest in
     let keys = c.masked_keys-keys.ensures in
     keyed_by_blocks d.start d.step d.output c.args.key.now _
-    (rw (c.update.ensures.fed, c.new.ensures.meaning, keys.inner) refl)
-    (rw (c.update-2.ensures.fed, c.new-2.ensures.meaning, keys.outer) refl)
+    (rw (c.new_with_prefix.ensures.fed, keys.inner) refl)
+    (rw (c.new_with_prefix-2.ensures.fed, keys.outer) refl)
 
 pub returns-clause-text : goal.returns-clause-text
 returns-clause-text g c =
