@@ -9,4 +9,5 @@ pub mod Placing
 pub mod Rotating
 pub mod Tagging
 pub mod Transposing
+pub mod Turns
 pub mod Walking

@@ -107,29 +107,17 @@ put_part f g out xs part at end next many ends least size same before =
           rw (← here) up_to_end
     ]
 
--- the same of the digests of messages, by functions that agree
-pub put_group : {A : Type 0} (bytes_of : A → List ℕ) (own digest : List ℕ → List ℕ)
-    → ((m : List ℕ) → own m ≡ digest m)
+-- the same of what a function makes of messages
+pub put_group : {A : Type 0} (bytes_of : A → List ℕ) (made : List ℕ → List ℕ)
     → (out : List A) (messages : List (Bor (List ℕ))) (part : List A) (at end next : ℕ)
     → length out ≡ length messages → at ≤ end → end ≡ min next (length messages) → length part ≡ end - at
-    → map bytes_of part ≡ map own (targets (take (end - at) (drop at messages)))
-    → take at (map bytes_of out) ≡ take at (map digest (targets messages))
-    → take next (map bytes_of (put_mid at (end - at) out part)) ≡ take next (map digest (targets messages))
-put_group bytes_of own digest agree out messages part at end next many ends least size same before =
+    → map bytes_of part ≡ map made (targets (take (end - at) (drop at messages)))
+    → take at (map bytes_of out) ≡ take at (map made (targets messages))
+    → take next (map bytes_of (put_mid at (end - at) out part)) ≡ take next (map made (targets messages))
+put_group bytes_of made out messages part at end next many ends least size same before =
     let all : List (List ℕ) = targets messages in
     let count : length all ≡ length messages = length-map messages (λ m. m.now) in
     let own_part : targets (take (end - at) (drop at messages)) ≡ take (end - at) (drop at all) =
     rw (drop-map (λ (m : Bor (List ℕ)). m.now) at messages, take-map (λ (m : Bor (List ℕ)). m.now) (end - at) (drop at messages)) refl in
-    put_part bytes_of digest out all part at end next (many ∙ sym count) ends (rw count least) size
-    (same ∙ ap (map own) own_part ∙ map_same own digest agree (take (end - at) (drop at all))) before
-
--- the first n elements of a list are another list of n elements, if each is the other's
-pub first_of : {A : Type 0} (n : ℕ) (xs ys : List A) (d : A) → length ys ≡ n → n ≤ length xs
-    → ((j : ℕ) → j < n → get_or xs j d ≡ get_or ys j d) → take n xs ≡ ys
-first_of zero xs [] d size most same = refl
-first_of zero xs (y ∷ ys) d size most same = absurd (omega arith)
-first_of (suc n) [] ys d size most same = absurd (omega arith)
-first_of (suc n) (x ∷ xs) [] d size most same = absurd (omega arith)
-first_of (suc n) (x ∷ xs) (y ∷ ys) d size most same =
-    let head : x ≡ y = same 0 (omega arith) in
-    rw (head, first_of n xs ys d (omega arith) (omega arith) (λ j h. same (suc j) (omega arith))) refl
+    put_part bytes_of made out all part at end next (many ∙ sym count) ends (rw count least) size
+    (same ∙ ap (map made) own_part) before

@@ -1,16 +1,15 @@
 //! Groups of at most eight messages: hashed at once, by fours, or one after another.
 
-ghost use Rattle.std.specs.Prelude.{◌≡◌, ℕ, ◌+◌, ◌*◌, ◌<◌, ◌≤◌, min, List};
+ghost use Rattle.std.specs.Prelude.{◌≡◌, ℕ, ◌+◌, ◌-◌, ◌*◌, ◌^◌, ◌<◌, ◌≤◌, min, List, true, false};
 ghost use Rattle.std.specs.Prelude.{length, map, replicate, slice_index, slice_index_or, []};
 ghost use Rattle.ripemd_block.specs.Standard.Words.{block_size};
 ghost use Rattle.ripemd_block.specs.Standard.Hashing.{hash, walk, blocks};
-ghost use Rattle.ripemd_batch.specs.Lanes.{blocks_of, hash_after, list_at, padded_after, targets};
+ghost use Rattle.ripemd_batch.specs.Lanes.{HasWords, blocks_of, hash_after, hashed_again, list_at, listed, padded_after, targets};
 
 use crate::eight::Eight;
 use crate::four::Four;
 use crate::lane_states::LaneStates;
 use crate::lanes::Lanes;
-use crate::lists::ListHasher;
 use crate::message::message_words;
 use crate::padded::MessageBlocks;
 use ripemd::digest::BlockDigest;
@@ -141,32 +140,6 @@ impl BatchDigest for Ripemd320 {
     ghost same_bytes = { λ d. refl };
 }
 
-// Writes the digests of messages, walked through from a state to which so many bytes before them
-// led. Not inlined, so that the steps stand once in a program; without the loop over groups in it, the
-// compiler does not inline the rounds.
-#[inline(never)]
-pub(crate) fn digest_from<D: BatchDigest>(
-    first: StateOf<D>,
-    before: u64,
-    messages: &[&[u8]],
-    digests: &mut [D::Output],
-)
-    requires valid { D.Function.is_state first }
-    requires length { length digests.old ≡ length messages.now }
-    ensures { map D.bytes_of digests.new
-        ≡ map (hash_after before (D.Function.list first) D.step D.output) (targets messages.now) }
-{
-    for g in 0..messages.len().div_ceil(8) {
-        let end = group_end(messages.len(), 8 * g, 8);
-        digest_group::<D>(
-            first,
-            before,
-            &messages[8 * g..end],
-            &mut digests[8 * g..end],
-        );
-    }
-}
-
 // Where a group of at most `size` ends that begins at place `at`, of `len` in all.
 #[inline(always)]
 pub(crate) fn group_end(len: usize, at: usize, size: usize) -> usize
@@ -176,75 +149,9 @@ pub(crate) fn group_end(len: usize, at: usize, size: usize) -> usize
     if len - at < size { len } else { at + size }
 }
 
-// Writes the digests of at most eight messages: at once where that is faster, or else by fours.
-fn digest_group<D: BatchDigest>(
-    first: StateOf<D>,
-    before: u64,
-    messages: &[&[u8]],
-    digests: &mut [D::Output],
-)
-    requires valid { D.Function.is_state first }
-    requires few { length messages.now ≤ 8 }
-    requires length { length digests.old ≡ length messages.now }
-    ensures { map D.bytes_of digests.new
-        ≡ map (hash_after before (D.Function.list first) D.step D.output) (targets messages.now) }
-{
-    let (all, longest) = count_blocks(messages);
-    if all / 5 >= longest {
-        digest_lanes::<D::Eight>(first, before, messages, digests);
-    } else {
-        digest_fours::<D>(first, before, messages, digests);
-    }
-}
-
-// Writes the digests of messages by fours. Not inlined, and a loop, for the same reasons as `digest_from`.
-#[inline(never)]
-fn digest_fours<D: BatchDigest>(
-    first: StateOf<D>,
-    before: u64,
-    messages: &[&[u8]],
-    digests: &mut [D::Output],
-)
-    requires valid { D.Function.is_state first }
-    requires length { length digests.old ≡ length messages.now }
-    ensures { map D.bytes_of digests.new
-        ≡ map (hash_after before (D.Function.list first) D.step D.output) (targets messages.now) }
-{
-    for g in 0..messages.len().div_ceil(4) {
-        let end = group_end(messages.len(), 4 * g, 4);
-        digest_four::<D>(
-            first,
-            before,
-            &messages[4 * g..end],
-            &mut digests[4 * g..end],
-        );
-    }
-}
-
-// Writes the digests of at most four messages: at once where that is faster, or else one by one.
-fn digest_four<D: BatchDigest>(
-    first: StateOf<D>,
-    before: u64,
-    messages: &[&[u8]],
-    digests: &mut [D::Output],
-)
-    requires valid { D.Function.is_state first }
-    requires few { length messages.now ≤ 4 }
-    requires length { length digests.old ≡ length messages.now }
-    ensures { map D.bytes_of digests.new
-        ≡ map (hash_after before (D.Function.list first) D.step D.output) (targets messages.now) }
-{
-    let (all, longest) = count_blocks(messages);
-    if all.div_ceil(2) > longest {
-        digest_lanes::<D::Four>(first, before, messages, digests);
-    } else {
-        ListHasher::<D>::after(first, before).hash_one_by_one(messages, digests);
-    }
-}
-
 // How many blocks some messages have together, and how many the longest has. It has no contract, since the
 // digests are the same at any answer: by this one it is seen which way is the faster.
-fn count_blocks(messages: &[&[u8]]) -> (usize, usize) {
+pub(crate) fn count_blocks(messages: &[&[u8]]) -> (usize, usize) {
     let mut all: usize = 0;
     let mut longest = 0;
     for message in messages {
@@ -255,29 +162,6 @@ fn count_blocks(messages: &[&[u8]]) -> (usize, usize) {
         }
     }
     (all, longest)
-}
-
-// Writes the digests of some messages, all at once.
-fn digest_lanes<S: LaneStates>(
-    first: <S::Function as BlockFunction>::State,
-    before: u64,
-    messages: &[&[u8]],
-    digests: &mut [<S::Function as BlockFunction>::Digest],
-)
-    requires few { length messages.now ≤ S.Vector.COUNT }
-    requires length { length digests.old ≡ length messages.now }
-    ensures { map S.Function.Digest.bytes digests.new
-        ≡ map (hash_after before (S.Function.list first) S.Function.step S.Function.output)
-        (targets messages.now) }
-{
-    let states: S = walk_group(first, before, messages);
-    // Eight turns, so that the compiler knows the lane of each.
-    for j in 0..8 {
-        if j < messages.len() {
-            let digest = states.digest_of(j);
-            digests[j] = digest;
-        }
-    }
 }
 
 // The digest of one message.
@@ -353,16 +237,20 @@ fn blocks_of_message<'a, 'b>(
     }
 }
 
-// The last states of the walks through the blocks of some messages. Each has two blocks here, in which its
-// padding is made.
+// The states whose outputs are those of some messages, walked through from a state to which so many bytes
+// before them led, and where there is a second state, the outputs of these from there. Each message has two
+// blocks here, in which its padding is made.
 pub(crate) fn walk_group<S: LaneStates>(
     first: <S::Function as BlockFunction>::State,
     before: u64,
+    outer: Option<<S::Function as BlockFunction>::State>,
     messages: &[&[u8]],
 ) -> S
     ensures { (j : ℕ) → j < S.Vector.COUNT → j < length messages.now
-        → S.words_of j result ≡ walk S.Function.step (S.Function.list first)
-        (blocks (padded_after before (list_at (targets messages.now) j))) }
+        → S.Function.output (S.words_of j result)
+        ≡ hashed_again S.Function.step S.Function.output (listed S.Function.list outer)
+        (hash_after before (S.Function.list first) S.Function.step S.Function.output)
+        (list_at (targets messages.now) j) }
 {
     let mut zeros_0 = [[0; 64]; 2];
     let mut zeros_1 = [[0; 64]; 2];
@@ -385,8 +273,10 @@ pub(crate) fn walk_group<S: LaneStates>(
     let counts = block_counts(&blocks);
     let most = most(&counts);
     let mut states = S::splat(first);
-    for i in 0..most {
-        let next = compress_live(states, &blocks, &counts, i);
+    let turns = if outer.is_some() { most + 1 } else { most };
+    let second = outer.unwrap_or(first);
+    for i in 0..turns {
+        let next = next_states(states, &blocks, &counts, i, most <= i, second);
         states = next;
     }
     states
@@ -394,7 +284,8 @@ pub(crate) fn walk_group<S: LaneStates>(
 
 // How many blocks each message has.
 fn block_counts(blocks: &[MessageBlocks; 8]) -> [usize; 8]
-    ensures { (j : ℕ) → j < 8 → slice_index result j ≡ length (blocks_of blocks.now j) }
+    ensures fits { (j : ℕ) → j < 8 → slice_index result j < 2 ^ 64 - 1 }
+    ensures value { (j : ℕ) → j < 8 → slice_index result j ≡ length (blocks_of blocks.now j) }
 {
     [
         blocks[0].count(),
@@ -410,7 +301,9 @@ fn block_counts(blocks: &[MessageBlocks; 8]) -> [usize; 8]
 
 // The greatest of eight counts.
 fn most(counts: &[usize; 8]) -> usize
-    ensures { (j : ℕ) → j < 8 → slice_index counts.now j ≤ result }
+    requires { (j : ℕ) → j < 8 → slice_index counts.now j < 2 ^ 64 - 1 }
+    ensures fits { result < 2 ^ 64 - 1 }
+    ensures most { (j : ℕ) → j < 8 → slice_index counts.now j ≤ result }
 {
     let mut most = 0;
     for j in 0..8 {
@@ -421,24 +314,63 @@ fn most(counts: &[usize; 8]) -> usize
     most
 }
 
-// The states after block `i` of the messages that have one; the others stay as they are.
+// The states after block `i` of the messages that have one, where the others stay as they are; or, if the
+// outputs are hashed again, those after them, as messages after one block, which led to the state `second`.
 #[inline(always)]
-fn compress_live<S: LaneStates>(
+fn next_states<S: LaneStates>(
     states: S,
     blocks: &[MessageBlocks; 8],
     counts: &[usize; 8],
     i: usize,
+    again: bool,
+    second: <S::Function as BlockFunction>::State,
 ) -> S
     requires { (j : ℕ) → j < 8 → slice_index counts.now j ≡ length (blocks_of blocks.now j) }
-    ensures taken { (j : ℕ) → j < S.Vector.COUNT → i < length (blocks_of blocks.now j)
+    ensures taken { again ≡ false → (j : ℕ) → j < S.Vector.COUNT → i < length (blocks_of blocks.now j)
         → S.words_of j result ≡ S.Function.step (S.words_of j states)
         (slice_index_or (blocks_of blocks.now j) i []) }
-    ensures kept { (j : ℕ) → j < S.Vector.COUNT → length (blocks_of blocks.now j) ≤ i
+    ensures kept { again ≡ false → (j : ℕ) → j < S.Vector.COUNT → length (blocks_of blocks.now j) ≤ i
         → S.words_of j result ≡ S.words_of j states }
+    ensures again { again ≡ true → (j : ℕ) → j < S.Vector.COUNT
+        → S.Function.output (S.words_of j result)
+        ≡ hash_after 64 (S.Function.list second) S.Function.step S.Function.output
+        (S.Function.output (S.words_of j states)) }
 {
-    let live = S::Vector::of(live_lanes(counts, i));
-    let next = compress_block(states, blocks, i);
-    S::select(live, next, states)
+    // One call for both, so that the steps stand once in a program.
+    let taken = taken_in(states, blocks, i, again, second);
+    let next = taken.0.compress(&taken.1);
+    if again {
+        next
+    } else {
+        S::select(S::Vector::of(live_lanes(counts, i)), next, states)
+    }
+}
+
+// The states from which this begins, and the message words that they take in.
+#[inline(always)]
+fn taken_in<S: LaneStates>(
+    states: S,
+    blocks: &[MessageBlocks; 8],
+    i: usize,
+    again: bool,
+    second: <S::Function as BlockFunction>::State,
+) -> (S, [S::Vector; 16])
+    ensures from { again ≡ false → result.0 ≡ states }
+    ensures block { again ≡ false → (j : ℕ) → j < S.Vector.COUNT → i < length (blocks_of blocks.now j)
+        → HasWords (map S.Vector.words result.1) j (slice_index_or (blocks_of blocks.now j) i []) }
+    ensures second { again ≡ true → (j : ℕ) → j < S.Vector.COUNT
+        → S.words_of j result.0 ≡ S.Function.list second }
+    ensures last { again ≡ true → (j : ℕ) → j < S.Vector.COUNT
+        → HasWords (map S.Vector.words result.1) j
+        (padded_after 64 (S.Function.output (S.words_of j states))) }
+    ensures size { again ≡ true → (j : ℕ) → j < S.Vector.COUNT
+        → length (padded_after 64 (S.Function.output (S.words_of j states))) ≡ 64 }
+{
+    if again {
+        (S::splat(second), states.last_words())
+    } else {
+        (states, message_words(&blocks_at(blocks, i)))
+    }
 }
 
 // All bits in the words of the messages that have a block `i`, and 0 in the others.
@@ -467,16 +399,6 @@ fn is_live(count: usize, i: usize) -> u32
     ensures no { count ≤ i → result ≡ 0 }
 {
     if i < count { 0xffff_ffff } else { 0 }
-}
-
-// The states after block `i` of each message that has one.
-#[inline(always)]
-fn compress_block<S: LaneStates>(states: S, blocks: &[MessageBlocks; 8], i: usize) -> S
-    ensures { (j : ℕ) → j < S.Vector.COUNT → i < length (blocks_of blocks.now j)
-        → S.words_of j result ≡ S.Function.step (S.words_of j states)
-        (slice_index_or (blocks_of blocks.now j) i []) }
-{
-    states.compress(&message_words(&blocks_at(blocks, i)))
 }
 
 // Block `i` of each message that has one.

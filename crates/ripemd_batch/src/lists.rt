@@ -1,15 +1,17 @@
 //! Digests of many messages, and tags of many texts under one key.
 
-ghost use Rattle.std.specs.Prelude.{◌≡◌, ◌≤◌, ℕ, ◌<◌, [], length, map, take, slice_index_or};
+ghost use Rattle.std.specs.Prelude.{◌≡◌, ◌≤◌, ℕ, ◌<◌, length, map};
 ghost use Rattle.ripemd_block.specs.Standard.Hashing.{hash};
 ghost use Rattle.ripemd_mac.specs.Hmac.{hmac};
-ghost use Rattle.ripemd_batch.specs.Lanes.{hash_after, made_by, targets};
+ghost use Rattle.ripemd_batch.specs.Lanes.{made_by, targets};
 
 use crate::groups::{
-    BatchDigest, StateOf, digest_from, digest_of_digest, digest_one, group_end, message_at,
+    BatchDigest, StateOf, count_blocks, digest_of_digest, digest_one, group_end, message_at,
+    walk_group,
 };
-use ripemd_block::block_api::{BlockFunction, ByteArray, walk, write_short};
-use ripemd_mac::hmac::{filled, masked_keys};
+use crate::lane_states::LaneStates;
+use ripemd_block::block_api::{BlockFunction, walk};
+use ripemd_mac::hmac::masked_keys;
 use std::marker::Model;
 
 /// Writes the digest of each message to the place in `digests` that the message has in `messages`.
@@ -72,19 +74,9 @@ impl<D: BatchDigest> ListHasher<D> {
     pub fn new() -> ListHasher<D>
         ensures { made_by D.step D.output result ≡ hash D.start D.step D.output }
     {
-        ListHasher::after(D::Function::start(), 0)
-    }
-
-    // Of digests of messages, walked through from a state to which so many bytes before them led.
-    #[inline(always)]
-    pub(crate) fn after(first: StateOf<D>, before: u64) -> ListHasher<D>
-        requires { D.Function.is_state first }
-        ensures { made_by D.step D.output result
-            ≡ hash_after before (D.Function.list first) D.step D.output }
-    {
         ListHasher {
-            first,
-            before,
+            first: D::Function::start(),
+            before: 0,
             outer: None,
         }
     }
@@ -117,26 +109,87 @@ impl<D: BatchDigest> ListHasher<D> {
         }
     }
 
-    // The same in groups of eight. Not inlined, so that few messages take none of its stack.
+    // The same in groups of eight. Not inlined, so that few messages take none of its stack; without the loop
+    // over groups in it, the compiler does not inline the rounds.
     #[inline(never)]
     fn hash_groups(&self, messages: &[&[u8]], outputs: &mut [D::Output])
         requires { length outputs.old ≡ length messages.now }
         ensures { map D.bytes_of outputs.new
             ≡ map (made_by D.step D.output self.now) (targets messages.now) }
     {
-        if self.outer.is_none() {
-            digest_from::<D>(self.first, self.before, messages, outputs);
-            return;
-        }
         for g in 0..messages.len().div_ceil(8) {
             let end = group_end(messages.len(), 8 * g, 8);
             self.hash_group(&messages[8 * g..end], &mut outputs[8 * g..end]);
         }
     }
 
+    // The same of at most eight messages: at once where that is faster, or else by fours.
+    fn hash_group(&self, messages: &[&[u8]], outputs: &mut [D::Output])
+        requires few { length messages.now ≤ 8 }
+        requires length { length outputs.old ≡ length messages.now }
+        ensures { map D.bytes_of outputs.new
+            ≡ map (made_by D.step D.output self.now) (targets messages.now) }
+    {
+        let (all, longest) = count_blocks(messages);
+        if all / 5 >= longest {
+            self.hash_lanes::<D::Eight>(messages, outputs);
+        } else {
+            self.hash_fours(messages, outputs);
+        }
+    }
+
+    // The same by fours. Not inlined, and a loop, for the same reasons as `hash_groups`.
+    #[inline(never)]
+    fn hash_fours(&self, messages: &[&[u8]], outputs: &mut [D::Output])
+        requires { length outputs.old ≡ length messages.now }
+        ensures { map D.bytes_of outputs.new
+            ≡ map (made_by D.step D.output self.now) (targets messages.now) }
+    {
+        for g in 0..messages.len().div_ceil(4) {
+            let end = group_end(messages.len(), 4 * g, 4);
+            self.hash_four(&messages[4 * g..end], &mut outputs[4 * g..end]);
+        }
+    }
+
+    // The same of at most four messages: at once where that is faster, or else one by one.
+    fn hash_four(&self, messages: &[&[u8]], outputs: &mut [D::Output])
+        requires few { length messages.now ≤ 4 }
+        requires length { length outputs.old ≡ length messages.now }
+        ensures { map D.bytes_of outputs.new
+            ≡ map (made_by D.step D.output self.now) (targets messages.now) }
+    {
+        let (all, longest) = count_blocks(messages);
+        if all.div_ceil(2) > longest {
+            self.hash_lanes::<D::Four>(messages, outputs);
+        } else {
+            self.hash_one_by_one(messages, outputs);
+        }
+    }
+
+    // The same of some messages, all at once.
+    fn hash_lanes<S: LaneStates<Function = D::Function>>(
+        &self,
+        messages: &[&[u8]],
+        outputs: &mut [D::Output],
+    )
+        requires few { length messages.now ≤ S.Vector.COUNT }
+        requires length { length outputs.old ≡ length messages.now }
+        ensures { map D.bytes_of outputs.new
+            ≡ map (made_by D.step D.output self.now) (targets messages.now) }
+    {
+        let states: S = walk_group(self.first, self.before, self.outer, messages);
+        // Eight turns, so that the compiler knows the lane of each.
+        for j in 0..8 {
+            if j < messages.len() {
+                let output = states.digest_of(j);
+                outputs[j] = output;
+            }
+        }
+    }
+
     // The same, one message after another.
     #[inline(always)]
-    pub(crate) fn hash_one_by_one(&self, messages: &[&[u8]], outputs: &mut [D::Output])
+    fn hash_one_by_one(&self, messages: &[&[u8]], outputs: &mut [D::Output])
         requires { length outputs.old ≡ length messages.now }
         ensures { map D.bytes_of outputs.new
             ≡ map (made_by D.step D.output self.now) (targets messages.now) }
@@ -158,22 +211,6 @@ impl<D: BatchDigest> ListHasher<D> {
             None => digest,
         }
     }
-
-    // The same of at most eight messages. Of tags, the inner digests are written to their places and
-    // hashed after the outer masked key.
-    fn hash_group(&self, messages: &[&[u8]], outputs: &mut [D::Output])
-        requires few { length messages.now ≤ 8 }
-        requires length { length outputs.old ≡ length messages.now }
-        ensures { map D.bytes_of outputs.new
-            ≡ map (made_by D.step D.output self.now) (targets messages.now) }
-    {
-        digest_from::<D>(self.first, self.before, messages, outputs);
-        if let Some(outer) = self.outer {
-            let blocks = digest_blocks::<D>(outputs);
-            let digests = digests_in::<D>(&blocks);
-            digest_from::<D>(outer, 64, &digests[..messages.len()], outputs);
-        }
-    }
 }
 
 // The state after one block.
@@ -182,51 +219,4 @@ pub(crate) fn state_after<D: BatchDigest>(block: [u8; 64]) -> StateOf<D>
     ensures valid { D.Function.is_state result }
 {
     walk::<D::Function>(D::Function::start(), &[block])
-}
-
-// A block for each of at most eight digests, which begins with the digest.
-fn digest_blocks<D: BatchDigest>(digests: &[D::Output]) -> [[u8; 64]; 8]
-    ensures { (j : ℕ) → j < 8 → j < length digests.now → take D.Output.LEN (slice_index_or result j [])
-        ≡ slice_index_or (map D.bytes_of digests.now) j [] }
-{
-    [
-        digest_block::<D>(digests, 0),
-        digest_block::<D>(digests, 1),
-        digest_block::<D>(digests, 2),
-        digest_block::<D>(digests, 3),
-        digest_block::<D>(digests, 4),
-        digest_block::<D>(digests, 5),
-        digest_block::<D>(digests, 6),
-        digest_block::<D>(digests, 7),
-    ]
-}
-
-// A block that begins with digest `j`; zeros alone behind the last.
-#[inline(always)]
-fn digest_block<D: BatchDigest>(digests: &[D::Output], j: usize) -> [u8; 64]
-    ensures { j < length digests.now → take D.Output.LEN result
-        ≡ slice_index_or (map D.bytes_of digests.now) j [] }
-{
-    let mut block = [0; 64];
-    if j < digests.len() {
-        write_short(&mut block, digests[j].as_bytes());
-    }
-    block
-}
-
-// The digests with which eight blocks begin.
-fn digests_in<'a, D: BatchDigest>(blocks: &'a [[u8; 64]; 8]) -> [&'a [u8]; 8]
-    ensures { targets result ≡ map (take D.Output.LEN) blocks.now }
-{
-    let size = <D::Output as ByteArray>::LEN;
-    [
-        &blocks[0][..size],
-        &blocks[1][..size],
-        &blocks[2][..size],
-        &blocks[3][..size],
-        &blocks[4][..size],
-        &blocks[5][..size],
-        &blocks[6][..size],
-        &blocks[7][..size],
-    ]
 }

@@ -1,6 +1,6 @@
 //! The blocks of a message with its padding, of which the whole ones stay where they lie.
 
-ghost use Rattle.std.specs.Prelude.{◌≡◌, ◌-◌, ◌<◌, [], ◌∷◌, ◌++◌, length, take, replicate, slice_index_or};
+ghost use Rattle.std.specs.Prelude.{◌≡◌, ◌-◌, ◌^◌, ◌<◌, [], ◌∷◌, ◌++◌, length, take, replicate, slice_index_or};
 ghost use Rattle.ripemd_block.specs.Standard.Words.{block_size, eight_bytes};
 ghost use Rattle.ripemd_block.specs.Standard.Hashing.{length_place, with_padding, blocks};
 ghost use Rattle.ripemd_batch.specs.Lanes.{padded_after};
@@ -60,7 +60,8 @@ impl<'a, 'b> MessageBlocks<'a, 'b> {
     /// How many there are.
     #[inline(always)]
     pub(crate) fn count(&self) -> usize
-        ensures { result ≡ length self.now }
+        ensures value { result ≡ length self.now }
+        ensures fits { result < 2 ^ 64 - 1 }
     {
         self.whole.len() + self.last.len()
     }

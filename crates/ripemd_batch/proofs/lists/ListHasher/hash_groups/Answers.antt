@@ -1,4 +1,4 @@
-use Rattle.std.proofs.Common.{◌≡◌, ℕ, ◌+◌, ◌-◌, ◌*◌, List, length, arith, rules, refl, ◌∙◌}
+use Rattle.std.proofs.Common.{◌≡◌, ℕ, ◌+◌, ◌-◌, ◌*◌, List, length, arith, rules, ◌∙◌}
 use Rattle.ripemd_batch.specs.Lanes.{made_by}
 use Rattle.ripemd_batch.proofs.Placing.{put_group, length-put}
 use Rattle.ripemd_batch.proofs.lists.ListHasher.hash_groups.Goals as goal
@@ -13,7 +13,7 @@ loop-g-preserved g c =
     let part : length outputs ≡ end - at = search rules in
     record {
       size = length-put c.loop-g.outputs outputs at (end - at) (omega arith) part ∙ size;
-      so_far = put_group g.D.OutputSizeUser.bytes_of made made (λ m. refl) c.loop-g.outputs c.args.messages.now
+      so_far = put_group g.D.OutputSizeUser.bytes_of made c.loop-g.outputs c.args.messages.now
           outputs at end (8 * (c.loop-g.g + 1)) size (omega arith) (omega arith) part c.hash_group.ensures
           c.loop-g.invariant.so_far;
     }

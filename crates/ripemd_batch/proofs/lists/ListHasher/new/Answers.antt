@@ -7,5 +7,5 @@ pub returns : goal.returns
 returns g c =
     let d = g.D.Digest in
     let list = g.D.Function.ListBlockFunction.list in
-    c.after.ensures ∙ fun_ext (hash_after_start (list c.start.result) d.start d.step d.output
+    fun_ext (hash_after_start (list c.start.result) d.start d.step d.output
     (ap list c.start.ensures.value ∙ g.met.D.BatchDigest.same_start))
