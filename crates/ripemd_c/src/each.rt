@@ -18,7 +18,7 @@ use ripemd_batch::{BatchDigest, ListHasher};
 use ripemd_calls::by_variant;
 
 // How many messages a group has at most: so many outputs lie in an array before they are written.
-const GROUP: usize = 64;
+const GROUP: usize = 32;
 
 // So few messages have an array of their own, which takes less time to make.
 const FEW: usize = 8;
@@ -94,7 +94,7 @@ fn write_each<D: BatchDigest>(
     outputs: &mut [u8],
 ) -> bool
     requires width { 0 < D.OUTPUT_SIZE }
-    requires memory { 64 * type_size D.Output.row < 2 ^ 63 }
+    requires memory { 32 * type_size D.Output.row < 2 ^ 63 }
     ensures { FillsEach D.OUTPUT_SIZE (made_by D.step D.output hasher.now) bytes.now size
         outputs.old outputs.new result }
 {
@@ -124,7 +124,7 @@ fn write_list<D: BatchDigest>(
     messages: &[&[u8]],
     outputs: &mut [u8],
 ) -> bool
-    requires memory { 64 * type_size D.Output.row < 2 ^ 63 }
+    requires memory { 32 * type_size D.Output.row < 2 ^ 63 }
     ensures { FillsList D.OUTPUT_SIZE (made_by D.step D.output hasher.now) (targets messages.now)
         outputs.old outputs.new result }
 {
