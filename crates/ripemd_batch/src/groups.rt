@@ -1,9 +1,9 @@
 //! Groups of at most eight messages: hashed at once, by fours, or one after another.
 
-ghost use Rattle.std.specs.Prelude.{◌≡◌, ℕ, ◌+◌, ◌-◌, ◌*◌, ◌^◌, ◌<◌, ◌≤◌, min, List, true, false};
+ghost use Rattle.std.specs.Prelude.{◌≡◌, ℕ, ◌+◌, ◌-◌, ◌*◌, ◌^◌, ◌<◌, ◌≤◌, min, true, false};
 ghost use Rattle.std.specs.Prelude.{length, map, replicate, slice_index, slice_index_or, []};
 ghost use Rattle.ripemd_block.specs.Standard.Words.{block_size};
-ghost use Rattle.ripemd_block.specs.Standard.Hashing.{hash, walk, blocks};
+ghost use Rattle.ripemd_block.specs.Standard.Hashing.{blocks};
 ghost use Rattle.ripemd_batch.specs.Lanes.{HasWords, blocks_of, hash_after, hashed_again, list_at, listed, padded_after, targets};
 
 use crate::eight::Eight;
@@ -301,8 +301,8 @@ fn block_counts(blocks: &[MessageBlocks; 8]) -> [usize; 8]
 
 // The greatest of eight counts.
 fn most(counts: &[usize; 8]) -> usize
-    requires { (j : ℕ) → j < 8 → slice_index counts.now j < 2 ^ 64 - 1 }
-    ensures fits { result < 2 ^ 64 - 1 }
+    ensures fits { ((j : ℕ) → j < 8 → slice_index counts.now j < 2 ^ 64 - 1)
+        → result < 2 ^ 64 - 1 }
     ensures most { (j : ℕ) → j < 8 → slice_index counts.now j ≤ result }
 {
     let mut most = 0;
@@ -346,7 +346,7 @@ fn next_states<S: LaneStates>(
     }
 }
 
-// The states from which this begins, and the message words that they take in.
+// The states and the message words that `next_states` compresses.
 #[inline(always)]
 fn taken_in<S: LaneStates>(
     states: S,
