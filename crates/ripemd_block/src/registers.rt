@@ -1,7 +1,7 @@
 //! Blocks in order, with the lines side by side in general registers: these have a rotation in one
 //! instruction, and so many blocks take less time than by the steps of the block function.
 
-ghost use Rattle.std.specs.Prelude.{◌≡◌, ◌≤◌, ◌++◌, length, drop};
+ghost use Rattle.std.specs.Prelude.{◌≡◌};
 ghost use Rattle.ripemd_block.specs.Standard.Hashing.{walk};
 
 mod c128;
@@ -21,11 +21,13 @@ pub(crate) trait InRegisters: BlockFunction {
         ensures value { result ≡ Self.step_of state block.now }
         ensures valid { Self.is_state result };
 
-    /// Writes a state to its place. Where it has more than four words, four go into each store, since who copies it
-    /// loads as many at once: such a load waits long for single words that were only just stored. Of four words the
-    /// compiler would make a vector that goes from block to block, and the next block waits for its words.
+    /// Writes a state to its place.
+    #[inline(always)]
     fn put(state: Self::State, place: &mut Self::State)
-        ensures { place.new ≡ state };
+        ensures { place.new ≡ state }
+    {
+        *place = state;
+    }
 }
 
 /// Takes blocks into a state in order.
@@ -41,24 +43,10 @@ pub(crate) fn walk_on<F: InRegisters>(first: &mut F::State, blocks: &[[u8; 64]])
     F::put(state, first);
 }
 
-// Writes four words to the front of a place.
-#[inline(always)]
-fn put_four(words: [u32; 4], place: &mut [u32])
-    requires { 4 ≤ length place.old }
-    ensures { place.new ≡ words ++ drop 4 place.old }
-{
-    u32x4::from_array(words).copy_to_slice(&mut place[..4]);
-}
-
 impl InRegisters for Ripemd128Function {
     #[inline(always)]
     fn compress(state: [u32; 4], block: &[u8; 64]) -> [u32; 4] {
         c128::compress(state, block)
-    }
-
-    #[inline(always)]
-    fn put(state: [u32; 4], place: &mut [u32; 4]) {
-        *place = state;
     }
 }
 
@@ -68,10 +56,13 @@ impl InRegisters for Ripemd160Function {
         c160::compress(state, block)
     }
 
+    // Four words go into one store, since who copies the state loads as many at once, and such a load waits long
+    // for single words that were only just stored. For the other functions the compiler would make vectors of this
+    // that go from block to block, and the next block waits for its words.
     #[inline(always)]
     fn put(state: [u32; 5], place: &mut [u32; 5]) {
         let [s0, s1, s2, s3, s4] = state;
-        put_four([s0, s1, s2, s3], place);
+        u32x4::from_array([s0, s1, s2, s3]).copy_to_slice(&mut place[..4]);
         place[4] = s4;
     }
 }
@@ -81,27 +72,11 @@ impl InRegisters for Ripemd256Function {
     fn compress(state: [u32; 8], block: &[u8; 64]) -> [u32; 8] {
         c256::compress(state, block)
     }
-
-    #[inline(always)]
-    fn put(state: [u32; 8], place: &mut [u32; 8]) {
-        let [s0, s1, s2, s3, s4, s5, s6, s7] = state;
-        put_four([s0, s1, s2, s3], place);
-        put_four([s4, s5, s6, s7], &mut place[4..]);
-    }
 }
 
 impl InRegisters for Ripemd320Function {
     #[inline(always)]
     fn compress(state: [u32; 10], block: &[u8; 64]) -> [u32; 10] {
         c320::compress(state, block)
-    }
-
-    #[inline(always)]
-    fn put(state: [u32; 10], place: &mut [u32; 10]) {
-        let [s0, s1, s2, s3, s4, s5, s6, s7, s8, s9] = state;
-        put_four([s0, s1, s2, s3], place);
-        put_four([s4, s5, s6, s7], &mut place[4..]);
-        place[8] = s8;
-        place[9] = s9;
     }
 }
