@@ -1,5 +1,6 @@
 pub mod Blocks
 pub mod Chaining
+pub mod Chunks
 pub mod DigestWords
 pub mod EightLanes
 pub mod Factored

@@ -1,123 +1,68 @@
 -- Elements put in their places, one after another.
-use Rattle.std.proofs.Common.{◌≡◌, ℕ, zero, suc, ◌+◌, ◌-◌, ◌<◌, ◌≤◌, min, inl, inr, add-one, zero-add, arith}
-use Rattle.std.proofs.Common.{refl, sym, ap, ◌∙◌}
-use Rattle.std.proofs.Common.{List, [], ◌∷◌, ◌++◌, length, map, take, drop, get_or, slice_set}
-use Rattle.std.proofs.lemmas.Bool.{cases_lt}
-use Rattle.std.proofs.lemmas.List.{take_all, length-map, map-append, take_at, take-map, drop-map}
-use Rattle.std.proofs.lemmas.List.{length-append, length-take-le, length-drop}
+use Rattle.std.proofs.Common.{◌≡◌, ℕ, ◌+◌, ◌-◌, ◌<◌, ◌≤◌, zero-add, arith, refl, sym, ap, ◌∙◌}
+use Rattle.std.proofs.Common.{List, [], ◌∷◌, ◌++◌, length, map, take, drop, slice_set}
+use Rattle.std.proofs.lemmas.List.{append_assoc, take_all, take_more, take_more_set, take-map, drop-map}
+use Rattle.std.proofs.lemmas.List.{length-map, length-take-le, length-drop, get_or-map}
+use Rattle.std.proofs.Math.Seq.{take-add}
 use Rattle.std.specs.Borrow.{Bor}
-use borrow.Rule.Slice.PartMut.{put_mid}
-use Rattle.ripemd_batch.specs.Lanes.{targets}
-
-put_at : {A B C : Type 0} (f : A → B) (g : C → B) (out : List A) (xs : List C) (n : ℕ) (a : A) (d : C)
-    → n < length out → n < length xs → f a ≡ g (get_or xs n d)
-    → take n (map f out) ≡ take n (map g xs)
-    → take (suc n) (map f (slice_set out n a)) ≡ take (suc n) (map g xs)
-put_at f g [] xs n a d in_out in_xs same before = absurd (omega arith)
-put_at f g (o ∷ out) [] n a d in_out in_xs same before = absurd (omega arith)
-put_at f g (o ∷ out) (x ∷ xs) zero a d in_out in_xs same before = rw same refl
-put_at f g (o ∷ out) (x ∷ xs) (suc n) a d in_out in_xs same before =
-    let head : f o ≡ g x = cc in
-    let tail : take n (map f out) ≡ take n (map g xs) = cc in
-    rw (head, put_at f g out xs n a d (omega arith) (omega arith) same tail) refl
-
--- where the first n images are those of the list, and the one put at place n is the next, the first
--- n + 1 are
-pub put_next : {A B C : Type 0} (f : A → B) (g : C → B) (out : List A) (xs : List C) (n : ℕ) (a : A) (d : C)
-    → n < length out → n < length xs → f a ≡ g (get_or xs n d)
-    → take n (map f out) ≡ take n (map g xs)
-    → take (n + 1) (map f (slice_set out n a)) ≡ take (n + 1) (map g xs)
-put_next f g out xs n a d in_out in_xs same before =
-    rw (add-one) (put_at f g out xs n a d in_out in_xs same before)
-
--- where the first n are all, they are also the first m, for any greater m
-pub all_taken : {A B C : Type 0} (f : A → B) (g : C → B) (out : List A) (xs : List C) (n m : ℕ)
-    → length out ≤ n → length xs ≤ n → n ≤ m
-    → take n (map f out) ≡ take n (map g xs) → take m (map f out) ≡ take m (map g xs)
-all_taken f g out xs n m of_out of_xs more same =
-    let a = length-map out f in
-    let b = length-map xs g in
-    rw (take_all m (map f out) (omega (arith, a)), take_all m (map g xs) (omega (arith, b)))
-    (rw (take_all n (map f out) (omega (arith, a)), take_all n (map g xs) (omega (arith, b))) at same)
-
--- and then they are equal
-pub all_equal : {A B C : Type 0} (f : A → B) (g : C → B) (out : List A) (xs : List C) (n : ℕ)
-    → length out ≤ n → length xs ≤ n
-    → take n (map f out) ≡ take n (map g xs) → map f out ≡ map g xs
-all_equal f g out xs n of_out of_xs same =
-    let a = length-map out f in
-    let b = length-map xs g in
-    rw (take_all n (map f out) (omega (arith, a)), take_all n (map g xs) (omega (arith, b))) at same
+use Rattle.ripemd_batch.specs.Lanes.{PutFrom, list_at, targets}
 
 -- functions that agree have the same images
 pub map_same : {A B : Type 0} (f g : A → B) → ((x : A) → f x ≡ g x) → (xs : List A) → map f xs ≡ map g xs
 map_same f g same [] = refl
 map_same f g same (x ∷ xs) = rw (same x, map_same f g same xs) refl
 
--- ---- a part written behind the elements before it
+-- the first j are in the places from `at` on, behind those before them
+abbrev pub Put : {A : Type 0} (list before made : List A) (at j : ℕ) → Type 0
+Put list before made at j = take (at + j) list ≡ before ++ take j made
 
-part_put : {A B C : Type 0} (f : A → B) (g : C → B) (out : List A) (xs : List C) (part post : List A) (at count : ℕ)
-    → at ≤ length out → at ≤ length xs → length part ≡ count
-    → map f part ≡ map g (take count (drop at xs))
-    → take at (map f out) ≡ take at (map g xs)
-    → take (at + count) (map f (take at out ++ (part ++ post))) ≡ take (at + count) (map g xs)
-part_put f g out xs part post zero count in_out in_xs size same before =
-    let many : length (map f part) ≡ count = length-map part f ∙ size in
-    rw (zero-add count, map-append f part post, take_at (map f part) (map f post) count many, take-map g count xs) same
-part_put f g [] xs part post (suc at) count in_out in_xs size same before = absurd (omega arith)
-part_put f g (o ∷ out) [] part post (suc at) count in_out in_xs size same before = absurd (omega arith)
-part_put f g (o ∷ out) (x ∷ xs) part post (suc at) count in_out in_xs size same before =
-    let head : f o ≡ g x = cc in
-    let tail : take at (map f out) ≡ take at (map g xs) = cc in
-    let more : suc at + count ≡ suc (at + count) = omega arith in
-    rw (more, head, part_put f g out xs part post at count (omega arith) (omega arith) size same tail) refl
+-- where what is made of the first j messages is there, and what is made of the next is put behind it, that of the
+-- first j + 1 is
+pub put_next : (made : List ℕ → List ℕ) (messages : List (Bor (List ℕ))) (list before : List (List ℕ)) (at j : ℕ) (a : List ℕ)
+    → at + j < length list → j < length messages → a ≡ made (list_at (targets messages) j)
+    → Put list before (map made (targets messages)) at j
+    → Put (slice_set list (at + j) a) before (map made (targets messages)) at (j + 1)
+put_next made messages list before at j a in_list in_messages next so_far =
+    let all : List (List ℕ) = targets messages in
+    let outputs : List (List ℕ) = map made all in
+    let many : length all ≡ length messages = length-map messages (λ m. m.now) in
+    let behind : at + (j + 1) ≡ at + j + 1 = omega arith in
+    ap (λ n. take n (slice_set list (at + j) a)) behind
+    ∙ take_more_set list (at + j) a in_list
+    ∙ ap (λ xs. xs ++ a ∷ []) so_far
+    ∙ append_assoc before (take j outputs) (a ∷ [])
+    ∙ ap (λ x. before ++ (take j outputs ++ x ∷ [])) (next ∙ sym (get_or-map made all j [] [] (omega (arith, many))))
+    ∙ ap (λ xs. before ++ xs) (sym (take_more outputs j [] (omega (arith, many, length-map all made))))
 
--- a list with a part written over is as long as before
-pub length-put : {A : Type 0} (out part : List A) (at k : ℕ) → at + k ≤ length out → length part ≡ k
-    → length (put_mid at k out part) ≡ length out
-length-put out part at k fits size =
+-- the same of what is made of a part of the messages
+pub put_part : (made : List ℕ → List ℕ) (messages : List (Bor (List ℕ))) (old new before : List (List ℕ)) (at j end : ℕ)
+    → j ≤ end → end ≤ length messages
+    → PutFrom (at + j) (map made (targets (take (end - j) (drop j messages)))) old new
+    → Put old before (map made (targets messages)) at j → Put new before (map made (targets messages)) at end
+put_part made messages old new before at j end order fits part so_far =
+    let k : ℕ = end - j in
+    let target : Bor (List ℕ) → List ℕ = λ m. m.now in
+    let all : List (List ℕ) = targets messages in
+    let outputs : List (List ℕ) = map made all in
+    let same : map made (targets (take k (drop j messages))) ≡ take k (drop j outputs) =
+    rw (drop-map made j all, take-map made k (drop j all), drop-map target j messages, take-map target k (drop j messages)) refl in
+    let size : length (map made (targets (take k (drop j messages)))) ≡ k =
     omega (
       arith,
-      size,
-      length-append (take at out) (part ++ drop k (drop at out)),
-      length-append part (drop k (drop at out)),
-      length-take-le at out (omega arith),
-      length-drop k (drop at out),
-      length-drop at out,
-    )
+      length-map (targets (take k (drop j messages))) made,
+      length-map (take k (drop j messages)) target,
+      length-take-le k (drop j messages) (omega (arith, length-drop j messages)),
+    ) in
+    let whole : j + k ≡ end = omega arith in
+    let behind : at + end ≡ at + j + k = omega arith in
+    ap (λ n. take n new) behind
+    ∙ rw (size, same) at part.1
+    ∙ ap (λ xs. xs ++ take k (drop j outputs)) so_far
+    ∙ append_assoc before (take j outputs) (take k (drop j outputs))
+    ∙ ap (λ xs. before ++ xs) (sym (take-add j k outputs) ∙ ap (λ n. take n outputs) whole)
 
--- where the first images are those of the list, and those of a part that ends at place `end` are the
--- next, the first `next` are, if the part ends there or where the list does
-put_part : {A B C : Type 0} (f : A → B) (g : C → B) (out : List A) (xs : List C) (part : List A) (at end next : ℕ)
-    → length out ≡ length xs → at ≤ end → end ≡ min next (length xs) → length part ≡ end - at
-    → map f part ≡ map g (take (end - at) (drop at xs))
-    → take at (map f out) ≡ take at (map g xs)
-    → take next (map f (put_mid at (end - at) out part)) ≡ take next (map g xs)
-put_part f g out xs part at end next many ends least size same before =
-    let k : ℕ = end - at in
-    let place : at + k ≡ end = omega arith in
-    let all = length-put out part at k (omega arith) size in
-    let up_to_end : take end (map f (put_mid at k out part)) ≡ take end (map g xs) =
-    rw place at (part_put f g out xs part (drop k (drop at out)) at k (omega arith) (omega arith) size same before) in
-    elim (cases_lt (length xs) next) [
-      | inl more ↦
-          all_taken f g (put_mid at k out part) xs end next (omega (arith, all)) (omega arith) (omega arith) up_to_end
-      | inr fits ↦
-          let here : end ≡ next = omega arith in
-          rw (← here) up_to_end
-    ]
-
--- the same of what a function makes of messages
-pub put_group : {A : Type 0} (bytes_of : A → List ℕ) (made : List ℕ → List ℕ)
-    → (out : List A) (messages : List (Bor (List ℕ))) (part : List A) (at end next : ℕ)
-    → length out ≡ length messages → at ≤ end → end ≡ min next (length messages) → length part ≡ end - at
-    → map bytes_of part ≡ map made (targets (take (end - at) (drop at messages)))
-    → take at (map bytes_of out) ≡ take at (map made (targets messages))
-    → take next (map bytes_of (put_mid at (end - at) out part)) ≡ take next (map made (targets messages))
-put_group bytes_of made out messages part at end next many ends least size same before =
-    let all : List (List ℕ) = targets messages in
-    let count : length all ≡ length messages = length-map messages (λ m. m.now) in
-    let own_part : targets (take (end - at) (drop at messages)) ≡ take (end - at) (drop at all) =
-    rw (drop-map (λ (m : Bor (List ℕ)). m.now) at messages, take-map (λ (m : Bor (List ℕ)). m.now) (end - at) (drop at messages)) refl in
-    put_part bytes_of made out all part at end next (many ∙ sym count) ends (rw count least) size
-    (same ∙ ap (map made) own_part) before
+-- where all are there, and no more places than they have, they are what the list has
+pub all_put : {A : Type 0} (list made : List A) (j : ℕ) → length list ≤ j → length made ≤ j
+    → Put list [] made 0 j → list ≡ made
+all_put list made j of_list of_made so_far =
+    rw (zero-add j, take_all j list of_list, take_all j made of_made) at so_far

@@ -1,8 +1,9 @@
 -- Messages side by side: a vector has a word of each.
-use Rattle.std.specs.Prelude.{ℕ, ◌<◌, ◌≡◌, ◌+◌, ◌-◌, ◌*◌, ◌%◌, ◌^◌}
-use Rattle.std.specs.Prelude.{List, [], ◌∷◌, ◌++◌, length, map, replicate, slice_index, slice_index_or, Option, None, Some}
+use Rattle.std.specs.Prelude.{ℕ, ◌<◌, ◌≡◌, ◌+◌, ◌-◌, ◌*◌, ◌/◌, ◌%◌, ◌^◌}
+use Rattle.std.specs.Prelude.{List, [], ◌∷◌, ◌++◌, length, map, replicate, take, slice_index, slice_index_or, Option, None, Some}
 use Rattle.std.specs.List.{range_with_len}
 use Rattle.std.specs.Borrow.{Bor}
+use Rattle.std.specs.Simd.{first_chunks}
 use Rattle.ripemd_block.specs.Standard.Words.{message_word}
 use Rattle.ripemd_block.specs.Standard.Hashing.{with_padding, blocks, walk}
 use Rattle.ripemd_block.specs.Standard.Schedule.{Line, left_line, right_line}
@@ -77,6 +78,15 @@ hashed_again step output (Some outer) inner = λ m. hash_after 64 outer step out
 -- what these states make of a message
 abbrev pub made_by : (List ℕ → List ℕ → List ℕ) → (List ℕ → List ℕ) → ListStates → List ℕ → List ℕ
 made_by step output s = hashed_again step output s.outer (hash_after s.before s.first step output)
+
+-- a list of as many places as before, with these elements in those from `at` on; those before hold what they held
+abbrev pub PutFrom : {A : Type 0} → (at : ℕ) → (elements old new : List A) → Type 0
+PutFrom at elements old new =
+    (length new ≡ length old) × (take (at + length elements) new ≡ take at old ++ elements)
+
+-- the whole chunks of n elements
+unfoldable pub chunks : {A : Type 0} → ℕ → List A → List (List A)
+chunks n xs = first_chunks n (length xs / n) xs
 
 -- an optional state as a list of numbers
 abbrev pub listed : {S : Type 0} → (S → List ℕ) → Option S → Option (List ℕ)

@@ -45,6 +45,9 @@ pub trait BatchDigest: BlockDigest<Output: ByteArray> {
     // They give the same output of their words.
     ghost same_output: { Self.Function.output ≡ Self.output };
 
+    // It has bytes.
+    ghost some_bytes: { 0 < Self.Output.LEN };
+
     // Its bytes are those of the digest.
     ghost same_bytes: { (d : Self.Output) → Self.Output.bytes d ≡ Self.bytes_of d };
 }
@@ -59,7 +62,7 @@ impl BatchDigest for Ripemd128 {
 
     type Eight = [Eight; 4];
 
-    ghost use Rattle.std.specs.Prelude.{refl};
+    ghost use Rattle.std.proofs.Common.{arith, refl};
 
     ghost four = { refl };
 
@@ -70,6 +73,8 @@ impl BatchDigest for Ripemd128 {
     ghost same_step = { refl };
 
     ghost same_output = { refl };
+
+    ghost some_bytes = { omega arith };
 
     ghost same_bytes = { λ d. refl };
 }
@@ -81,7 +86,7 @@ impl BatchDigest for Ripemd160 {
 
     type Eight = [Eight; 5];
 
-    ghost use Rattle.std.specs.Prelude.{refl};
+    ghost use Rattle.std.proofs.Common.{arith, refl};
 
     ghost four = { refl };
 
@@ -92,6 +97,8 @@ impl BatchDigest for Ripemd160 {
     ghost same_step = { refl };
 
     ghost same_output = { refl };
+
+    ghost some_bytes = { omega arith };
 
     ghost same_bytes = { λ d. refl };
 }
@@ -103,7 +110,7 @@ impl BatchDigest for Ripemd256 {
 
     type Eight = [Eight; 8];
 
-    ghost use Rattle.std.specs.Prelude.{refl};
+    ghost use Rattle.std.proofs.Common.{arith, refl};
 
     ghost four = { refl };
 
@@ -114,6 +121,8 @@ impl BatchDigest for Ripemd256 {
     ghost same_step = { refl };
 
     ghost same_output = { refl };
+
+    ghost some_bytes = { omega arith };
 
     ghost same_bytes = { λ d. refl };
 }
@@ -125,7 +134,7 @@ impl BatchDigest for Ripemd320 {
 
     type Eight = [Eight; 10];
 
-    ghost use Rattle.std.specs.Prelude.{refl};
+    ghost use Rattle.std.proofs.Common.{arith, refl};
 
     ghost four = { refl };
 
@@ -136,6 +145,8 @@ impl BatchDigest for Ripemd320 {
     ghost same_step = { refl };
 
     ghost same_output = { refl };
+
+    ghost some_bytes = { omega arith };
 
     ghost same_bytes = { λ d. refl };
 }

@@ -17,6 +17,7 @@ pub mod lists;
 mod message;
 mod padded;
 pub mod pbkdf2;
+mod places;
 
 pub use groups::BatchDigest;
 pub use lists::{ListHasher, digest_each, tag_each};

@@ -1,15 +1,17 @@
 //! Digests of many messages, and tags of many texts under one key.
 
-ghost use Rattle.std.specs.Prelude.{◌≡◌, ◌≤◌, length, map};
+ghost use Rattle.std.specs.Prelude.{◌≡◌, ◌+◌, ◌*◌, ◌^◌, ◌<◌, ◌≤◌, length, map};
+ghost use Rattle.std.specs.List.{flat_map};
 ghost use Rattle.ripemd_block.specs.Standard.Hashing.{hash};
 ghost use Rattle.ripemd_mac.specs.Hmac.{hmac};
-ghost use Rattle.ripemd_batch.specs.Lanes.{made_by, targets};
+ghost use Rattle.ripemd_batch.specs.Lanes.{PutFrom, made_by, targets};
 
 use crate::groups::{
     BatchDigest, StateOf, count_blocks, digest_of_digest, digest_one, group_end, message_at,
     walk_group,
 };
 use crate::lane_states::LaneStates;
+use crate::places::{Arrays, Bytes, Places};
 use ripemd_block::block_api::{BlockFunction, walk};
 use ripemd_mac::hmac::masked_keys;
 use std::marker::Model;
@@ -101,102 +103,154 @@ impl<D: BatchDigest> ListHasher<D> {
         ensures { map D.bytes_of outputs.new
             ≡ map (made_by D.step D.output self.now) (targets messages.now) }
     {
+        self.put_each::<Arrays>(messages, outputs);
+    }
+
+    /// Writes what is made of each message to `bytes`, one output after another. There must be as many
+    /// bytes as the outputs have. Nothing is allocated.
+    #[inline(always)]
+    #[tactic(auto, using(crate::proofs::Chunks::count_chunks))]
+    pub fn write_joined(&self, messages: &[&[u8]], bytes: &mut [u8])
+        requires { length bytes.old ≡ length messages.now * D.Output.LEN }
+        ensures { bytes.new ≡ flat_map (made_by D.step D.output self.now) (targets messages.now) }
+    {
+        self.put_each::<Bytes>(messages, bytes);
+    }
+
+    // Puts what is made of each message in its place.
+    #[inline(always)]
+    fn put_each<P: Places<D::Output>>(&self, messages: &[&[u8]], places: &mut [P::Element])
+        requires { length (P.list places.old) ≡ length messages.now }
+        ensures { P.list places.new ≡ map (made_by D.step D.output self.now) (targets messages.now) }
+    {
         // So few leave most lanes without work.
         if messages.len() < 3 {
-            self.hash_one_by_one(messages, outputs);
+            self.put_one_by_one::<P>(messages, 0, places);
         } else {
-            self.hash_groups(messages, outputs);
+            self.put_groups::<P>(messages, 0, places);
         }
     }
 
-    // The same in groups of eight. Not inlined, so that few messages take none of its stack; without the loop
-    // over groups in it, the compiler does not inline the rounds.
+    // Puts what is made of the messages in the places from `at` on, in groups of eight. Not inlined, so that few
+    // messages take none of its stack; without the loop over groups in it, the compiler does not inline the rounds.
     #[inline(never)]
-    fn hash_groups(&self, messages: &[&[u8]], outputs: &mut [D::Output])
-        requires { length outputs.old ≡ length messages.now }
-        ensures { map D.bytes_of outputs.new
-            ≡ map (made_by D.step D.output self.now) (targets messages.now) }
+    fn put_groups<P: Places<D::Output>>(
+        &self,
+        messages: &[&[u8]],
+        at: usize,
+        places: &mut [P::Element],
+    )
+        requires fits { at + length messages.now < 2 ^ 64 }
+        requires room { at + length messages.now ≤ length (P.list places.old) }
+        ensures { PutFrom at (map (made_by D.step D.output self.now) (targets messages.now))
+            (P.list places.old) (P.list places.new) }
     {
         for g in 0..messages.len().div_ceil(8) {
             let end = group_end(messages.len(), 8 * g, 8);
-            self.hash_group(&messages[8 * g..end], &mut outputs[8 * g..end]);
+            self.put_group::<P>(&messages[8 * g..end], at + 8 * g, places);
         }
     }
 
     // The same of at most eight messages: at once where that is faster, or else by fours.
-    fn hash_group(&self, messages: &[&[u8]], outputs: &mut [D::Output])
+    fn put_group<P: Places<D::Output>>(
+        &self,
+        messages: &[&[u8]],
+        at: usize,
+        places: &mut [P::Element],
+    )
         requires few { length messages.now ≤ 8 }
-        requires length { length outputs.old ≡ length messages.now }
-        ensures { map D.bytes_of outputs.new
-            ≡ map (made_by D.step D.output self.now) (targets messages.now) }
+        requires fits { at + length messages.now < 2 ^ 64 }
+        requires room { at + length messages.now ≤ length (P.list places.old) }
+        ensures { PutFrom at (map (made_by D.step D.output self.now) (targets messages.now))
+            (P.list places.old) (P.list places.new) }
     {
         let (all, longest) = count_blocks(messages);
         if all / 5 >= longest {
-            self.hash_lanes::<D::Eight>(messages, outputs);
+            self.put_lanes::<P, D::Eight>(messages, at, places);
         } else {
-            self.hash_fours(messages, outputs);
+            self.put_fours::<P>(messages, at, places);
         }
     }
 
-    // The same by fours. Not inlined, and a loop, for the same reasons as `hash_groups`.
+    // The same by fours. Not inlined, and a loop, for the same reasons as `put_groups`.
     #[inline(never)]
-    fn hash_fours(&self, messages: &[&[u8]], outputs: &mut [D::Output])
-        requires { length outputs.old ≡ length messages.now }
-        ensures { map D.bytes_of outputs.new
-            ≡ map (made_by D.step D.output self.now) (targets messages.now) }
+    fn put_fours<P: Places<D::Output>>(
+        &self,
+        messages: &[&[u8]],
+        at: usize,
+        places: &mut [P::Element],
+    )
+        requires fits { at + length messages.now < 2 ^ 64 }
+        requires room { at + length messages.now ≤ length (P.list places.old) }
+        ensures { PutFrom at (map (made_by D.step D.output self.now) (targets messages.now))
+            (P.list places.old) (P.list places.new) }
     {
         for g in 0..messages.len().div_ceil(4) {
             let end = group_end(messages.len(), 4 * g, 4);
-            self.hash_four(&messages[4 * g..end], &mut outputs[4 * g..end]);
+            self.put_four::<P>(&messages[4 * g..end], at + 4 * g, places);
         }
     }
 
     // The same of at most four messages: at once where that is faster, or else one by one.
-    fn hash_four(&self, messages: &[&[u8]], outputs: &mut [D::Output])
+    fn put_four<P: Places<D::Output>>(
+        &self,
+        messages: &[&[u8]],
+        at: usize,
+        places: &mut [P::Element],
+    )
         requires few { length messages.now ≤ 4 }
-        requires length { length outputs.old ≡ length messages.now }
-        ensures { map D.bytes_of outputs.new
-            ≡ map (made_by D.step D.output self.now) (targets messages.now) }
+        requires fits { at + length messages.now < 2 ^ 64 }
+        requires room { at + length messages.now ≤ length (P.list places.old) }
+        ensures { PutFrom at (map (made_by D.step D.output self.now) (targets messages.now))
+            (P.list places.old) (P.list places.new) }
     {
         let (all, longest) = count_blocks(messages);
         if all.div_ceil(2) > longest {
-            self.hash_lanes::<D::Four>(messages, outputs);
+            self.put_lanes::<P, D::Four>(messages, at, places);
         } else {
-            self.hash_one_by_one(messages, outputs);
+            self.put_one_by_one::<P>(messages, at, places);
         }
     }
 
     // The same of some messages, all at once.
-    fn hash_lanes<S: LaneStates<Function = D::Function>>(
+    fn put_lanes<P: Places<D::Output>, S: LaneStates<Function = D::Function>>(
         &self,
         messages: &[&[u8]],
-        outputs: &mut [D::Output],
+        at: usize,
+        places: &mut [P::Element],
     )
         requires few { length messages.now ≤ S.Vector.COUNT }
-        requires length { length outputs.old ≡ length messages.now }
-        ensures { map D.bytes_of outputs.new
-            ≡ map (made_by D.step D.output self.now) (targets messages.now) }
+        requires fits { at + length messages.now < 2 ^ 64 }
+        requires room { at + length messages.now ≤ length (P.list places.old) }
+        ensures { PutFrom at (map (made_by D.step D.output self.now) (targets messages.now))
+            (P.list places.old) (P.list places.new) }
     {
         let states: S = walk_group(self.first, self.before, self.outer, messages);
         // Eight turns, so that the compiler knows the lane of each.
         for j in 0..8 {
             if j < messages.len() {
                 let output = states.digest_of(j);
-                outputs[j] = output;
+                P::put(places, at + j, output);
             }
         }
     }
 
     // The same, one message after another.
     #[inline(always)]
-    fn hash_one_by_one(&self, messages: &[&[u8]], outputs: &mut [D::Output])
-        requires { length outputs.old ≡ length messages.now }
-        ensures { map D.bytes_of outputs.new
-            ≡ map (made_by D.step D.output self.now) (targets messages.now) }
+    fn put_one_by_one<P: Places<D::Output>>(
+        &self,
+        messages: &[&[u8]],
+        at: usize,
+        places: &mut [P::Element],
+    )
+        requires fits { at + length messages.now < 2 ^ 64 }
+        requires room { at + length messages.now ≤ length (P.list places.old) }
+        ensures { PutFrom at (map (made_by D.step D.output self.now) (targets messages.now))
+            (P.list places.old) (P.list places.new) }
     {
         for j in 0..messages.len() {
             let output = self.hash_one(message_at(messages, j));
-            outputs[j] = output;
+            P::put(places, at + j, output);
         }
     }
 

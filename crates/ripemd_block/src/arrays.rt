@@ -1,7 +1,7 @@
 //! Arrays of bytes, whatever their length, and words as bytes.
 
 ghost use Rattle.std.specs.Prelude.{◌≡◌, ℕ, ◌+◌, ◌*◌, ◌^◌, ◌<◌, ◌≤◌, ◌↔◌, List, ◌++◌, length, drop, replicate, IfSome, IsSome};
-ghost use Rattle.std.specs.List.{All, flat_map};
+ghost use Rattle.std.specs.List.{All};
 ghost use Rattle.ripemd_block.specs.Standard.Words.{word_bytes, eight_bytes};
 
 /// An array of bytes: `[u8; N]`, for any length `N`.
@@ -36,11 +36,6 @@ pub trait ByteArray: Copy {
     fn as_bytes(&self) -> &[u8]
         ensures bytes { result.now ≡ bytes self.now }
         ensures size { length result.now ≡ LEN };
-
-    /// The bytes of some arrays, one after another.
-    fn joined(arrays: &[Self]) -> &[u8]
-        ensures bytes { result.now ≡ flat_map bytes arrays.now }
-        ensures size { length result.now ≡ length arrays.now * LEN };
 }
 
 impl<const N: usize> ByteArray for [u8; N] {
@@ -71,10 +66,6 @@ impl<const N: usize> ByteArray for [u8; N] {
 
     fn as_bytes(&self) -> &[u8] {
         self
-    }
-
-    fn joined(arrays: &[[u8; N]]) -> &[u8] {
-        arrays.as_flattened()
     }
 }
 

@@ -1,5 +1,5 @@
 -- Worked calls over records and lists. The outputs are those that OpenSSL gives, and for tags those of RFC 2286.
-use Rattle.std.specs.Prelude.{◌≡◌, ℕ, ◌+◌, ◌-◌, ◌*◌, ◌^◌, codes, List, [], ◌∷◌, ◌++◌, Bool}
+use Rattle.std.specs.Prelude.{ℕ, ◌+◌, ◌-◌, ◌*◌, ◌^◌, codes, List, [], ◌∷◌, ◌++◌, Bool}
 use Rattle.ripemd.specs.Published.{hexadecimal}
 use Rattle.ripemd_calls.specs.Worked.{Gives, RefusesRoom, abc, key, tag, five}
 use Rattle.ripemd_c.specs.Records.{WritesDigests, WritesTags, WritesEachDigest, WritesEachTag}

@@ -1,9 +1,8 @@
 //! Digests of many messages, and their tags under one key (RFC 2104): of records of one size that lie
 //! one after another, and of a list of messages of any sizes.
 
-ghost use Rattle.std.specs.Prelude.{◌≡◌, ◌↔◌, ◌+◌, ◌*◌, ◌^◌, ◌<◌, ◌≤◌, length, take, IsTrue};
+ghost use Rattle.std.specs.Prelude.{◌≡◌, ◌↔◌, ◌+◌, ◌*◌, ◌^◌, ◌<◌, ◌≤◌, length, IsTrue};
 ghost use Rattle.std.specs.List.{flat_map};
-ghost use Rattle.std.specs.Mem.{type_size};
 ghost use Rattle.ripemd.specs.Standard.Hashing.{hash};
 ghost use Rattle.ripemd_mac.specs.Hmac.{hmac};
 ghost use Rattle.ripemd_batch.specs.Lanes.{made_by, targets};
@@ -17,11 +16,8 @@ use ripemd_batch::pbkdf2::digest_size;
 use ripemd_batch::{BatchDigest, ListHasher};
 use ripemd_calls::by_variant;
 
-// How many messages a group has at most: so many outputs lie in an array before they are written.
+// How many records are hashed at once, at most.
 const GROUP: usize = 32;
-
-// So few messages have an array of their own, which takes less time to make.
-const FEW: usize = 8;
 
 /// Writes the digests of records by the variant, one after another to `digests`. The records lie one
 /// after another, each of `size` bytes. True exactly if there is such a variant, `digests` is a whole
@@ -93,8 +89,7 @@ fn write_each<D: BatchDigest>(
     size: usize,
     outputs: &mut [u8],
 ) -> bool
-    requires width { 0 < D.OUTPUT_SIZE }
-    requires memory { 32 * type_size D.Output.row < 2 ^ 63 }
+    requires { 0 < D.OUTPUT_SIZE }
     ensures { FillsEach D.OUTPUT_SIZE (made_by D.step D.output hasher.now) bytes.now size
         outputs.old outputs.new result }
 {
@@ -104,17 +99,7 @@ fn write_each<D: BatchDigest>(
         return false;
     }
     let mut messages: [&[u8]; GROUP] = [&[]; GROUP];
-    let mut group = [D::Output::zeros(); GROUP];
-    write_records(
-        hasher,
-        bytes,
-        size,
-        0,
-        count,
-        &mut messages,
-        &mut group,
-        outputs,
-    );
+    write_records(hasher, bytes, size, 0, count, &mut messages, outputs);
     true
 }
 
@@ -124,20 +109,13 @@ fn write_list<D: BatchDigest>(
     messages: &[&[u8]],
     outputs: &mut [u8],
 ) -> bool
-    requires memory { 32 * type_size D.Output.row < 2 ^ 63 }
     ensures { FillsList D.OUTPUT_SIZE (made_by D.step D.output hasher.now) (targets messages.now)
         outputs.old outputs.new result }
 {
     if !is_product(outputs.len(), messages.len(), digest_size::<D>()) {
         return false;
     }
-    if messages.len() <= FEW {
-        let mut group = [D::Output::zeros(); FEW];
-        write_messages(hasher, messages, &mut group, outputs);
-    } else {
-        let mut group = [D::Output::zeros(); GROUP];
-        write_messages(hasher, messages, &mut group, outputs);
-    }
+    hasher.write_joined(messages, outputs);
     true
 }
 
@@ -157,7 +135,6 @@ fn write_records<'a, D: BatchDigest>(
     at: usize,
     count: usize,
     messages: &mut [&'a [u8]; GROUP],
-    group: &mut [D::Output; GROUP],
     outputs: &mut [u8],
 )
     requires fits { at + count < 2 ^ 64 }
@@ -169,36 +146,12 @@ fn write_records<'a, D: BatchDigest>(
         let half = half_of(count);
         let rest = count - half;
         let (front, back) = outputs.split_at_mut(half * <D::Output as ByteArray>::LEN);
-        write_records(hasher, bytes, size, at, half, messages, group, front);
-        write_records(hasher, bytes, size, at + half, rest, messages, group, back);
+        write_records(hasher, bytes, size, at, half, messages, front);
+        write_records(hasher, bytes, size, at + half, rest, messages, back);
         return;
     }
     put_records(bytes, size, at, &mut messages[..count]);
-    write_messages(hasher, &messages[..count], group, outputs);
-}
-
-// Writes what the hasher makes of messages. More than a group has are halved.
-fn write_messages<D: BatchDigest>(
-    hasher: &ListHasher<D>,
-    messages: &[&[u8]],
-    group: &mut [D::Output],
-    outputs: &mut [u8],
-)
-    requires group { 8 ≤ length group.old }
-    requires room { length outputs.old ≡ length messages.now * D.Output.LEN }
-    ensures { outputs.new ≡ flat_map (made_by D.step D.output hasher.now) (targets messages.now) }
-{
-    let count = messages.len();
-    if count > group.len() {
-        let half = half_of(count);
-        let (first, rest) = messages.split_at(half);
-        let (front, back) = outputs.split_at_mut(half * <D::Output as ByteArray>::LEN);
-        write_messages(hasher, first, group, front);
-        write_messages(hasher, rest, group, back);
-        return;
-    }
-    hasher.hash_each(messages, &mut group[..count]);
-    outputs.copy_from_slice(D::Output::joined(&group[..count]));
+    hasher.write_joined(&messages[..count], outputs);
 }
 
 // Half of them, and as many more as make whole eights, which are hashed at once.
