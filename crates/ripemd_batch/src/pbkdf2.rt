@@ -83,8 +83,7 @@ pub fn pbkdf2_hmac_each<D: BatchDigest>(
     };
     let mut group = [[0; 64]; 8];
     for i in 0..passwords.len() {
-        let next = of.write_key::<D>(i, group, &mut keys[size * i..size * i + size]);
-        group = next;
+        of.write_key::<D>(i, &mut group, &mut keys[size * i..size * i + size]);
     }
     Ok(())
 }
@@ -126,66 +125,51 @@ impl<'a> KeyBlocks<'a> {
         self.count * self.passwords.len()
     }
 
-    // Writes key `i`. Given and returned is the group of eight that the next block belongs to, unless it
-    // begins with that block.
-    fn write_key<D: BatchDigest>(
-        &self,
-        i: usize,
-        group: [[u8; 64]; 8],
-        key: &mut [u8],
-    ) -> [[u8; 64]; 8]
+    // Writes key `i`. The group of eight is that which the next block belongs to, unless it begins with that
+    // block.
+    fn write_key<D: BatchDigest>(&self, i: usize, group: &mut [[u8; 64]; 8], key: &mut [u8])
         requires digest { 0 < D.OUTPUT_SIZE }
         requires pair { i < length self.now.passwords }
         requires count { self.now.count ≡ div_ceil (length key.old) D.OUTPUT_SIZE }
         requires group { InGroup D.OUTPUT_SIZE (hmac (hash D.start D.step D.output)) self.now
-            (self.now.count * i) group }
+            (self.now.count * i) group.old }
         ensures key { key.new ≡ pbkdf2 (hmac (hash D.start D.step D.output)) D.OUTPUT_SIZE
             (list_at self.now.passwords i) (list_at self.now.salts i) self.now.rounds
             (length key.old) }
         ensures group { InGroup D.OUTPUT_SIZE (hmac (hash D.start D.step D.output)) self.now
-            (self.now.count * (i + 1)) result }
+            (self.now.count * (i + 1)) group.new }
     {
         let size = digest_size::<D>();
-        let mut group = group;
         for b in 0..self.count {
             let k = self.count * i + b;
-            let next = self.group_at::<D>(k, group);
-            group = next;
+            self.begin_group::<D>(k, group);
             let end = key.len().min(size * b + size);
-            write_front(&next[k % 8], &mut key[size * b..end]);
+            write_front(&group[k % 8], &mut key[size * b..end]);
         }
-        group
     }
 
-    // The group of eight that block `k` is in: derived where it begins with this block, and else the
-    // group that is given.
-    fn group_at<D: BatchDigest>(&self, k: usize, group: [[u8; 64]; 8]) -> [[u8; 64]; 8]
+    // Derives the group of eight that block `k` is in where it begins with this block. The last block of all, if it is
+    // alone, is derived without lanes.
+    fn begin_group<D: BatchDigest>(&self, k: usize, group: &mut [[u8; 64]; 8])
         requires { k < total self.now }
-        ensures { InGroup D.OUTPUT_SIZE (hmac (hash D.start D.step D.output)) self.now k group
+        ensures { InGroup D.OUTPUT_SIZE (hmac (hash D.start D.step D.output)) self.now k group.old
             → HasBlocks D.OUTPUT_SIZE (hmac (hash D.start D.step D.output)) self.now (k - k % 8)
-            result }
+            group.new }
     {
-        let live = self.total() - k;
         if 0 < k % 8 {
-            group
-        } else if live == 1 {
-            self.last_block::<D>(k)
-        } else if live <= 4 {
-            self.blocks_at_once::<D, D::Four>(k)
-        } else {
-            self.blocks_at_once::<D, D::Eight>(k)
+            return;
         }
-    }
-
-    // Block `k`, the last of all, filled with zeros; the other seven are any.
-    fn last_block<D: BatchDigest>(&self, k: usize) -> [[u8; 64]; 8]
-        requires { total self.now ≡ k + 1 }
-        ensures { HasBlocks D.OUTPUT_SIZE (hmac (hash D.start D.step D.output)) self.now k result }
-    {
-        let mut blocks = [[0; 64]; 8];
-        let block = one_by_one::<D>(self.chain_at::<D>(k), self.rounds);
-        blocks[0] = block;
-        blocks
+        let live = self.total() - k;
+        if live == 1 {
+            let block = one_by_one::<D>(self.chain_at::<D>(k), self.rounds);
+            group[0] = block;
+        } else if live <= 4 {
+            let blocks = self.blocks_at_once::<D, D::Four>(k);
+            *group = blocks;
+        } else {
+            let blocks = self.blocks_at_once::<D, D::Eight>(k);
+            *group = blocks;
+        }
     }
 
     // The blocks from block `k` on, at most eight, filled with zeros, all at once: one in each lane. Where

@@ -49,7 +49,7 @@ loop-i-preserved g c =
     let i : ℕ = c.loop-i.i in
     let at : ℕ = size * i in
     let keys = c.loop-i.keys in
-    let key = c.write_key-next.new.key in
+    let key = c.write_key.new.key in
     let f : ℕ → List ℕ = λ i. pbkdf2 tag g.D.OutputSizeUser.OUTPUT_SIZE (list_at passwords i) (list_at salts i) c.args.rounds size in
     let inside : at + size ≤ length keys = omega (
       arith,
@@ -57,12 +57,12 @@ loop-i-preserved g c =
       c.requires.room,
       mul-le-mul_left size c.loop-i-test.true,
     ) in
-    let whole : key ≡ f i = c.write_key-next.ensures.key ∙ ap (pbkdf2 tag g.D.OutputSizeUser.OUTPUT_SIZE (list_at passwords i) (list_at salts i) c.args.rounds)
+    let whole : key ≡ f i = c.write_key.ensures.key ∙ ap (pbkdf2 tag g.D.OutputSizeUser.OUTPUT_SIZE (list_at passwords i) (list_at salts i) c.args.rounds)
     (part_size keys at size inside) in
-    let many : length key ≡ size = c.write_key-next.auto.key ∙ part_size keys at size inside in
+    let many : length key ≡ size = c.write_key.auto.key ∙ part_size keys at size inside in
     record {
       len = put_size keys key at (at + size - at) (omega (arith, many)) (omega (arith, inside)) ∙ c.loop-i.invariant.len;
-      group = c.write_key-next.ensures.group;
+      group = c.write_key.ensures.group;
       so_far = front_put keys key _ at (size * (i + 1)) (omega (arith, inside)) (omega (arith, many))
           ∙ ap (λ x. x ++ key) c.loop-i.invariant.so_far ∙ ap (λ x. flat_map f (range_with_len 0 i) ++ x) whole
           ∙ sym (next_joined f 0 i i (omega arith));

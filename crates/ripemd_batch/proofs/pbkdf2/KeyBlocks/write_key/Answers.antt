@@ -32,14 +32,14 @@ loop-b-preserved g c =
     let at : ℕ = size * b in
     let end : ℕ = c.min-end.result in
     let key = c.loop-b.key in
-    let group = c.group_at-next.result in
+    let group = c.begin_group.new.group in
     let own : c.self.inside.count ≡ keys.count = ap (λ (keys : KeyList). keys.count) c.self.view_is in
     let is : size ≡ digest = c.digest_size-size.ensures.size in
     let within : b < keys.count = rw (← own) c.loop-b-test.true in
     let positive : 0 < size = rw is c.requires.digest in
     let inside : at < n = block_begins n size b positive (rw (is, ← c.requires.count) within) in
     let blocks : HasBlocks digest tag keys (k - k % 8) group =
-    c.group_at-next.ensures (subst (λ (count : ℕ). InGroup digest tag keys (count * i + b) c.loop-b.group) (sym own) c.loop-b.invariant.group) in
+    c.begin_group.ensures (subst (λ (count : ℕ). InGroup digest tag keys (count * i + b) c.loop-b.group) (sym own) c.loop-b.invariant.group) in
     let within_all : k < total keys = rw own (inside_all keys.count (length keys.passwords) i b c.requires.pair within) in
     let has : IsFilled digest (list_at group (k % 8)) (f (b + 1)) =
     subst (IsFilled digest (list_at group (k % 8)))
