@@ -1,16 +1,11 @@
 -- Elements put in their places, one after another.
-use Rattle.std.proofs.Common.{◌≡◌, ℕ, ◌+◌, ◌-◌, ◌<◌, ◌≤◌, zero-add, arith, refl, sym, ap, ◌∙◌}
+use Rattle.std.proofs.Common.{◌≡◌, ℕ, ◌+◌, ◌-◌, ◌<◌, ◌≤◌, arith, refl, sym, ap, ◌∙◌}
 use Rattle.std.proofs.Common.{List, [], ◌∷◌, ◌++◌, length, map, take, drop, slice_set}
-use Rattle.std.proofs.lemmas.List.{append_assoc, take_all, take_more, take_more_set, take-map, drop-map}
+use Rattle.std.proofs.lemmas.List.{append_assoc, take_more, take_more_set, take-map, drop-map}
 use Rattle.std.proofs.lemmas.List.{length-map, length-take-le, length-drop, get_or-map}
 use Rattle.std.proofs.Math.Seq.{take-add}
 use Rattle.std.specs.Borrow.{Bor}
 use Rattle.ripemd_batch.specs.Lanes.{PutFrom, list_at, targets}
-
--- functions that agree have the same images
-pub map_same : {A B : Type 0} (f g : A → B) → ((x : A) → f x ≡ g x) → (xs : List A) → map f xs ≡ map g xs
-map_same f g same [] = refl
-map_same f g same (x ∷ xs) = rw (same x, map_same f g same xs) refl
 
 -- the first j are in the places from `at` on, behind those before them
 abbrev pub Put : {A : Type 0} (list before made : List A) (at j : ℕ) → Type 0
@@ -60,9 +55,3 @@ put_part made messages old new before at j end order fits part so_far =
     ∙ ap (λ xs. xs ++ take k (drop j outputs)) so_far
     ∙ append_assoc before (take j outputs) (take k (drop j outputs))
     ∙ ap (λ xs. before ++ xs) (sym (take-add j k outputs) ∙ ap (λ n. take n outputs) whole)
-
--- where all are there, and no more places than they have, they are what the list has
-pub all_put : {A : Type 0} (list made : List A) (j : ℕ) → length list ≤ j → length made ≤ j
-    → Put list [] made 0 j → list ≡ made
-all_put list made j of_list of_made so_far =
-    rw (zero-add j, take_all j list of_list, take_all j made of_made) at so_far

@@ -128,7 +128,6 @@ impl<'a> KeyBlocks<'a> {
     // Writes key `i`. The group of eight is that which the next block belongs to, unless it begins with that
     // block.
     fn write_key<D: BatchDigest>(&self, i: usize, group: &mut [[u8; 64]; 8], key: &mut [u8])
-        requires digest { 0 < D.OUTPUT_SIZE }
         requires pair { i < length self.now.passwords }
         requires count { self.now.count ≡ div_ceil (length key.old) D.OUTPUT_SIZE }
         requires group { InGroup D.OUTPUT_SIZE (hmac (hash D.start D.step D.output)) self.now
@@ -292,6 +291,7 @@ fn one_by_one<D: BatchDigest>(chain: Chain<D>, rounds: u32) -> [u8; 64]
 pub fn digest_size<D: BatchDigest>() -> usize
     ensures size { result ≡ D.OUTPUT_SIZE }
     ensures array { result ≡ D.Output.LEN }
+    ensures some { 0 < result }
     ensures most { result ≤ 64 }
 {
     let zeros = D::Output::zeros();

@@ -16,7 +16,7 @@ use ripemd_batch::pbkdf2::digest_size;
 use ripemd_batch::{BatchDigest, ListHasher};
 use ripemd_calls::by_variant;
 
-// How many records are hashed at once, at most.
+// How many records a list of them has, at most.
 const GROUP: usize = 32;
 
 /// Writes the digests of records by the variant, one after another to `digests`. The records lie one
@@ -89,7 +89,6 @@ fn write_each<D: BatchDigest>(
     size: usize,
     outputs: &mut [u8],
 ) -> bool
-    requires { 0 < D.OUTPUT_SIZE }
     ensures { FillsEach D.OUTPUT_SIZE (made_by D.step D.output hasher.now) bytes.now size
         outputs.old outputs.new result }
 {

@@ -24,8 +24,8 @@ pub invariant_of-of : goal.invariant_of-of
 invariant_of-of g c =
     let size : ℕ = c.args.size in
     let digest : ℕ = c.digest_size-digest.result in
+    let some : 0 < digest = c.digest_size-digest.ensures.some in
     let most : size ≤ (2 ^ 32 - 1) * digest = search rules in
-    let some : 0 < digest = omega (arith, most, c.if-size-eq0.false) in
     let n : ℕ = length c.args.passwords.now in
     let room : size * n < 2 ^ 63 = search (rules, arith) in
     rw c.div_ceil.ensures (search (rules, arith), search rules, count_fits size digest some most, all_fit size digest n some room)

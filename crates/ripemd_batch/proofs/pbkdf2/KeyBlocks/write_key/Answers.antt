@@ -36,8 +36,7 @@ loop-b-preserved g c =
     let own : c.self.inside.count ≡ keys.count = ap (λ (keys : KeyList). keys.count) c.self.view_is in
     let is : size ≡ digest = c.digest_size-size.ensures.size in
     let within : b < keys.count = rw (← own) c.loop-b-test.true in
-    let positive : 0 < size = rw is c.requires.digest in
-    let inside : at < n = block_begins n size b positive (rw (is, ← c.requires.count) within) in
+    let inside : at < n = block_begins n size b c.digest_size-size.ensures.some (rw (is, ← c.requires.count) within) in
     let blocks : HasBlocks digest tag keys (k - k % 8) group =
     c.begin_group.ensures (subst (λ (count : ℕ). InGroup digest tag keys (count * i + b) c.loop-b.group) (sym own) c.loop-b.invariant.group) in
     let within_all : k < total keys = rw own (inside_all keys.count (length keys.passwords) i b c.requires.pair within) in
@@ -70,7 +69,7 @@ returns-clause-key g c =
     let end : c.loop-b.b ≡ div_ceil n size =
     search (rules, arith) ∙ ap (λ (keys : KeyList). keys.count) c.self.view_is ∙ c.requires.count ∙ ap (div_ceil n) (sym is) in
     rw (← is)
-    (all_written f size n c.loop-b.key (rw is c.requires.digest)
+    (all_written f size n c.loop-b.key c.digest_size-size.ensures.some
     (subst (λ (b : ℕ). Written f size n b c.loop-b.key) end c.loop-b.invariant.written))
 
 pub returns-clause-group : goal.returns-clause-group
