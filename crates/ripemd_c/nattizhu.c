@@ -6,9 +6,19 @@
 /* Messages that are handed on at once. */
 enum { GROUP = 128 };
 
+/* How many words a vector of the processor has. Where these are four, four messages at once take
+ * less time than eight, which is measured on x86-64 alone. */
+#if defined __x86_64__ && !defined __AVX2__
+enum { WORDS = 4 };
+#else
+enum { WORDS = 8 };
+#endif
+
 bool nattizhu_digest_nonnull(nattizhu_variant, const uint8_t *, size_t, uint8_t *, size_t);
-bool nattizhu_each_nonnull(nattizhu_variant, const uint8_t *, size_t, size_t, uint8_t *, size_t);
-bool nattizhu_list_nonnull(nattizhu_variant, const nattizhu_message *, size_t, uint8_t *, size_t);
+bool nattizhu_each_nonnull(nattizhu_variant, uint32_t, const uint8_t *, size_t, size_t, uint8_t *,
+                           size_t);
+bool nattizhu_list_nonnull(nattizhu_variant, uint32_t, const nattizhu_message *, size_t, uint8_t *,
+                           size_t);
 bool nattizhu_update_nonnull(nattizhu_state *, const uint8_t *, size_t);
 bool nattizhu_final_nonnull(const nattizhu_state *, uint8_t *, size_t);
 bool nattizhu_save_nonnull(const nattizhu_state *, uint8_t *, size_t);
@@ -17,10 +27,10 @@ bool nattizhu_hmac_nonnull(nattizhu_variant, const uint8_t *, size_t, const uint
                            uint8_t *, size_t);
 bool nattizhu_hmac_verify_text_nonnull(nattizhu_variant, const uint8_t *, size_t, const uint8_t *,
                                        size_t, const uint8_t *, size_t);
-bool nattizhu_hmac_each_nonnull(nattizhu_variant, const uint8_t *, size_t, const uint8_t *, size_t,
-                                size_t, uint8_t *, size_t);
-bool nattizhu_hmac_list_nonnull(nattizhu_variant, const uint8_t *, size_t, const nattizhu_message *,
-                                size_t, uint8_t *, size_t);
+bool nattizhu_hmac_each_nonnull(nattizhu_variant, uint32_t, const uint8_t *, size_t,
+                                const uint8_t *, size_t, size_t, uint8_t *, size_t);
+bool nattizhu_hmac_list_nonnull(nattizhu_variant, uint32_t, const uint8_t *, size_t,
+                                const nattizhu_message *, size_t, uint8_t *, size_t);
 bool nattizhu_hmac_init_nonnull(nattizhu_variant, nattizhu_hmac_state *, const uint8_t *, size_t);
 bool nattizhu_hmac_update_nonnull(nattizhu_hmac_state *, const uint8_t *, size_t);
 bool nattizhu_hmac_final_nonnull(const nattizhu_hmac_state *, uint8_t *, size_t);
@@ -73,7 +83,7 @@ bool nattizhu_digest(nattizhu_variant variant, const uint8_t *message, size_t le
 
 bool nattizhu_each(nattizhu_variant variant, const uint8_t *records, size_t length, size_t size,
                    uint8_t *digests, size_t digests_length) {
-  return nattizhu_each_nonnull(variant, some(records), length, size, place(digests),
+  return nattizhu_each_nonnull(variant, WORDS, some(records), length, size, place(digests),
                                digests_length);
 }
 
@@ -83,14 +93,14 @@ bool nattizhu_list(nattizhu_variant variant, const nattizhu_message *messages, s
   size_t size;
   if (count <= GROUP) { /* as for more, and faster for a few */
     next_group(group, messages, 0, count);
-    return nattizhu_list_nonnull(variant, group, count, place(digests), digests_length);
+    return nattizhu_list_nonnull(variant, WORDS, group, count, place(digests), digests_length);
   }
   size = nattizhu_digest_size(variant);
   if (size == 0 || !is_product(digests_length, count, size))
     return false;
   for (size_t at = 0, n; at < count; at += n) {
     n = next_group(group, messages, at, count);
-    if (!nattizhu_list_nonnull(variant, group, n, digests + at * size, n * size))
+    if (!nattizhu_list_nonnull(variant, WORDS, group, n, digests + at * size, n * size))
       return false;
   }
   return true;
@@ -129,8 +139,8 @@ bool nattizhu_hmac_verify_text(nattizhu_variant variant, const uint8_t *key, siz
 bool nattizhu_hmac_each(nattizhu_variant variant, const uint8_t *key, size_t key_length,
                         const uint8_t *records, size_t length, size_t size, uint8_t *tags,
                         size_t tags_length) {
-  return nattizhu_hmac_each_nonnull(variant, some(key), key_length, some(records), length, size,
-                                    place(tags), tags_length);
+  return nattizhu_hmac_each_nonnull(variant, WORDS, some(key), key_length, some(records), length,
+                                    size, place(tags), tags_length);
 }
 
 /* A long key is replaced by its digest first (RFC 2104), so that no group hashes it again. */
@@ -150,8 +160,8 @@ bool nattizhu_hmac_list(nattizhu_variant variant, const uint8_t *key, size_t key
   }
   for (size_t at = 0, n; at < count; at += n) {
     n = next_group(group, texts, at, count);
-    if (!nattizhu_hmac_list_nonnull(variant, some(key), key_length, group, n, tags + at * size,
-                                    n * size))
+    if (!nattizhu_hmac_list_nonnull(variant, WORDS, some(key), key_length, group, n,
+                                    tags + at * size, n * size))
       return false;
   }
   return true;

@@ -53,6 +53,8 @@ pub struct ListHasher<D: BatchDigest> {
     before: u64,
     // Of tags, the state after the outer masked key.
     outer: Option<StateOf<D>>,
+    // Whether at most four messages go at once, and not eight.
+    by_fours: bool,
 }
 
 impl<D: BatchDigest> Model for ListHasher<D> {
@@ -80,6 +82,7 @@ impl<D: BatchDigest> ListHasher<D> {
             first: D::Function::start(),
             before: 0,
             outer: None,
+            by_fours: false,
         }
     }
 
@@ -92,6 +95,20 @@ impl<D: BatchDigest> ListHasher<D> {
             first: state_after::<D>(keys.inner),
             before: 64,
             outer: Some(state_after::<D>(keys.outer)),
+            by_fours: false,
+        }
+    }
+
+    /// The same for a processor whose vectors have so many words. With fewer than eight, at most four
+    /// messages go at once: eight would take longer than two times four.
+    pub fn in_vectors_of(self, words: u32) -> ListHasher<D>
+        ensures { result ≡ self }
+    {
+        ListHasher {
+            first: self.first,
+            before: self.before,
+            outer: self.outer,
+            by_fours: words < 8,
         }
     }
 
@@ -126,6 +143,8 @@ impl<D: BatchDigest> ListHasher<D> {
         // So few leave most lanes without work.
         if messages.len() < 3 {
             self.put_one_by_one::<P>(messages, 0, places);
+        } else if self.by_fours {
+            self.put_fours::<P>(messages, 0, places);
         } else {
             self.put_groups::<P>(messages, 0, places);
         }

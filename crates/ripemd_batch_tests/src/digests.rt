@@ -1,7 +1,7 @@
 //! Digests of many messages.
 
 use ripemd::{Digest, Ripemd128, Ripemd160, Ripemd256, Ripemd320};
-use ripemd_batch::{BatchDigest, digest_each};
+use ripemd_batch::{BatchDigest, ListHasher, digest_each};
 use ripemd_vectors::digits::{
     ABC_128, ABC_160, ABC_256, ABC_320, EMPTY_128, EMPTY_160, EMPTY_256, EMPTY_320, is_written,
 };
@@ -21,14 +21,17 @@ pub(crate) fn bytes() -> [u8; 500] {
     bytes
 }
 
-// Whether the digests of messages are those of one after another. `places` has room for them.
-fn agrees<D: BatchDigest>(messages: &[&[u8]], places: &mut [D::Output]) -> bool {
+// Whether the digests of messages, hashed in vectors of so many words, are those of one after another. `places` has
+// room for them.
+fn agrees<D: BatchDigest>(words: u32, messages: &[&[u8]], places: &mut [D::Output]) -> bool {
     let count = messages.len();
     if count > places.len() {
         return false;
     }
     let digests = &mut places[..count];
-    digest_each::<D>(messages, digests);
+    ListHasher::<D>::new()
+        .in_vectors_of(words)
+        .hash_each(messages, digests);
     for i in 0..count {
         let wanted = D::digest(messages[i]);
         if D::output_bytes(&digests[i]) != D::output_bytes(&wanted) {
@@ -40,10 +43,15 @@ fn agrees<D: BatchDigest>(messages: &[&[u8]], places: &mut [D::Output]) -> bool 
 
 // Whether this is so by each hasher, for up to 40 messages.
 fn all_agree(messages: &[&[u8]]) -> bool {
-    agrees::<Ripemd128>(messages, &mut [[0; 16]; 40])
-        && agrees::<Ripemd160>(messages, &mut [[0; 20]; 40])
-        && agrees::<Ripemd256>(messages, &mut [[0; 32]; 40])
-        && agrees::<Ripemd320>(messages, &mut [[0; 40]; 40])
+    all_agree_in(4, messages) && all_agree_in(8, messages)
+}
+
+// The same in vectors of so many words.
+fn all_agree_in(words: u32, messages: &[&[u8]]) -> bool {
+    agrees::<Ripemd128>(words, messages, &mut [[0; 16]; 40])
+        && agrees::<Ripemd160>(words, messages, &mut [[0; 20]; 40])
+        && agrees::<Ripemd256>(words, messages, &mut [[0; 32]; 40])
+        && agrees::<Ripemd320>(words, messages, &mut [[0; 40]; 40])
 }
 
 // Whether this is so for 0 to 40 messages of mixed lengths, each of which follows another by `step`

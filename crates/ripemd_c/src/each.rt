@@ -1,5 +1,6 @@
 //! Digests of many messages, and their tags under one key (RFC 2104): of records of one size that lie
-//! one after another, and of a list of messages of any sizes.
+//! one after another, and of a list of messages of any sizes. The caller says how many words a vector of the
+//! processor has, by which only the time differs.
 
 ghost use Rattle.std.specs.Prelude.{◌≡◌, ◌↔◌, ◌+◌, ◌*◌, ◌^◌, ◌<◌, ◌≤◌, length, IsTrue};
 ghost use Rattle.std.specs.List.{flat_map};
@@ -25,6 +26,7 @@ const GROUP: usize = 32;
 #[unsafe(no_mangle)]
 pub extern "C" fn nattizhu_each_nonnull(
     variant: u32,
+    words: u32,
     bytes: &[u8],
     size: usize,
     digests: &mut [u8],
@@ -33,7 +35,12 @@ pub extern "C" fn nattizhu_each_nonnull(
 {
     by_variant!(
         variant,
-        write_each(&ListHasher::new(), bytes, size, digests)
+        write_each(
+            &ListHasher::new().in_vectors_of(words),
+            bytes,
+            size,
+            digests
+        )
     )
 }
 
@@ -42,6 +49,7 @@ pub extern "C" fn nattizhu_each_nonnull(
 #[unsafe(no_mangle)]
 pub extern "C" fn nattizhu_hmac_each_nonnull(
     variant: u32,
+    words: u32,
     key: &[u8],
     bytes: &[u8],
     size: usize,
@@ -51,7 +59,12 @@ pub extern "C" fn nattizhu_hmac_each_nonnull(
 {
     by_variant!(
         variant,
-        write_each(&ListHasher::keyed(key), bytes, size, tags)
+        write_each(
+            &ListHasher::keyed(key).in_vectors_of(words),
+            bytes,
+            size,
+            tags
+        )
     )
 }
 
@@ -60,12 +73,16 @@ pub extern "C" fn nattizhu_hmac_each_nonnull(
 #[unsafe(no_mangle)]
 pub extern "C" fn nattizhu_list_nonnull(
     variant: u32,
+    words: u32,
     messages: &[&[u8]],
     digests: &mut [u8],
 ) -> bool
     ensures { WritesDigests variant (targets messages.now) digests.old digests.new result }
 {
-    by_variant!(variant, write_list(&ListHasher::new(), messages, digests))
+    by_variant!(
+        variant,
+        write_list(&ListHasher::new().in_vectors_of(words), messages, digests)
+    )
 }
 
 /// Writes the tags of texts under the key, as `nattizhu_list_nonnull` writes their digests. The key has
@@ -73,13 +90,17 @@ pub extern "C" fn nattizhu_list_nonnull(
 #[unsafe(no_mangle)]
 pub extern "C" fn nattizhu_hmac_list_nonnull(
     variant: u32,
+    words: u32,
     key: &[u8],
     texts: &[&[u8]],
     tags: &mut [u8],
 ) -> bool
     ensures { WritesTags variant key.now (targets texts.now) tags.old tags.new result }
 {
-    by_variant!(variant, write_list(&ListHasher::keyed(key), texts, tags))
+    by_variant!(
+        variant,
+        write_list(&ListHasher::keyed(key).in_vectors_of(words), texts, tags)
+    )
 }
 
 // Writes what the hasher makes of each record, if the lengths fit.
