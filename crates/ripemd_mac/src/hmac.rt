@@ -300,9 +300,8 @@ fn key_block<D: BlockDigest>(key: &[u8]) -> [u8; 64]
     }
 }
 
-/// Bytes, at most 64, and zeros after them to a block. Not inlined: where the compiler knows how many bytes
-/// there are, it puts the block together in registers, and a round of PBKDF2 takes 13 ns more.
-#[inline(never)]
+/// Bytes, at most 64, and zeros after them to a block.
+#[inline(always)]
 pub fn filled(bytes: &[u8]) -> [u8; 64]
     requires { length bytes.now ≤ 64 }
     ensures { result ≡ filled bytes.now }
