@@ -6,8 +6,8 @@
 /* Messages that are handed on at once. */
 enum { GROUP = 128 };
 
-/* How many words a vector of the processor has. Where these are four, four messages at once take
- * less time than eight, which is measured on x86-64 alone. */
+/* How many words a vector of the processor has. With four, lists go by fours, which takes less time
+ * (docs/DECISIONS.md); only x86-64 is measured. */
 #if defined __x86_64__ && !defined __AVX2__
 enum { WORDS = 4 };
 #else

@@ -21,17 +21,20 @@ pub(crate) fn bytes() -> [u8; 500] {
     bytes
 }
 
-// Whether the digests of messages, hashed in vectors of so many words, are those of one after another. `places` has
-// room for them.
-fn agrees<D: BatchDigest>(words: u32, messages: &[&[u8]], places: &mut [D::Output]) -> bool {
+// Whether the digests of messages are those of one after another, by fours or as they come. `places` has room for them.
+fn agrees<D: BatchDigest>(by_fours: bool, messages: &[&[u8]], places: &mut [D::Output]) -> bool {
     let count = messages.len();
     if count > places.len() {
         return false;
     }
     let digests = &mut places[..count];
-    ListHasher::<D>::new()
-        .in_vectors_of(words)
-        .hash_each(messages, digests);
+    if by_fours {
+        ListHasher::<D>::new()
+            .in_vectors_of(4)
+            .hash_each(messages, digests);
+    } else {
+        digest_each::<D>(messages, digests);
+    }
     for i in 0..count {
         let wanted = D::digest(messages[i]);
         if D::output_bytes(&digests[i]) != D::output_bytes(&wanted) {
@@ -43,15 +46,15 @@ fn agrees<D: BatchDigest>(words: u32, messages: &[&[u8]], places: &mut [D::Outpu
 
 // Whether this is so by each hasher, for up to 40 messages.
 fn all_agree(messages: &[&[u8]]) -> bool {
-    all_agree_in(4, messages) && all_agree_in(8, messages)
+    all_agree_by(true, messages) && all_agree_by(false, messages)
 }
 
-// The same in vectors of so many words.
-fn all_agree_in(words: u32, messages: &[&[u8]]) -> bool {
-    agrees::<Ripemd128>(words, messages, &mut [[0; 16]; 40])
-        && agrees::<Ripemd160>(words, messages, &mut [[0; 20]; 40])
-        && agrees::<Ripemd256>(words, messages, &mut [[0; 32]; 40])
-        && agrees::<Ripemd320>(words, messages, &mut [[0; 40]; 40])
+// The same in one of the two ways.
+fn all_agree_by(by_fours: bool, messages: &[&[u8]]) -> bool {
+    agrees::<Ripemd128>(by_fours, messages, &mut [[0; 16]; 40])
+        && agrees::<Ripemd160>(by_fours, messages, &mut [[0; 20]; 40])
+        && agrees::<Ripemd256>(by_fours, messages, &mut [[0; 32]; 40])
+        && agrees::<Ripemd320>(by_fours, messages, &mut [[0; 40]; 40])
 }
 
 // Whether this is so for 0 to 40 messages of mixed lengths, each of which follows another by `step`

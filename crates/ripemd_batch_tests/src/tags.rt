@@ -2,7 +2,7 @@
 
 use crate::digests::bytes;
 use ripemd::{Ripemd128, Ripemd160, Ripemd256, Ripemd320};
-use ripemd_batch::{BatchDigest, tag_each};
+use ripemd_batch::{BatchDigest, ListHasher, tag_each};
 use ripemd_mac::Hmac;
 use ripemd_vectors::digits::is_written;
 
@@ -11,14 +11,25 @@ const LENGTHS: [usize; 17] = [
     0, 1, 31, 32, 55, 56, 57, 63, 64, 65, 119, 120, 127, 128, 183, 184, 200,
 ];
 
-// Whether the tags of texts are those of one after another. `places` has room for them.
-fn agrees<D: BatchDigest>(key: &[u8], texts: &[&[u8]], places: &mut [D::Output]) -> bool {
+// Whether the tags of texts are those of one after another, by fours or as they come. `places` has room for them.
+fn agrees<D: BatchDigest>(
+    by_fours: bool,
+    key: &[u8],
+    texts: &[&[u8]],
+    places: &mut [D::Output],
+) -> bool {
     let count = texts.len();
     if count > places.len() {
         return false;
     }
     let tags = &mut places[..count];
-    tag_each::<D>(key, texts, tags);
+    if by_fours {
+        ListHasher::<D>::keyed(key)
+            .in_vectors_of(4)
+            .hash_each(texts, tags);
+    } else {
+        tag_each::<D>(key, texts, tags);
+    }
     let keyed = Hmac::<D>::new(key);
     for i in 0..count {
         let mut mac = keyed.duplicate();
@@ -32,10 +43,15 @@ fn agrees<D: BatchDigest>(key: &[u8], texts: &[&[u8]], places: &mut [D::Output])
 
 // Whether this is so by each hasher, for up to 40 texts.
 fn all_agree(key: &[u8], texts: &[&[u8]]) -> bool {
-    agrees::<Ripemd128>(key, texts, &mut [[0; 16]; 40])
-        && agrees::<Ripemd160>(key, texts, &mut [[0; 20]; 40])
-        && agrees::<Ripemd256>(key, texts, &mut [[0; 32]; 40])
-        && agrees::<Ripemd320>(key, texts, &mut [[0; 40]; 40])
+    all_agree_by(true, key, texts) && all_agree_by(false, key, texts)
+}
+
+// The same in one of the two ways.
+fn all_agree_by(by_fours: bool, key: &[u8], texts: &[&[u8]]) -> bool {
+    agrees::<Ripemd128>(by_fours, key, texts, &mut [[0; 16]; 40])
+        && agrees::<Ripemd160>(by_fours, key, texts, &mut [[0; 20]; 40])
+        && agrees::<Ripemd256>(by_fours, key, texts, &mut [[0; 32]; 40])
+        && agrees::<Ripemd320>(by_fours, key, texts, &mut [[0; 40]; 40])
 }
 
 // Whether this is so for 0 to 40 texts of mixed lengths, each of which follows another by `step`
