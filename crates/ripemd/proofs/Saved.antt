@@ -1,18 +1,17 @@
 -- Saved bytes of a core and a tail, put together and taken apart.
 use Rattle.std.proofs.Common.{◌≡◌, ℕ, ◌+◌, ◌-◌, ◌<◌, refl, sym, ap, ◌∙◌, arith, rules}
 use Rattle.std.proofs.Common.{List, [], ◌∷◌, ◌++◌, length, take, drop, get_or, replicate}
-use Rattle.std.proofs.Common.{All, length-append, slice_set, suc, Result, Ok, Err, IfErr, ◌≤◌, ◌⊎◌, inl, inr}
-use Rattle.std.specs.Result.{IsOk}
+use Rattle.std.proofs.Common.{All, length-append, slice_set, suc, ◌≤◌, ◌⊎◌, inl, inr}
 use Rattle.std.proofs.lemmas.List.Elements.{All-append}
 use Rattle.std.proofs.lemmas.Bool.{cases_lt}
-use Rattle.std.proofs.lemmas.List.{append_assoc, length-replicate, length-drop}
+use Rattle.std.proofs.lemmas.List.{append_assoc, append-nil, length-replicate, length-drop}
 use Rattle.std.proofs.lemmas.List.{length-take-le, take-append-drop, take_all, take_at, drop_at}
 use Rattle.std.proofs.Math.Seq.{take-append_seam, drop-append_seam}
 use Rattle.ripemd_block.specs.States.{HashState, IsTail, IsHashState, IsWithoutTail, with_tail}
 use Rattle.ripemd_block.specs.States.{output_and_count, tail_bytes, core_and_tail, fed}
 use Rattle.ripemd_block.specs.Laws.Pieces.{fed_short}
 use Rattle.ripemd.specs.Saved.{IsAppended, cleared, cleared_tail}
-use Rattle.ripemd.specs.SavedLaws.{cleared_behind}
+use Rattle.ripemd.specs.SavedLaws.{cleared-both, cleared_behind}
 use Rattle.ripemd_block.specs.OverLists.{IsInjectiveOutput}
 use Rattle.ripemd_block.specs.Laws.Saved.{length-output_and_count, length-core_and_tail, core_and_tail-split}
 
@@ -85,11 +84,6 @@ length-cleared n kept =
     ∙ ap (λ (k : ℕ). length (take n kept) + k) (length-cleared_tail (drop n kept))
     ∙ sym (length-append (take n kept) (drop n kept)) ∙ ap length (take-append-drop n kept)
 
--- a result whose error can't be is a value
-pub ok_without_error : {X E : Type 0} {P : E → Type 0} (r : Result X E) → IfErr r P → ((e : E) → ¬ P e) → IsOk r
-ok_without_error (Ok x) h never = search rules
-ok_without_error (Err e) h never = absurd (never e h)
-
 -- ---- the saved bytes of a hasher, taken apart into those of a core and of a tail, where the core's end
 
 module _ {are_words : List ℕ → Type 0} {output : List ℕ → List ℕ} {size : ℕ} (told : IsInjectiveOutput are_words output size)
@@ -159,6 +153,10 @@ module _ {are_words : List ℕ → Type 0} {output : List ℕ → List ℕ} {siz
   pub kept_core : (front : List ℕ) → front ≡ take n kept → output_and_count output (with_tail h []) ≡ front
   kept_core front is = core_front told h valid n core_size (cleared n kept) same front (kept_front front is)
 
+  pub kept_own : (front : List ℕ) → front ≡ take n kept → output_and_count output h ≡ front
+  unfolding output_and_count
+  kept_own = kept_core
+
   pub kept_tail : (back : List ℕ) → back ≡ drop n kept → tail_bytes h.tail ≡ cleared_tail back
   kept_tail back is =
       tail_back told h valid n core_size (cleared n kept) same (cleared_tail back)
@@ -169,3 +167,13 @@ pub both_saved : (output : List ℕ → List ℕ) (h : HashState) (n : ℕ) (byt
     → tail ≡ drop n bytes → output_and_count output h ≡ core → tail_bytes h.tail ≡ tail → core_and_tail output h ≡ bytes
 both_saved output h n bytes core tail front back of_core of_tail =
     core_and_tail-split output h ∙ rw (of_core, of_tail, front, back) (take-append-drop n bytes)
+
+-- a core and a tail are kept as the bytes of the core, and behind them the tail's length and the tail, in place of as many
+pub both_kept : (output : List ℕ → List ℕ) (h : HashState) (tail : List ℕ) (n : ℕ) (core place behind none : List ℕ)
+    → length core ≡ n → output_and_count output h ≡ core → place ≡ length tail ∷ tail ++ behind
+    → length behind ≡ 63 - length tail → none ≡ [] → cleared n (core ++ (place ++ none)) ≡ core_and_tail output (with_tail h tail)
+unfolding output_and_count
+both_kept output h tail n core place behind none core_size of_core of_tail left empty =
+    let is : cleared_tail place ≡ tail_bytes tail = rw of_tail (cleared_behind tail behind left) in
+    let both = core_and_tail-split output (with_tail h tail) in
+    rw (empty, append-nil place) (cleared-both core place n core_size ∙ rw is (ap (λ (bs : List ℕ). bs ++ tail_bytes tail) (sym of_core) ∙ sym both))

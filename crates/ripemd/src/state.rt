@@ -9,9 +9,11 @@ ghost use Rattle.ripemd.specs.Saved.{HasTail, IsAppended, cleared};
 use crate::hashers::BlockHasher;
 pub use ripemd_block::block_api::DeserializeStateError;
 use ripemd_block::block_api::{
-    BlockCore, ByteArray, ResumableFunction, SerializableState, write_short,
+    BlockCore, ByteArray, ResumableFunction, SerializableState, update_saved, write_short,
 };
-use ripemd_block::buffer::{Buffer, take_blocks};
+use ripemd_block::buffer::{Buffer, fill_block};
+use ripemd_block::padding::whole_blocks;
+use std::slice::from_ref;
 
 impl<F: ResumableFunction> SerializableState for BlockHasher<F> {
     type Saved = F::SavedHasher;
@@ -147,13 +149,20 @@ fn absorb_kept<F: ResumableFunction>(kept: &mut [u8], len: usize, bytes: &[u8])
     ensures { IsAppended (IsHashState F.are_words) (core_and_tail F.output) (fed F.step)
         (cleared F.SavedCore.LEN kept.old) bytes.now (cleared F.SavedCore.LEN kept.new) }
 {
-    let (front, behind) = kept.split_at(<F::SavedCore as ByteArray>::LEN);
+    let (core, behind) = kept.split_at_mut(<F::SavedCore as ByteArray>::LEN);
     // All of them, but so the compiler knows how many.
-    let (back, _) = behind.split_at(64);
-    let (_, tail) = back.split_at(1);
-    let mut core = BlockCore::<F>::load_slice(front).unwrap();
-    let rest = take_blocks(&mut core, tail, len, bytes);
-    keep(&core, rest, kept);
+    let (back, _) = behind.split_at_mut(64);
+    let mut rest = bytes;
+    if len > 0 {
+        let (_, held) = back.split_at(1);
+        let mut block = [0; 64];
+        rest = fill_block(&mut block, held, len, bytes);
+        update_saved::<F>(core, from_ref(&block));
+    }
+    let (whole, left) = whole_blocks(rest);
+    update_saved::<F>(core, whole);
+    bytes_in_range(left);
+    put_tail(left, back);
 }
 
 /// Puts zeros behind the tail of a kept hasher, whose core is saved as so many bytes.

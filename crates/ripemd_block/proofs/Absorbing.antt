@@ -1,10 +1,10 @@
 -- Bytes that come in behind a tail: the first of them fill a block, or all stay behind the tail.
 use Rattle.std.proofs.Common.{◌≡◌, ℕ, ◌+◌, ◌-◌, ◌<◌, ◌≤◌, sym, ap, ◌∙◌, arith}
-use Rattle.std.proofs.Common.{List, [], ◌++◌, length, take, drop, length-append}
+use Rattle.std.proofs.Common.{List, [], ◌∷◌, ◌++◌, length, take, drop, length-append}
 use Rattle.std.proofs.lemmas.List.{append_assoc, append-nil, length-drop, length-take-le}
 use Rattle.std.proofs.lemmas.List.{take-append-drop, take_at, take_all, drop_all}
 use Rattle.ripemd_block.specs.Standard.Hashing.{blocks, partial_block}
-use Rattle.ripemd_block.specs.Laws.Blocks.{blocks_joined, left_over_joined, blocks_of_short, left_over_of_short}
+use Rattle.ripemd_block.specs.Laws.Blocks.{blocks_joined, blocks_of_one, left_over_joined, blocks_of_short, left_over_of_short}
 
 -- ---- bytes put behind the first of a block
 
@@ -52,12 +52,14 @@ module _ (tail bytes : List ℕ) (room : ℕ) where
 
   -- the filled block comes before those of the other bytes
   pub blocks_filled : length tail + room ≡ 64 → room ≤ length bytes
-      → blocks (tail ++ bytes) ≡ blocks (tail ++ take room bytes) ++ blocks (drop room bytes)
+      → (tail ++ take room bytes) ∷ blocks (drop room bytes) ≡ blocks (tail ++ bytes)
   blocks_filled full enough =
-      rw split (blocks_joined 1 (tail ++ take room bytes) (drop room bytes) (size full enough))
+      let first = tail ++ take room bytes in
+      sym (ap blocks split ∙ blocks_joined 1 first (drop room bytes) (size full enough)
+      ∙ ap (λ (bs : List (List ℕ)). bs ++ blocks (drop room bytes)) (blocks_of_one first (size full enough)))
 
   -- what is left over is what the other bytes leave over
   pub left_over_filled : length tail + room ≡ 64 → room ≤ length bytes
-      → partial_block (tail ++ bytes) ≡ partial_block (drop room bytes)
+      → partial_block (drop room bytes) ≡ partial_block (tail ++ bytes)
   left_over_filled full enough =
-      rw split (left_over_joined 1 (tail ++ take room bytes) (drop room bytes) (size full enough))
+      sym (rw split (left_over_joined 1 (tail ++ take room bytes) (drop room bytes) (size full enough)))

@@ -2,7 +2,9 @@
 //! [`Buffer`](crate::buffer::Buffer), their traits, and block functions.
 
 pub use crate::arrays::{ByteArray, write_short};
-pub use crate::block_core::{BlockCore, digest_message, walk, walk_message, walk_words};
+pub use crate::block_core::{
+    BlockCore, digest_message, update_saved, walk, walk_message, walk_words,
+};
 pub use crate::traits::{
     AlgorithmName, BlockFunction, BlockSizeUser, BufferKindUser, DeserializeStateError, Eager,
     FixedOutputCore, HashMarker, HashMeaning, ListBlockFunction, OutputSizeUser, Reset,

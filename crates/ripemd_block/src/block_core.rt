@@ -3,7 +3,7 @@
 ghost use Rattle.std.specs.Prelude.{◌≡◌, ◌+◌, ◌*◌, ◌%◌, ◌^◌, ◌<◌, List, [], length, ⊤};
 ghost use Rattle.ripemd_block.specs.Standard.Words.{block_size};
 ghost use Rattle.ripemd_block.specs.Standard.Hashing.{with_padding, blocks, walk, hash};
-ghost use Rattle.ripemd_block.specs.States.{HashState, IsWithoutTail, output_and_count};
+ghost use Rattle.ripemd_block.specs.States.{HashState, IsHashState, IsWithoutTail, output_and_count};
 ghost use Rattle.ripemd_block.specs.States.{initial_state, after_blocks, with_tail, finish};
 
 use crate::arrays::{ByteArray, read_count};
@@ -280,6 +280,26 @@ impl<F: ResumableFunction> SerializableState for BlockCore<F> {
     ghost state_injective = { output_and_count_injective F.injective_output };
 
     ghost same_saved = { F.SavedCore.same_array };
+}
+
+/// Takes blocks in order into the core that is saved as these bytes, in place. Of bytes that no core is saved as it
+/// says nothing.
+#[inline(always)]
+pub fn update_saved<F: ResumableFunction>(saved: &mut [u8], blocks: &[[u8; 64]])
+    requires size { length saved.old ≡ F.SavedCore.LEN }
+    ensures saved { (core : HashState) → IsHashState F.are_words core
+        → output_and_count F.output core ≡ saved.old
+        → output_and_count F.output (after_blocks F.step core blocks.now) ≡ saved.new }
+    ensures valid { (core : HashState) → IsHashState F.are_words core
+        → output_and_count F.output core ≡ saved.old
+        → IsHashState F.are_words (after_blocks F.step core blocks.now) }
+{
+    let (output, behind) = saved.split_at_mut(<F::Digest as ByteArray>::LEN);
+    if !blocks.is_empty() {
+        F::walk_output(output, blocks);
+    }
+    let count = read_count(behind).wrapping_add(blocks.len() as u64);
+    behind.copy_from_slice(&count.to_le_bytes());
 }
 
 /// The block function of the core.

@@ -12,6 +12,7 @@ pub use crate::padding::Padded;
 use crate::padding::{last_blocks, whole_blocks};
 use crate::traits::UpdateCore;
 use std::marker::Model;
+use std::slice::from_ref;
 
 /// The tail of a message: fewer than 64 bytes. Contracts see the list of them.
 #[derive(Drop)]
@@ -139,11 +140,10 @@ impl Buffer {
     }
 }
 
-/// Takes a tail and the bytes behind it, which fill a block or more, into the core: all whole blocks of both,
-/// in order. Gives what is left, 0 to 63 of the bytes. The tail is the first `len` bytes of `front`, all of
-/// which are copied as by `try_front`.
+// Takes a tail and the bytes behind it, which fill a block or more, into the core: all whole blocks of both,
+// in order. Gives what is left, 0 to 63 of the bytes. The tail is the first `len` bytes of `front`.
 #[inline(always)]
-pub fn take_blocks<'a, C: UpdateCore>(
+fn take_blocks<'a, C: UpdateCore>(
     core: &mut C,
     front: &[u8],
     len: usize,
@@ -160,17 +160,30 @@ pub fn take_blocks<'a, C: UpdateCore>(
 {
     let mut behind = bytes;
     if len > 0 {
-        let (first, back) = bytes.split_at(64 - len);
         let mut block = [0; 64];
-        put_front(&mut block, front);
-        put_behind(&mut block, len, first);
-        core.update_blocks(whole_blocks(&block).0);
-        behind = back;
+        behind = fill_block(&mut block, front, len, bytes);
+        core.update_blocks(from_ref(&block));
     }
     let (whole, rest) = whole_blocks(behind);
     core.update_blocks(whole);
     bytes_in_range(rest);
     rest
+}
+
+/// Fills a block with a tail and the first of the bytes behind it. Gives the bytes behind the block. The tail is
+/// the first `len` bytes of `front`, all of which are copied as by `try_front`.
+#[inline(always)]
+pub fn fill_block<'a>(block: &mut [u8; 64], front: &[u8], len: usize, bytes: &'a [u8]) -> &'a [u8]
+    requires short { len < block_size }
+    requires front { (len ≤ length front.now) × (length front.now ≤ block_size) }
+    requires filled { block_size ≤ len + length bytes.now }
+    ensures filled { block.new ∷ blocks result.now ≡ blocks (take len front.now ++ bytes.now) }
+    ensures rest { partial_block result.now ≡ partial_block (take len front.now ++ bytes.now) }
+{
+    let (first, behind) = bytes.split_at(64 - len);
+    put_front(block, front);
+    put_behind(block, len, first);
+    behind
 }
 
 // Puts bytes at the front of a block, which stays where it is.

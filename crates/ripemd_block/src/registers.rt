@@ -14,8 +14,9 @@ use crate::traits::BlockFunction;
 use crate::variants::{Ripemd128Function, Ripemd160Function, Ripemd256Function, Ripemd320Function};
 use std::simd::prelude::*;
 
-/// A block function whose step there is in general registers, too.
-pub(crate) trait InRegisters: BlockFunction {
+/// A block function whose step there is in general registers, too. The compiler inlines a function that has one
+/// caller; so there are two copies: 0 for states that are words, 1 for those that lie as the bytes of their outputs.
+pub(crate) trait InRegisters<const COPY: usize>: BlockFunction {
     /// The state after a block.
     fn compress(state: Self::State, block: &[u8; 64]) -> Self::State
         ensures value { result ≡ Self.step_of state block.now }
@@ -32,7 +33,10 @@ pub(crate) trait InRegisters: BlockFunction {
 
 /// Takes blocks into a state in order.
 #[inline(always)]
-pub(crate) fn walk_on<F: InRegisters>(first: &mut F::State, blocks: &[[u8; 64]])
+pub(crate) fn walk_on<F: InRegisters<COPY>, const COPY: usize>(
+    first: &mut F::State,
+    blocks: &[[u8; 64]],
+)
     ensures value { first.new ≡ walk F.step_of first.old blocks.now }
     ensures valid { F.is_state first.old → F.is_state first.new }
 {
@@ -43,22 +47,22 @@ pub(crate) fn walk_on<F: InRegisters>(first: &mut F::State, blocks: &[[u8; 64]])
     F::put(state, first);
 }
 
-impl InRegisters for Ripemd128Function {
+impl<const COPY: usize> InRegisters<COPY> for Ripemd128Function {
     #[inline(always)]
     fn compress(state: [u32; 4], block: &[u8; 64]) -> [u32; 4] {
-        c128::compress(state, block)
+        c128::compress::<COPY>(state, block)
     }
 }
 
-impl InRegisters for Ripemd160Function {
+impl InRegisters<0> for Ripemd160Function {
     #[inline(always)]
     fn compress(state: [u32; 5], block: &[u8; 64]) -> [u32; 5] {
-        c160::compress(state, block)
+        c160::compress::<0>(state, block)
     }
 
     // Four words go into one store, since who copies the state loads as many at once, and such a load waits long
-    // for single words that were only just stored. For the other functions the compiler would make vectors of this
-    // that go from block to block, and the next block waits for its words.
+    // for single words that were only just stored. For the other functions, and for states that lie as bytes, the
+    // compiler would make vectors of this that go from block to block, and the next block waits for its words.
     #[inline(always)]
     fn put(state: [u32; 5], place: &mut [u32; 5]) {
         let [s0, s1, s2, s3, s4] = state;
@@ -67,16 +71,34 @@ impl InRegisters for Ripemd160Function {
     }
 }
 
-impl InRegisters for Ripemd256Function {
+impl InRegisters<1> for Ripemd160Function {
     #[inline(always)]
-    fn compress(state: [u32; 8], block: &[u8; 64]) -> [u32; 8] {
-        c256::compress(state, block)
+    fn compress(state: [u32; 5], block: &[u8; 64]) -> [u32; 5] {
+        c160::compress::<1>(state, block)
+    }
+
+    // In this order copies 0 and 1 are the same function in WebAssembly, and its module has one of them.
+    #[inline(always)]
+    fn put(state: [u32; 5], place: &mut [u32; 5]) {
+        let [s0, s1, s2, s3, s4] = state;
+        place[4] = s4;
+        place[0] = s0;
+        place[1] = s1;
+        place[2] = s2;
+        place[3] = s3;
     }
 }
 
-impl InRegisters for Ripemd320Function {
+impl<const COPY: usize> InRegisters<COPY> for Ripemd256Function {
+    #[inline(always)]
+    fn compress(state: [u32; 8], block: &[u8; 64]) -> [u32; 8] {
+        c256::compress::<COPY>(state, block)
+    }
+}
+
+impl<const COPY: usize> InRegisters<COPY> for Ripemd320Function {
     #[inline(always)]
     fn compress(state: [u32; 10], block: &[u8; 64]) -> [u32; 10] {
-        c320::compress(state, block)
+        c320::compress::<COPY>(state, block)
     }
 }

@@ -255,6 +255,15 @@ pub trait ListBlockFunction: BlockFunction<Digest: ByteArray> {
         *first = state;
     }
 
+    /// The same. A block function may have a second copy of its walk here, which the compiler inlines into its
+    /// one caller.
+    fn walk_here(first: &mut Self::State, blocks: &[[u8; 64]])
+        ensures value { first.new ≡ walk Self.step_of first.old blocks.now }
+        ensures valid { Self.is_state first.old → Self.is_state first.new }
+    {
+        Self::walk_on(first, blocks);
+    }
+
     // They are those of the block function.
     ghost over_lists: { IsOverLists list Self.is_state Self.step_of Self.output_of
         Self.Digest.bytes are_words step output };
@@ -282,6 +291,25 @@ pub trait ResumableFunction: ListBlockFunction {
         ensures valid { IfSome result Self.is_state }
         ensures none { IfNone result ((words : List ℕ) → Self.are_words words
             → Self.output words ≢ Self.Digest.bytes output) };
+
+    /// Takes blocks in order into the state that has this output, and writes the output of the last in its place. Of
+    /// bytes that are the output of no state it says nothing. Never inlined: the state is loaded from there and stored
+    /// there, and lies in registers in between.
+    #[inline(never)]
+    final fn walk_output(output: &mut [u8], blocks: &[[u8; 64]])
+        requires size { length output.old ≡ Self.Digest.LEN }
+        ensures value { (words : List ℕ) → Self.are_words words → Self.output words ≡ output.old
+            → Self.output (walk Self.step words blocks.now) ≡ output.new }
+        ensures valid { (words : List ℕ) → Self.are_words words → Self.output words ≡ output.old
+            → Self.are_words (walk Self.step words blocks.now) }
+    {
+        let digest = Self::Digest::from_slice(output).unwrap();
+        if let Some(state) = Self::from_output(digest) {
+            let mut last = state;
+            Self::walk_here(&mut last, blocks);
+            output.copy_from_slice(Self::output(last).as_bytes());
+        }
+    }
 
     // An output has the size of a digest, and different words have different outputs.
     ghost injective_output: { IsInjectiveOutput Self.are_words Self.output Self.Digest.LEN };

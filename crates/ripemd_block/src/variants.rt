@@ -86,7 +86,11 @@ impl ListBlockFunction for Ripemd128Function {
 
     #[inline(never)]
     fn walk_on(first: &mut [u32; 4], blocks: &[[u8; 64]]) {
-        registers::walk_on::<Ripemd128Function>(first, blocks);
+        registers::walk_on::<Ripemd128Function, 0>(first, blocks);
+    }
+
+    fn walk_here(first: &mut [u32; 4], blocks: &[[u8; 64]]) {
+        registers::walk_on::<Ripemd128Function, 1>(first, blocks);
     }
 
     ghost use Rattle.std.proofs.Common.{rules};
@@ -188,7 +192,11 @@ impl ListBlockFunction for Ripemd160Function {
 
     #[inline(never)]
     fn walk_on(first: &mut [u32; 5], blocks: &[[u8; 64]]) {
-        registers::walk_on::<Ripemd160Function>(first, blocks);
+        registers::walk_on::<Ripemd160Function, 0>(first, blocks);
+    }
+
+    fn walk_here(first: &mut [u32; 5], blocks: &[[u8; 64]]) {
+        registers::walk_on::<Ripemd160Function, 1>(first, blocks);
     }
 
     ghost use Rattle.std.proofs.Common.{rules};
@@ -293,7 +301,11 @@ impl ListBlockFunction for Ripemd256Function {
 
     #[inline(never)]
     fn walk_on(first: &mut [u32; 8], blocks: &[[u8; 64]]) {
-        registers::walk_on::<Ripemd256Function>(first, blocks);
+        registers::walk_on::<Ripemd256Function, 0>(first, blocks);
+    }
+
+    fn walk_here(first: &mut [u32; 8], blocks: &[[u8; 64]]) {
+        registers::walk_on::<Ripemd256Function, 1>(first, blocks);
     }
 
     ghost use Rattle.std.proofs.Common.{rules};
@@ -400,7 +412,11 @@ impl ListBlockFunction for Ripemd320Function {
 
     #[inline(never)]
     fn walk_on(first: &mut [u32; 10], blocks: &[[u8; 64]]) {
-        registers::walk_on::<Ripemd320Function>(first, blocks);
+        registers::walk_on::<Ripemd320Function, 0>(first, blocks);
+    }
+
+    fn walk_here(first: &mut [u32; 10], blocks: &[[u8; 64]]) {
+        registers::walk_on::<Ripemd320Function, 1>(first, blocks);
     }
 
     ghost use Rattle.std.proofs.Common.{rules};

@@ -18,6 +18,11 @@ use Rattle.ripemd_block.specs.Laws.WordBytes.{words_of, words_read, words_in_ran
 pub word_bytes_output : (n : ℕ) → IsInjectiveOutput (AreWords n) word_bytes (4 * n)
 word_bytes_output n = record { size = bytes_of_words n; injective = word_bytes_injective n }
 
+-- a count is told by its bytes
+pub eight_bytes_injective : (m n : ℕ) → m < 2 ^ 64 → n < 2 ^ 64 → eight_bytes m ≡ eight_bytes n → m ≡ n
+eight_bytes_injective m n of_m of_n same =
+    sym (from_le_bytes-to_le_bytes_8 m of_m) ∙ ap (from_le_bytes w64) same ∙ from_le_bytes-to_le_bytes_8 n of_n
+
 -- tails that are saved as the same bytes are the same
 tail_bytes_injective : (s t : List ℕ) → tail_bytes s ≡ tail_bytes t → s ≡ t
 tail_bytes_injective s t same =
@@ -69,9 +74,7 @@ module _ {are_words : List ℕ → Type 0} {output : List ℕ → List ℕ} {n :
     -- the count is the same
     same_count : g.count ≡ h.count
     same_count =
-        sym (from_le_bytes-to_le_bytes_8 g.count of_g.count)
-        ∙ ap (λ (bs : List ℕ). from_le_bytes w64 (take 8 bs)) after_words
-        ∙ from_le_bytes-to_le_bytes_8 h.count of_h.count
+        eight_bytes_injective g.count h.count of_g.count of_h.count (ap (take 8) after_words)
 
     -- what follows is the same
     same_rest : a ≡ b
@@ -93,6 +96,14 @@ module _ {are_words : List ℕ → Type 0} {output : List ℕ → List ℕ} {n :
   output_front h bytes valid same =
       let size = tells.size h.words valid.words in
       sym (take-append_seam (output h.words) (eight_bytes h.count)) ∙ rw (size, same) refl
+
+  -- the others are those of its count
+  pub output_back : (h : HashState) (bytes : List ℕ) → IsHashState are_words h → output_and_count output h ≡ bytes
+      → eight_bytes h.count ≡ drop n bytes
+  unfolding output_and_count
+  output_back h bytes valid same =
+      let size = tells.size h.words valid.words in
+      sym (drop-append_seam (output h.words) (eight_bytes h.count)) ∙ rw (size, same) refl
 
   -- cores that are saved as the same bytes are the same
   pub output_and_count_injective : (g h : HashState) → IsWithoutTail are_words g → IsWithoutTail are_words h

@@ -1,17 +1,14 @@
 use Rattle.std.proofs.Common.{◌≡◌, ◌+◌, ◌-◌, ◌∙◌, ap, sym, length, drop, [], arith}
-use Rattle.std.proofs.lemmas.List.{append-nil, drop_all, length-drop}
-use Rattle.ripemd_block.specs.States.{HashState, with_tail, tail_bytes, output_and_count}
-use Rattle.ripemd_block.specs.Laws.Saved.{core_and_tail-split}
-use Rattle.ripemd.specs.Saved.{cleared_tail}
-use Rattle.ripemd.specs.SavedLaws.{cleared-both, cleared_behind}
+use Rattle.std.proofs.lemmas.List.{drop_all, length-drop}
+use Rattle.ripemd_block.specs.States.{output_and_count}
+use Rattle.ripemd.proofs.Saved.{both_kept}
 use Rattle.ripemd.proofs.state.keep.Goals as goal
 
 pub returns : goal.returns
-unfolding output_and_count
 returns g c =
     let output = g.F.ListBlockFunction.output in
     let tail = c.args.tail.now in
-    let h : HashState = with_tail c.args.core.now tail in
+    let h = c.args.core.now in
     let front = c.copy_from_slice.new.self in
     let back = c.split_at_mut-back in
     let size = g.met.F.ResumableFunction.saved_hasher_size in
@@ -24,6 +21,4 @@ returns g c =
     let none : back.result.1.now ≡ [] = back.ensures.back ∙ drop_all 64 c.split_at_mut-front.result.1.now (omega (arith, behind)) in
     let left : length (drop (1 + length tail) back.result.0.now) ≡ 63 - length tail =
     omega (arith, length-drop (1 + length tail) back.result.0.now, back.ensures.front_len) in
-    let of_tail : cleared_tail c.put_tail.new.place ≡ tail_bytes tail = rw c.put_tail.ensures (cleared_behind tail _ left) in
-    rw (none, append-nil c.put_tail.new.place)
-    (cleared-both front c.put_tail.new.place g.F.SavedCore.ByteArray.LEN core_len ∙ rw (core, of_tail) (sym (core_and_tail-split output h)))
+    both_kept output h tail g.F.SavedCore.ByteArray.LEN front c.put_tail.new.place _ back.result.1.now core_len (sym core) c.put_tail.ensures left none
