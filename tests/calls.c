@@ -624,10 +624,10 @@ static void try_states(void) {
 // Outputs that are up to 40 bytes too short or too long, as those of the other variants are; and by
 // no variant, of any length.
 static void try_refused(nattizhu_variant variant) {
-  static const size_t counts[] = {0, 1, 65};
-  nattizhu_message list[65];
-  make_list(MESSAGES, list, 65, 0, 100);
-  for (int c = 0; c < 3; c++)
+  static const size_t counts[] = {0, 1, 65, 129};
+  static nattizhu_message list[129];
+  make_list(MESSAGES, list, 129, 0, 100);
+  for (int c = 0; c < 4; c++)
     for (int more = counts[c] ? -(int)size : 0; more <= MAX; more += variant == v ? 1 : 4)
       for (int kind = 0; kind < CALLS; kind++)
         for (size_t key = 0; key <= 100; key += 100) {
@@ -665,6 +665,74 @@ static void try_no_variant(void) {
               holds(STATE, NULL, STATE_SIZE) && holds(OUT, NULL, HMAC_STATE_SIZE),
           "no variant", numbers[i]);
     try_refused(none);
+  }
+}
+
+// Null pointers that should lead to something: each in turn that a call takes, where it does its
+// work without. Of a list the last message has one; with others or without, that lead to nothing.
+static void try_nulls(void) {
+  static const unsigned takes[CALLS] = {1 << BYTES,
+                                        1 << BYTES,
+                                        1 << LIST | 1 << MESSAGES,
+                                        1 << KEY | 1 << BYTES,
+                                        1 << KEY | 1 << BYTES,
+                                        1 << KEY | 1 << LIST | 1 << MESSAGES,
+                                        1 << KEY | 1 << BYTES,
+                                        1 << LIST | 1 << MESSAGES | 1 << SALTS | 1 << SALT_BYTES};
+  static nattizhu_message list[129], salts[129];
+  const nattizhu_message last = {ramp, 9}, wrong = {NULL, 1};
+  for (size_t least = 0; least < 2; least++)
+    for (size_t count = 1; count <= 129; count += 64)
+      for (int kind = 0; kind < CALLS; kind++)
+        for (int null = 0; null < ROOMS; null++) {
+          const size_t all = count * size, length = kind == DIGEST || kind == HMAC ? size : all;
+          input in = {ramp, ramp, 20, all, size, list, salts, count, count, 1};
+          if (null != OUT && !(takes[kind] >> null & 1))
+            continue;
+          make_list(MESSAGES, list, count, least, 100);
+          make_list(SALT_BYTES, salts, count, least, 50);
+          list[count - 1] = salts[count - 1] = last;
+          by_call(kind, &in, output(OUT, length), length);
+          in.key = null == KEY ? NULL : in.key;
+          in.bytes = null == BYTES ? NULL : in.bytes;
+          in.list = null == LIST ? NULL : in.list;
+          in.salts = null == SALTS ? NULL : in.salts;
+          list[count - 1] = null == MESSAGES ? wrong : last;
+          salts[count - 1] = null == SALT_BYTES ? wrong : last;
+          uint8_t *out = output(OUT, length);
+          check(!call(kind, v, &in, null == OUT ? NULL : out, length) && holds(OUT, NULL, length),
+                "a null pointer", (size_t)null);
+        }
+}
+
+// The same of calls over states and those that verify.
+static void try_nulls_and_states(void) {
+  uint8_t tag[MAX];
+  nattizhu_hmac_state hmac;
+  const input in = inputs(ramp, 20, ramp, 3);
+  by_call(HMAC, &in, tag, size);
+  check(nattizhu_hmac_init(v, &hmac, ramp, 20) && nattizhu_hmac_update(&hmac, ramp, 3) &&
+            nattizhu_hmac_verify(&hmac, tag, size) && !nattizhu_hmac_verify(&hmac, NULL, size) &&
+            nattizhu_hmac_verify_text(v, ramp, 20, ramp, 3, tag, size) &&
+            !nattizhu_hmac_verify_text(v, NULL, 20, ramp, 3, tag, size) &&
+            !nattizhu_hmac_verify_text(v, ramp, 20, NULL, 3, tag, size) &&
+            !nattizhu_hmac_verify_text(v, ramp, 20, ramp, 3, NULL, size),
+        "a null pointer to verify", 0);
+  for (int keyed = 0; keyed < 2; keyed++) {
+    const size_t all = STATE_SIZES[keyed], length = saved_size(keyed, size);
+    uint8_t *state = output(STATE, all);
+    check((keyed ? nattizhu_hmac_init(v, (nattizhu_hmac_state *)(void *)state, ramp, 20)
+                 : nattizhu_init(v, (nattizhu_state *)(void *)state)) &&
+              update(keyed, state, ramp, 70) && end(keyed, state, tag, size),
+          "a state", 0);
+    uint8_t kept[HMAC_STATE_SIZE];
+    memcpy(kept, state, all);
+    check(!update(keyed, state, NULL, 1) && !update(keyed, state, NULL, 64) &&
+              !end(keyed, state, NULL, size) && !save(keyed, state, NULL, length) &&
+              !load(v, keyed, state, NULL, length) &&
+              !(keyed && nattizhu_hmac_init(v, (nattizhu_hmac_state *)(void *)state, NULL, 1)) &&
+              holds(STATE, kept, all),
+          "a null pointer and a state", (size_t)keyed);
   }
 }
 
@@ -853,6 +921,8 @@ int main(int argc, char **argv) {
     try_states();
     try_refused(v);
     try_no_variant();
+    try_nulls();
+    try_nulls_and_states();
     try_wrong_records();
     if (at_end)
       try_too_long();

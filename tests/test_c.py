@@ -1,5 +1,6 @@
 """Tries the functions of nattizhu.h from C and from C++, by each compiler: the header and the binary interface,
-warnings of wrong calls, the programs of docs/C.md, and tests/calls.c, also where each access is checked."""
+warnings of wrong calls, the programs of docs/C.md and of the manual page, and tests/calls.c, also where each access
+is checked."""
 import re
 
 import pytest
@@ -9,14 +10,16 @@ CRATE = ROOT / "crates/ripemd_c"
 CALLS = ROOT / "tests/calls.c"
 HEADER = (CRATE / "nattizhu.h").read_text("utf-8")
 FUNCTIONS = sorted(re.findall(r"^NATTIZHU_CHECKED .*[ *](nattizhu_\w+)\(", HEADER, re.MULTILINE))
-PROGRAMS = programs("docs/C.md", "c")
+MANUAL = (CRATE / "nattizhu.3").read_text("utf-8").replace(r"\-", "-").replace(r"\e", "\\")
+PROGRAMS = programs("docs/C.md", "c") + re.findall(r"^\.nf\n(#include .*?^}\n)\n.*?^\$ \./digest\n(.*?)\.fi$", MANUAL,
+                                                  re.DOTALL | re.MULTILINE)
 
 # Debian's packages of the compilers.
 PACKAGES = {"cc": "gcc", "c++": "g++", "clang": "clang", "clang++": "clang"}
 COMPILERS = [("cc", "c99"), ("c++", "c++11"), ("clang", "c99"), ("clang++", "c++11")]
 STRICT = ["-O2", "-Wall", "-Wextra", "-pedantic", "-Werror", "-D_DEFAULT_SOURCE"]
 # For tools that check each access, and make all of it slow: with shorter lists.
-CHECKED = ["-O1", "-g", "-D_DEFAULT_SOURCE", "-DMOST=70"]
+CHECKED = ["-O1", "-g", "-D_DEFAULT_SOURCE", "-DMOST=130"]
 # Compiles the input, and leaves no file.
 INPUT = ["-S", "-o", "-", "-"]
 
@@ -207,7 +210,7 @@ def assert_tried(least, *command, by=run):
 
 
 def test_calls(build):
-    assert_tried(2113000, *build(CALLS), DATA)
+    assert_tried(2162000, *build(CALLS), DATA)
 
 
 @pytest.mark.parametrize("compiler, package", [("cc", "libgcc-12-dev"), ("clang", "libclang-rt-14-dev")],
@@ -217,10 +220,11 @@ def test_calls_with_sanitizers(library, tmp_path, compiler, package):
     if compile_by(compiler, "c99", *flags, "-", input="int main(void) { return 0; }", status=None).returncode:
         pytest.skip(f"{compiler} has no sanitizers (Debian's {package})")
     compile_by(compiler, "c99", *flags, CALLS, CRATE / "nattizhu.c", "-x", "none", library / "libnattizhu.a")
-    assert_tried(2018000, tmp_path / "program", DATA)
+    assert_tried(2084000, tmp_path / "program", DATA)
 
 
-def test_calls_under_valgrind(library, tmp_path):
+@pytest.mark.parametrize("variant", [128, 160, 256, 320])
+def test_calls_under_valgrind(library, tmp_path, variant):
     program = tmp_path / "program"
     compile_by("cc", "c99", *CHECKED, CALLS, "-x", "none", library / "libnattizhu.a", "-o", program)
-    assert_tried(501000, program, DATA, 160, by=memcheck)
+    assert_tried(514000, program, DATA, variant, by=memcheck)

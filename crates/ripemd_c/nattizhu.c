@@ -1,9 +1,9 @@
 /* The functions of nattizhu.h over the proved ones of this crate, whose names end in `_nonnull`:
- * they put a pointer that is not null in place of one that leads to nothing, and hand lists on in
- * groups. */
+ * they refuse null pointers that should lead to something, replace those that lead to nothing, and
+ * hand on in groups the lists that have such. */
 #include "nattizhu.h"
 
-/* Messages that are handed on at once. */
+/* Messages of such a list that are handed on at once. */
 enum { GROUP = 128 };
 
 /* How many words a vector of the processor has. With four, lists go by fours, which takes less time
@@ -43,23 +43,48 @@ bool nattizhu_pbkdf2_list_nonnull(nattizhu_variant, const nattizhu_message *, si
                                   const nattizhu_message *, size_t, uint32_t, size_t, uint8_t *,
                                   size_t);
 
-/* A pointer that is not null, in place of one that leads to no bytes. */
-static const uint8_t *some(const uint8_t *bytes) { return bytes ? bytes : (const uint8_t *)""; }
-
-/* The same of a place to which nothing is written. */
-static uint8_t *place(uint8_t *bytes) {
-  static uint8_t none[1];
-  return bytes ? bytes : none;
+/* Whether so many bytes may be read. A null pointer that leads to nothing is replaced. */
+static bool readable(const uint8_t **bytes, size_t length) {
+  if (*bytes)
+    return true;
+  *bytes = (const uint8_t *)"";
+  return length == 0;
 }
 
-/* The messages of a list from a place on, a group at most, with no null pointer among them. Returns
- * how many. */
+/* The same of bytes that are written. */
+static bool writable(uint8_t **bytes, size_t length) {
+  static uint8_t none[1];
+  if (*bytes)
+    return true;
+  *bytes = none;
+  return length == 0;
+}
+
+/* The same of a list, whose messages stay. Sets `nulls` if one of them has a null pointer. */
+static bool readable_list(const nattizhu_message **messages, size_t count, bool *nulls) {
+  static const nattizhu_message none[1];
+  if (!*messages) {
+    *messages = none;
+    return count == 0;
+  }
+  for (size_t i = 0; i < count; i++)
+    if (!(*messages)[i].bytes) {
+      if ((*messages)[i].length != 0)
+        return false;
+      *nulls = true;
+    }
+  return true;
+}
+
+/* The messages of a list from a place on, a group at most, without null pointers. Returns how
+ * many. */
 static size_t next_group(nattizhu_message group[GROUP], const nattizhu_message *messages, size_t at,
                          size_t count) {
   size_t n = count - at < GROUP ? count - at : GROUP;
   for (size_t i = 0; i < n; i++) {
-    group[i].bytes = some(messages[at + i].bytes);
-    group[i].length = messages[at + i].length;
+    group[i] = messages[at + i];
+    if (!group[i].bytes)
+      group[i].bytes = (const uint8_t *)"";
   }
   return n;
 }
@@ -78,143 +103,158 @@ size_t nattizhu_hmac_state_size(void) { return sizeof(nattizhu_hmac_state); }
 
 bool nattizhu_digest(nattizhu_variant variant, const uint8_t *message, size_t length,
                      uint8_t *digest, size_t digest_length) {
-  return nattizhu_digest_nonnull(variant, some(message), length, place(digest), digest_length);
+  return readable(&message, length) && writable(&digest, digest_length) &&
+         nattizhu_digest_nonnull(variant, message, length, digest, digest_length);
 }
 
 bool nattizhu_each(nattizhu_variant variant, const uint8_t *records, size_t length, size_t size,
                    uint8_t *digests, size_t digests_length) {
-  return nattizhu_each_nonnull(variant, WORDS, some(records), length, size, place(digests),
-                               digests_length);
+  return readable(&records, length) && writable(&digests, digests_length) &&
+         nattizhu_each_nonnull(variant, WORDS, records, length, size, digests, digests_length);
 }
 
-bool nattizhu_list(nattizhu_variant variant, const nattizhu_message *messages, size_t count,
-                   uint8_t *digests, size_t digests_length) {
+/* The digests of a list, or its tags where there is a key. No pointer to bytes is null. */
+static bool put_list(nattizhu_variant variant, const uint8_t *key, size_t key_length,
+                     const nattizhu_message *messages, size_t count, uint8_t *outputs,
+                     size_t outputs_length) {
+  return key ? nattizhu_hmac_list_nonnull(variant, WORDS, key, key_length, messages, count, outputs,
+                                          outputs_length)
+             : nattizhu_list_nonnull(variant, WORDS, messages, count, outputs, outputs_length);
+}
+
+/* The same in groups, of messages whose pointers may be null where they lead to nothing. */
+static bool put_groups(nattizhu_variant variant, const uint8_t *key, size_t key_length,
+                       const nattizhu_message *messages, size_t count, uint8_t *outputs,
+                       size_t outputs_length) {
+  const size_t size = nattizhu_digest_size(variant);
   nattizhu_message group[GROUP];
-  size_t size;
-  if (count <= GROUP) { /* as for more, and faster for a few */
-    next_group(group, messages, 0, count);
-    return nattizhu_list_nonnull(variant, WORDS, group, count, place(digests), digests_length);
-  }
-  size = nattizhu_digest_size(variant);
-  if (size == 0 || !is_product(digests_length, count, size))
+  if (size == 0 || !is_product(outputs_length, count, size))
     return false;
   for (size_t at = 0, n; at < count; at += n) {
     n = next_group(group, messages, at, count);
-    if (!nattizhu_list_nonnull(variant, WORDS, group, n, digests + at * size, n * size))
+    if (!put_list(variant, key, key_length, group, n, outputs + at * size, n * size))
       return false;
   }
   return true;
 }
 
+/* The same where each pointer may be null, but that of a key. */
+static bool put_any_list(nattizhu_variant variant, const uint8_t *key, size_t key_length,
+                         const nattizhu_message *messages, size_t count, uint8_t *outputs,
+                         size_t outputs_length) {
+  bool nulls = false;
+  if (!writable(&outputs, outputs_length) || !readable_list(&messages, count, &nulls))
+    return false;
+  return nulls ? put_groups(variant, key, key_length, messages, count, outputs, outputs_length)
+               : put_list(variant, key, key_length, messages, count, outputs, outputs_length);
+}
+
+bool nattizhu_list(nattizhu_variant variant, const nattizhu_message *messages, size_t count,
+                   uint8_t *digests, size_t digests_length) {
+  return put_any_list(variant, NULL, 0, messages, count, digests, digests_length);
+}
+
 bool nattizhu_update(nattizhu_state *state, const uint8_t *bytes, size_t length) {
-  return nattizhu_update_nonnull(state, some(bytes), length);
+  return readable(&bytes, length) && nattizhu_update_nonnull(state, bytes, length);
 }
 
 bool nattizhu_final(const nattizhu_state *state, uint8_t *digest, size_t digest_length) {
-  return nattizhu_final_nonnull(state, place(digest), digest_length);
+  return writable(&digest, digest_length) && nattizhu_final_nonnull(state, digest, digest_length);
 }
 
 bool nattizhu_save(const nattizhu_state *state, uint8_t *saved, size_t saved_length) {
-  return nattizhu_save_nonnull(state, place(saved), saved_length);
+  return writable(&saved, saved_length) && nattizhu_save_nonnull(state, saved, saved_length);
 }
 
 bool nattizhu_load(nattizhu_variant variant, nattizhu_state *state, const uint8_t *saved,
                    size_t saved_length) {
-  return nattizhu_load_nonnull(variant, state, some(saved), saved_length);
+  return readable(&saved, saved_length) &&
+         nattizhu_load_nonnull(variant, state, saved, saved_length);
 }
 
 bool nattizhu_hmac(nattizhu_variant variant, const uint8_t *key, size_t key_length,
                    const uint8_t *text, size_t text_length, uint8_t *tag, size_t tag_length) {
-  return nattizhu_hmac_nonnull(variant, some(key), key_length, some(text), text_length, place(tag),
-                               tag_length);
+  return readable(&key, key_length) && readable(&text, text_length) && writable(&tag, tag_length) &&
+         nattizhu_hmac_nonnull(variant, key, key_length, text, text_length, tag, tag_length);
 }
 
 bool nattizhu_hmac_verify_text(nattizhu_variant variant, const uint8_t *key, size_t key_length,
                                const uint8_t *text, size_t text_length, const uint8_t *tag,
                                size_t tag_length) {
-  return nattizhu_hmac_verify_text_nonnull(variant, some(key), key_length, some(text), text_length,
-                                           some(tag), tag_length);
+  return readable(&key, key_length) && readable(&text, text_length) && readable(&tag, tag_length) &&
+         nattizhu_hmac_verify_text_nonnull(variant, key, key_length, text, text_length, tag,
+                                           tag_length);
 }
 
 bool nattizhu_hmac_each(nattizhu_variant variant, const uint8_t *key, size_t key_length,
                         const uint8_t *records, size_t length, size_t size, uint8_t *tags,
                         size_t tags_length) {
-  return nattizhu_hmac_each_nonnull(variant, WORDS, some(key), key_length, some(records), length,
-                                    size, place(tags), tags_length);
+  return readable(&key, key_length) && readable(&records, length) && writable(&tags, tags_length) &&
+         nattizhu_hmac_each_nonnull(variant, WORDS, key, key_length, records, length, size, tags,
+                                    tags_length);
 }
 
-/* A long key is replaced by its digest first (RFC 2104), so that no group hashes it again. */
 bool nattizhu_hmac_list(nattizhu_variant variant, const uint8_t *key, size_t key_length,
                         const nattizhu_message *texts, size_t count, uint8_t *tags,
                         size_t tags_length) {
-  const size_t size = nattizhu_digest_size(variant);
-  nattizhu_message group[GROUP];
-  uint8_t digest[NATTIZHU_MAX_SIZE];
-  if (size == 0 || !is_product(tags_length, count, size))
-    return false;
-  if (key_length > NATTIZHU_BLOCK_SIZE) {
-    if (!nattizhu_digest_nonnull(variant, key, key_length, digest, size))
-      return false;
-    key = digest;
-    key_length = size;
-  }
-  for (size_t at = 0, n; at < count; at += n) {
-    n = next_group(group, texts, at, count);
-    if (!nattizhu_hmac_list_nonnull(variant, WORDS, some(key), key_length, group, n,
-                                    tags + at * size, n * size))
-      return false;
-  }
-  return true;
+  return readable(&key, key_length) &&
+         put_any_list(variant, key, key_length, texts, count, tags, tags_length);
 }
 
 bool nattizhu_hmac_init(nattizhu_variant variant, nattizhu_hmac_state *state, const uint8_t *key,
                         size_t key_length) {
-  return nattizhu_hmac_init_nonnull(variant, state, some(key), key_length);
+  return readable(&key, key_length) && nattizhu_hmac_init_nonnull(variant, state, key, key_length);
 }
 
 bool nattizhu_hmac_update(nattizhu_hmac_state *state, const uint8_t *bytes, size_t length) {
-  return nattizhu_hmac_update_nonnull(state, some(bytes), length);
+  return readable(&bytes, length) && nattizhu_hmac_update_nonnull(state, bytes, length);
 }
 
 bool nattizhu_hmac_final(const nattizhu_hmac_state *state, uint8_t *tag, size_t tag_length) {
-  return nattizhu_hmac_final_nonnull(state, place(tag), tag_length);
+  return writable(&tag, tag_length) && nattizhu_hmac_final_nonnull(state, tag, tag_length);
 }
 
 bool nattizhu_hmac_verify(const nattizhu_hmac_state *state, const uint8_t *tag, size_t tag_length) {
-  return nattizhu_hmac_verify_nonnull(state, some(tag), tag_length);
+  return readable(&tag, tag_length) && nattizhu_hmac_verify_nonnull(state, tag, tag_length);
 }
 
 bool nattizhu_hmac_save(const nattizhu_hmac_state *state, uint8_t *saved, size_t saved_length) {
-  return nattizhu_hmac_save_nonnull(state, place(saved), saved_length);
+  return writable(&saved, saved_length) && nattizhu_hmac_save_nonnull(state, saved, saved_length);
 }
 
 bool nattizhu_hmac_load(nattizhu_variant variant, nattizhu_hmac_state *state, const uint8_t *saved,
                         size_t saved_length) {
-  return nattizhu_hmac_load_nonnull(variant, state, some(saved), saved_length);
+  return readable(&saved, saved_length) &&
+         nattizhu_hmac_load_nonnull(variant, state, saved, saved_length);
 }
 
 bool nattizhu_pbkdf2(nattizhu_variant variant, const uint8_t *password, size_t password_length,
                      const uint8_t *salt, size_t salt_length, uint32_t rounds, uint8_t *key,
                      size_t key_length) {
-  return nattizhu_pbkdf2_nonnull(variant, some(password), password_length, some(salt), salt_length,
-                                 rounds, place(key), key_length);
+  return readable(&password, password_length) && readable(&salt, salt_length) &&
+         writable(&key, key_length) &&
+         nattizhu_pbkdf2_nonnull(variant, password, password_length, salt, salt_length, rounds, key,
+                                 key_length);
 }
 
-/* The first group says whether variant, rounds and size are allowed, in an empty list too. */
 bool nattizhu_pbkdf2_list(nattizhu_variant variant, const nattizhu_message *passwords, size_t count,
                           const nattizhu_message *salts, size_t salt_count, uint32_t rounds,
                           size_t size, uint8_t *keys, size_t keys_length) {
   nattizhu_message password_group[GROUP], salt_group[GROUP];
-  size_t at = 0, n;
-  if (salt_count != count || !is_product(keys_length, count, size))
+  bool nulls = false;
+  if (salt_count != count || !is_product(keys_length, count, size) ||
+      !writable(&keys, keys_length) || !readable_list(&passwords, count, &nulls) ||
+      !readable_list(&salts, count, &nulls))
     return false;
-  do {
+  if (!nulls)
+    return nattizhu_pbkdf2_list_nonnull(variant, passwords, count, salts, count, rounds, size, keys,
+                                        keys_length);
+  for (size_t at = 0, n; at < count; at += n) { /* the first group says whether it is allowed */
     n = next_group(password_group, passwords, at, count);
     next_group(salt_group, salts, at, count);
     if (!nattizhu_pbkdf2_list_nonnull(variant, password_group, n, salt_group, n, rounds, size,
-                                      place(keys ? keys + at * size : keys), n * size))
+                                      keys + at * size, n * size))
       return false;
-    at += n;
-  } while (at < count);
+  }
   return true;
 }

@@ -2,20 +2,22 @@
  * and keys from passwords by HMAC (PBKDF2, RFC 8018).
  *
  * What the functions in Rattle write and return is proved. nattizhu.c, which calls them and is
- * tested, replaces null pointers and hands lists on in groups.
+ * tested, looks after null pointers.
  *
  * Each call that returns a bool returns true where it did what it says. It returns false and writes
  * nothing where it can't: if there is no such variant, if what it writes to does not have its size,
- * if bytes given as a state are not one, or as the function says.
+ * if a pointer is null whose length or count is not 0, if bytes given as a state are not one, or as
+ * the function says.
  *
  * Arguments come in this order: the variant; the state; what is read; what is written. The length
- * of a piece of memory, or the count of a list, follows its pointer. Lengths and sizes are in bytes.
+ * of a piece of memory, or the count of a list, follows its pointer, which may be null where that is
+ * 0. Lengths and sizes are in bytes.
  *
  * Each caller has to ensure this, which nothing checks:
  *
  * - A pointer leads to as many bytes or messages as the length or count after it says, or to what
  *   its type says. Each of these pieces of memory is smaller than 2^63 bytes.
- * - A pointer with a length or count after it may be null where that is 0. No other is null.
+ * - No pointer to a state is null.
  * - What a call writes overlaps nothing else that it is given; what it only reads may overlap.
  * - While a call runs, no other thread writes what it reads, or reads or writes what it writes.
  *

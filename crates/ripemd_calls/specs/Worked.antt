@@ -85,12 +85,16 @@ kept bytes = 20 ∷ bytes ++ replicate 20 0
 abbrev pub kept_hmac : (inner outer : List ℕ) → List ℕ
 kept_hmac inner outer = 148 ∷ (inner ++ outer) ++ replicate 40 0
 
--- the saved bytes after 64 times "a" and one "b", with OpenSSL's words: one block, and a tail of one byte
-abbrev pub saved_bytes : List ℕ
-saved_bytes =
+-- the saved bytes after 64 times "a" and one "b", with OpenSSL's words: one block, and a tail of one byte; and the same
+-- with another count of blocks, which no known message leads to
+abbrev pub saved_after : (count : ℕ) → List ℕ
+saved_after count =
     (0xf0 ∷ 0x39 ∷ 0x23 ∷ 0xd4 ∷ 0x6f ∷ 0x9f ∷ 0x5b ∷ 0xce ∷ 0x75 ∷ 0xa0
     ∷ 0x74 ∷ 0x28 ∷ 0xf1 ∷ 0xaa ∷ 0x67 ∷ 0xdf ∷ 0x1c ∷ 0xbe ∷ 0xc1 ∷ 0xc6 ∷ [])
-    ++ 1 ∷ replicate 7 0 ++ 1 ∷ 0x62 ∷ replicate 62 0
+    ++ count ∷ replicate 7 0 ++ 1 ∷ 0x62 ∷ replicate 62 0
+
+abbrev pub saved_bytes : List ℕ
+saved_bytes = saved_after 1
 
 -- the same, kept with other bytes behind the tail
 abbrev pub soiled_bytes : List ℕ
@@ -100,12 +104,14 @@ soiled_bytes = soiled 30 saved_bytes
 abbrev pub forged : List ℕ
 forged = replicate 92 0xff
 
--- that state gives the digest of its message, and after "c" the one that OpenSSL gives, whatever is kept behind the tail;
--- it is saved with zeros there, and loaded of nothing else. Bytes of no state and of one of the other kind are refused
+-- that state gives the digest of its message, and after "c" the one that OpenSSL gives, whatever is kept behind the tail,
+-- and so does the one of two blocks; it is saved with zeros there, and loaded of nothing else. Bytes of no state and of one of the other kind are refused
 pub record WorkedStates : Type 0 where
   pub finalized : Gives (FinalizesState (kept soiled_bytes)) 20 (codes "d747cddb32a3bc8e8029dd1cacdcca01392299d6")
   pub updated : (next : List ℕ) (fed : Bool) → UpdatesState (kept soiled_bytes) (codes "c") next fed
       → IsTrue fed × Gives (FinalizesState next) 20 (codes "62cb6e1e229809278596f9d17bd382cc9a0ff0a0")
+  pub continued : (next : List ℕ) (fed : Bool) → UpdatesState (kept (saved_after 2)) (codes "c") next fed
+      → IsTrue fed × Gives (FinalizesState next) 20 (codes "145d857d0afe48442d8f9e3bb31d1382590a890a")
   pub saved : Gives (SavesState (kept soiled_bytes)) 92 (hexadecimal saved_bytes)
   pub loaded : (any next : List ℕ) (done : Bool) → LoadsState 160 saved_bytes any next done
       → IsTrue done × Gives (FinalizesState next) 20 (codes "d747cddb32a3bc8e8029dd1cacdcca01392299d6")
@@ -121,9 +127,11 @@ pub record WorkedStates : Type 0 where
   pub behind : (first next : List ℕ) (begun fed : Bool) → InitsState 160 (replicate 113 7) first begun
       → UpdatesState first abc next fed → drop 93 next ≡ replicate 20 7
 
--- the same of the HMAC state of "Hi There" under that key, with OpenSSL's words, and of an outer state that is none
+-- the same of the HMAC state of "Hi There" under that key, with OpenSSL's words, of its hash states exchanged, which no
+-- known text leads to, and of an outer state that is none
 pub record WorkedHmacStates : Type 0 where
   pub finalized : Gives (FinalizesHmac (kept_hmac (soiled 37 saved_inner) (soiled 29 saved_outer))) 20 (hexadecimal tag)
+  pub exchanged : Gives (FinalizesHmac (kept_hmac saved_outer saved_inner)) 20 (codes "d3bf98f0f2a707ceca9a4fa0c3be4bc09682b8f6")
   pub saved : Gives (SavesHmac (kept_hmac (soiled 37 saved_inner) (soiled 29 saved_outer))) 184
       (hexadecimal (saved_inner ++ saved_outer))
   pub loaded : (any next : List ℕ) (done : Bool) → LoadsHmac 160 (saved_inner ++ saved_outer) any next done

@@ -2,12 +2,12 @@ use Rattle.std.proofs.Common.{◌≡◌, ℕ, List, [], ◌∷◌, ◌++◌, cod
 use Rattle.ripemd.specs.Standard.Words.{word_bytes}
 use Rattle.ripemd.specs.Standard.Compression.{ripemd160, registers_after, lines_after, compress}
 use Rattle.ripemd.specs.Standard.Hashing.{with_padding, blocks, partial_block, hash}
-use Rattle.ripemd.specs.States.{HashState, IsState, new_state, fed, output_and_count, tail_bytes, core_and_tail}
+use Rattle.ripemd.specs.States.{HashState, IsState, new_state, fed, finish, output_and_count, tail_bytes, core_and_tail}
 use Rattle.ripemd.specs.SavedLaws.{length-core_and_tail, saved_is_clear}
 use Rattle.ripemd.specs.Saved.{cleared}
 use Rattle.ripemd_block.specs.Laws.Saved.{word_bytes_output}
 use Rattle.ripemd.proofs.Saved.{tail_back}
-use Rattle.ripemd_mac.specs.Laws.{outer_part}
+use Rattle.ripemd_mac.specs.Laws.{inner_part, outer_part}
 use Rattle.ripemd.specs.Published.{hexadecimal}
 use Rattle.ripemd_mac.specs.Hmac.{KeyedState, key_block, inner_message, outer_message, hmac, keyed_state, fed_text}
 use Rattle.ripemd_mac.specs.Worked.{saved_inner, saved_outer}
@@ -31,6 +31,13 @@ is_state = record {
   tail = record { short = omega arith; bytes = search rules };
 }
 
+-- after another block
+abbrev twice : HashState
+twice = record after { count = 2 }
+
+twice_is_state : IsState ripemd160 twice
+twice_is_state = record { words = is_state.words; count = omega arith; tail = is_state.tail }
+
 -- the forged bytes have a tail of 255
 not_state : (h : HashState) → ¬ IsSavedState ripemd160 h forged
 not_state h is =
@@ -52,12 +59,28 @@ no_outer : (outer : List ℕ) → ((h : HashState) → ¬ IsSavedState ripemd160
 no_outer outer none s is =
     none s.outer (record { valid = is.valid.outer; saved = outer_part (word_bytes_output 5) s is.valid (saved_inner ++ outer) is.saved })
 
+-- an HMAC state with its hash states exchanged, and what it is saved as
+abbrev exchanged : KeyedState → KeyedState
+exchanged s = record { inner = s.outer; outer = s.inner }
+
+exchanged_saved : (s : KeyedState) → IsSavedHmac ripemd160 s (saved_inner ++ saved_outer)
+    → IsSavedHmac ripemd160 (exchanged s) (saved_outer ++ saved_inner)
+exchanged_saved s is =
+    let outer : core_and_tail word_bytes s.outer ≡ saved_outer =
+    outer_part (word_bytes_output 5) s is.valid (saved_inner ++ saved_outer) is.saved in
+    let inner : core_and_tail word_bytes s.inner ≡ saved_inner =
+    inner_part (word_bytes_output 5) s is.valid (saved_inner ++ saved_outer) is.saved in
+    record {
+      valid = record { inner = is.valid.outer; outer = is.valid.inner };
+      saved = ap (λ (bytes : List ℕ). bytes ++ core_and_tail word_bytes s.inner) outer ∙ ap (λ (bytes : List ℕ). saved_outer ++ bytes) inner;
+    }
+
 -- the HMAC state of the key
 abbrev start : KeyedState
 start = keyed_state ripemd160.start (compress ripemd160) word_bytes key
 
 pub returns-clause-states : goal.returns-clause-states
-unfolding registers_after lines_after compress with_padding blocks partial_block hash fed output_and_count core_and_tail
+unfolding registers_after lines_after compress with_padding blocks partial_block hash fed finish output_and_count core_and_tail
 returns-clause-states c = record {
   finalized = λ new done does. written refl refl (does.message tt (replicate 64 0x61 ++ 0x62 ∷ [])
       (record { valid = is_state; saved = refl }));
@@ -66,6 +89,11 @@ returns-clause-states c = record {
       (record { valid = is_state; saved = refl }) in (
         after_message.0,
         λ new done gives. written refl refl ((rw does.mark at gives).message tt (replicate 64 0x61 ++ 0x62 ∷ 0x63 ∷ []) after_message.1),
+      );
+  continued = λ next done does.
+      let after_piece = does.kept.state twice (record { valid = twice_is_state; saved = refl }) in (
+        after_piece.0,
+        λ new done gives. written refl refl ((rw does.mark at gives).state (fed (compress ripemd160) twice (codes "c")) after_piece.1),
       );
   saved = λ new done does. written refl refl (does.state after (record { valid = is_state; saved = refl }));
   loaded = λ any next done does.
@@ -89,14 +117,16 @@ returns-clause-states c = record {
 }
 
 pub returns-clause-hmac_states : goal.returns-clause-hmac_states
-unfolding registers_after lines_after compress with_padding blocks hash key_block inner_message outer_message hmac
+unfolding registers_after lines_after compress with_padding blocks partial_block hash fed finish key_block keyed_state inner_message outer_message hmac
 returns-clause-hmac_states c =
     let saved_for = c.saved_tag.ensures.saved in
     let text : IsSavedHmac ripemd160 (fed_text (compress ripemd160) start (codes "Hi There")) (saved_inner ++ saved_outer) =
     subst (λ s. IsSavedHmac ripemd160 s (saved_inner ++ saved_outer))
     saved_for.stands.is (record { valid = saved_for.valid; saved = saved_for.saved }) in
+    let after_text : KeyedState = fed_text (compress ripemd160) start (codes "Hi There") in
     record {
       finalized = λ new done does. written refl refl (does.message key (codes "Hi There") text);
+      exchanged = λ new done does. written refl refl (does.state (exchanged after_text) (exchanged_saved after_text text));
       saved = λ new done does. written refl (ap hexadecimal text.saved) (does.state (fed_text (compress ripemd160) start (codes "Hi There")) text);
       loaded = λ any next done does.
           let keeps = does.state (fed_text (compress ripemd160) start (codes "Hi There")) text in (
