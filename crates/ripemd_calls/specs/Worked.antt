@@ -115,6 +115,7 @@ pub record WorkedStates : Type 0 where
   pub saved : Gives (SavesState (kept soiled_bytes)) 92 (hexadecimal saved_bytes)
   pub loaded : (any next : List ℕ) (done : Bool) → LoadsState 160 saved_bytes any next done
       → IsTrue done × Gives (FinalizesState next) 20 (codes "d747cddb32a3bc8e8029dd1cacdcca01392299d6")
+      × (drop 93 next ≡ drop 93 any)
   pub short : RefusesRoom (FinalizesState (kept saved_bytes)) 19
   pub not_finalized : RefusesRoom (FinalizesState (kept forged)) 20
   pub other_kind : RefusesRoom (FinalizesState (148 ∷ saved_bytes ++ replicate 20 0)) 20
@@ -135,7 +136,7 @@ pub record WorkedHmacStates : Type 0 where
   pub saved : Gives (SavesHmac (kept_hmac (soiled 37 saved_inner) (soiled 29 saved_outer))) 184
       (hexadecimal (saved_inner ++ saved_outer))
   pub loaded : (any next : List ℕ) (done : Bool) → LoadsHmac 160 (saved_inner ++ saved_outer) any next done
-      → IsTrue done × Gives (FinalizesHmac next) 20 (hexadecimal tag)
+      → IsTrue done × Gives (FinalizesHmac next) 20 (hexadecimal tag) × (drop 185 next ≡ drop 185 any)
   pub short : RefusesRoom (FinalizesHmac (kept_hmac saved_inner saved_outer)) 19
   pub not_finalized : RefusesRoom (FinalizesHmac (kept_hmac saved_inner forged)) 20
   pub other_kind : (answer : Bool) → VerifiesHmac (20 ∷ (saved_inner ++ saved_outer) ++ replicate 40 0) tag answer → IsFalse answer

@@ -101,6 +101,7 @@ returns-clause-states c = record {
       (record { valid = is_state; saved = refl }) in (
         keeps.yes,
         λ new done gives. written refl refl ((rw keeps.marked at gives).message tt (replicate 64 0x61 ++ 0x62 ∷ []) keeps.kept),
+        keeps.behind,
       );
   short = λ new done does. refused done (λ fits. absurd (omega (arith, fits))) (does.state after (record { valid = is_state; saved = refl }));
   not_finalized = λ new done does. does.refused not_state;
@@ -132,6 +133,7 @@ returns-clause-hmac_states c =
           let keeps = does.state (fed_text (compress ripemd160) start (codes "Hi There")) text in (
             keeps.yes,
             λ new done gives. written refl refl ((rw keeps.marked at gives).message key (codes "Hi There") keeps.kept),
+            keeps.behind,
           );
       short = λ new done does. refused done (λ fits. absurd (omega (arith, fits))) (does.message key (codes "Hi There") text);
       not_finalized = λ new done does. does.refused (no_outer forged not_state);
