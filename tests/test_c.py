@@ -210,7 +210,7 @@ def assert_tried(least, *command, by=run):
 
 
 def test_calls(build):
-    assert_tried(2162000, *build(CALLS), DATA)
+    assert_tried(2145000, *build(CALLS), DATA)
 
 
 @pytest.mark.parametrize("compiler, package", [("cc", "libgcc-12-dev"), ("clang", "libclang-rt-14-dev")],
