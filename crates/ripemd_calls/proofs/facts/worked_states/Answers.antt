@@ -1,4 +1,4 @@
-use Rattle.std.proofs.Common.{◌≡◌, ℕ, List, [], ◌∷◌, ◌++◌, codes, length, replicate, drop, get_or, refl, sym, ap, subst, ◌∙◌, arith, rules}
+use Rattle.std.proofs.Common.{◌≡◌, ℕ, Bool, List, [], ◌∷◌, ◌++◌, codes, length, replicate, drop, get_or, refl, sym, ap, subst, ◌∙◌, arith, rules}
 use Rattle.ripemd.specs.Standard.Words.{word_bytes}
 use Rattle.ripemd.specs.Standard.Compression.{ripemd160, registers_after, lines_after, compress}
 use Rattle.ripemd.specs.Standard.Hashing.{with_padding, blocks, partial_block, hash}
@@ -11,8 +11,8 @@ use Rattle.ripemd_mac.specs.Laws.{inner_part, outer_part}
 use Rattle.ripemd.specs.Published.{hexadecimal}
 use Rattle.ripemd_mac.specs.Hmac.{KeyedState, key_block, inner_message, outer_message, hmac, keyed_state, fed_text}
 use Rattle.ripemd_mac.specs.Worked.{saved_inner, saved_outer}
-use Rattle.ripemd_calls.specs.KeptStates.{IsSavedState, IsSavedHmac}
-use Rattle.ripemd_calls.specs.Worked.{forged, key, soiled, soiled_bytes}
+use Rattle.ripemd_calls.specs.KeptStates.{IsSavedState, IsSavedHmac, LoadsState, LoadsHmac}
+use Rattle.ripemd_calls.specs.Worked.{forged, key, saved_bytes, soiled, soiled_bytes}
 use Rattle.ripemd_calls.proofs.Working.{written, refused, not_answered}
 use Rattle.ripemd_calls.proofs.facts.worked_states.Goals as goal
 
@@ -75,6 +75,15 @@ exchanged_saved s is =
       saved = ap (λ (bytes : List ℕ). bytes ++ core_and_tail word_bytes s.inner) outer ∙ ap (λ (bytes : List ℕ). saved_outer ++ bytes) inner;
     }
 
+-- where a state is loaded, what is behind it stays
+loaded_behind : (h : HashState) → IsSavedState ripemd160 h saved_bytes → (any next : List ℕ) (done : Bool)
+    → LoadsState 160 saved_bytes any next done → drop 93 next ≡ drop 93 any
+loaded_behind h is any next done does = (does.state h is).behind
+
+loaded_behind_hmac : (s : KeyedState) → IsSavedHmac ripemd160 s (saved_inner ++ saved_outer) → (any next : List ℕ) (done : Bool)
+    → LoadsHmac 160 (saved_inner ++ saved_outer) any next done → drop 185 next ≡ drop 185 any
+loaded_behind_hmac s is any next done does = (does.state s is).behind
+
 -- the HMAC state of the key
 abbrev start : KeyedState
 start = keyed_state ripemd160.start (compress ripemd160) word_bytes key
@@ -101,7 +110,7 @@ returns-clause-states c = record {
       (record { valid = is_state; saved = refl }) in (
         keeps.yes,
         λ new done gives. written refl refl ((rw keeps.marked at gives).message tt (replicate 64 0x61 ++ 0x62 ∷ []) keeps.kept),
-        keeps.behind,
+        loaded_behind after (record { valid = is_state; saved = refl }) any next done does,
       );
   short = λ new done does. refused done (λ fits. absurd (omega (arith, fits))) (does.state after (record { valid = is_state; saved = refl }));
   not_finalized = λ new done does. does.refused not_state;
@@ -133,7 +142,7 @@ returns-clause-hmac_states c =
           let keeps = does.state (fed_text (compress ripemd160) start (codes "Hi There")) text in (
             keeps.yes,
             λ new done gives. written refl refl ((rw keeps.marked at gives).message key (codes "Hi There") keeps.kept),
-            keeps.behind,
+            loaded_behind_hmac after_text text any next done does,
           );
       short = λ new done does. refused done (λ fits. absurd (omega (arith, fits))) (does.message key (codes "Hi There") text);
       not_finalized = λ new done does. does.refused (no_outer forged not_state);
