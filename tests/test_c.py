@@ -11,8 +11,8 @@ CALLS = ROOT / "tests/calls.c"
 HEADER = (CRATE / "nattizhu.h").read_text("utf-8")
 FUNCTIONS = sorted(re.findall(r"^NATTIZHU_CHECKED .*[ *](nattizhu_\w+)\(", HEADER, re.MULTILINE))
 MANUAL = (CRATE / "nattizhu.3").read_text("utf-8").replace(r"\-", "-").replace(r"\e", "\\")
-PROGRAMS = programs("docs/C.md", "c") + re.findall(r"^\.nf\n(#include .*?^}\n)\n.*?^\$ \./digest\n(.*?)\.fi$", MANUAL,
-                                                  re.DOTALL | re.MULTILINE)
+EXAMPLE = re.search(r"^\.nf\n(#include .*?^}\n)\n.*?^\$ \./digest\n(.*?)\.fi$", MANUAL, re.DOTALL | re.MULTILINE)
+PROGRAMS = [*programs("docs/C.md", "c"), EXAMPLE.groups()]
 
 # Debian's packages of the compilers.
 PACKAGES = {"cc": "gcc", "c++": "g++", "clang": "clang", "clang++": "clang"}
