@@ -147,7 +147,9 @@ def by_rattle(levels, programs):
 def by_c(levels, folder):
     """The functions of nattizhu.h beside those of other libraries."""
     libraries = {DEFAULT: folder / "libnattizhu.so.0", "x86-64-v3": folder / "glibc-hwcaps/x86-64-v3/libnattizhu.so.0"}
-    subprocess.run(["cc", "-O2", "-Wall", "-o", folder / "linked", ROOT / "bench/linked.c", "-ldl"], check=True)
+    # Its jumps and calls do not cross 32 bytes, which would slow one library or another on processors up to Cascade Lake.
+    subprocess.run(["cc", "-O2", "-Wall", "-Wa,-mbranches-within-32B-boundaries", "-o", folder / "linked",
+                    ROOT / "bench/linked.c", "-ldl"], check=True)
     subprocess.run([folder / "linked", *(f"{level}={libraries[level]}" for level in levels)], check=True)
 
 

@@ -98,7 +98,10 @@ static size_t output_length(size_t fitting) {
   return (any < 150 && fitting < 100000 ? fitting : any) % 100000;
 }
 
-// The calls that write digests, tags and keys.
+// These bytes, or a null pointer in their place, as the input says.
+static uint8_t *or_null(uint8_t *bytes) { return byte() < 200 ? bytes : NULL; }
+
+// The calls that write digests, tags and keys. They refuse null pointers whose length is not 0.
 static void try_outputs(unsigned kind, nattizhu_variant v) {
   const piece key = take(), bytes = take();
   const list messages = parts(bytes), salts = parts(key);
@@ -108,41 +111,41 @@ static void try_outputs(unsigned kind, nattizhu_variant v) {
   const size_t outputs[] = {size, (record ? bytes.length / record : 3) * size,
                             messages.count * size, kind == 3 ? number() : messages.count * record};
   const size_t length = output_length(outputs[kind % 4]);
-  uint8_t *out = filled(length, 7);
-  bool fits = size != 0, done = false;
+  uint8_t *room = filled(length, 7), *out = or_null(room);
+  const uint8_t *const k = or_null(key.bytes), *const b = or_null(bytes.bytes);
+  const bool has_key = k || !key.length, has_bytes = b || !bytes.length;
+  bool fits = size != 0 && (out || !length), done = false;
   switch (kind) {
   case 0:
-    fits = fits && length == size;
-    done = nattizhu_digest(v, bytes.bytes, bytes.length, out, length);
+    fits = fits && has_bytes && length == size;
+    done = nattizhu_digest(v, b, bytes.length, out, length);
     break;
   case 1:
-    fits = fits && length % size == 0 && is_product(bytes.length, length / size, record);
-    done = nattizhu_each(v, bytes.bytes, bytes.length, record, out, length);
+    fits =
+        fits && has_bytes && length % size == 0 && is_product(bytes.length, length / size, record);
+    done = nattizhu_each(v, b, bytes.length, record, out, length);
     break;
   case 2:
     fits = fits && length == messages.count * size;
     done = nattizhu_list(v, messages.messages, messages.count, out, length);
     break;
   case 3:
-    fits = fits && rounds;
-    done = nattizhu_pbkdf2(v, key.bytes, key.length, bytes.bytes, bytes.length, (uint32_t)rounds,
-                           out, length);
+    fits = fits && has_key && has_bytes && rounds;
+    done = nattizhu_pbkdf2(v, k, key.length, b, bytes.length, (uint32_t)rounds, out, length);
     break;
   case 4:
-    fits = fits && length == size;
-    done = nattizhu_hmac(v, key.bytes, key.length, bytes.bytes, bytes.length, out, length);
-    MUST(nattizhu_hmac_verify_text(v, key.bytes, key.length, bytes.bytes, bytes.length, out,
-                                   length) == done);
+    fits = fits && has_key && has_bytes && length == size;
+    done = nattizhu_hmac(v, k, key.length, b, bytes.length, out, length);
+    MUST(nattizhu_hmac_verify_text(v, k, key.length, b, bytes.length, out, length) == done);
     break;
   case 5:
-    fits = fits && length % size == 0 && is_product(bytes.length, length / size, record);
-    done = nattizhu_hmac_each(v, key.bytes, key.length, bytes.bytes, bytes.length, record, out,
-                              length);
+    fits = fits && has_key && has_bytes && length % size == 0 &&
+           is_product(bytes.length, length / size, record);
+    done = nattizhu_hmac_each(v, k, key.length, b, bytes.length, record, out, length);
     break;
   case 6:
-    fits = fits && length == messages.count * size;
-    done = nattizhu_hmac_list(v, key.bytes, key.length, messages.messages, messages.count, out,
-                              length);
+    fits = fits && has_key && length == messages.count * size;
+    done = nattizhu_hmac_list(v, k, key.length, messages.messages, messages.count, out, length);
     break;
   default:
     fits = fits && rounds && salt_count == messages.count &&
@@ -151,8 +154,8 @@ static void try_outputs(unsigned kind, nattizhu_variant v) {
                                 (uint32_t)rounds, record, out, length);
   }
   MUST(done == fits);
-  MUST(done || all_are(out, length, 7));
-  free(out);
+  MUST(done || all_are(room, length, 7));
+  free(room);
   free(messages.messages);
   free(salts.messages);
   free(key.bytes);

@@ -16,6 +16,9 @@ use ripemd_block::block_api::{BlockFunction, walk};
 use ripemd_mac::hmac::masked_keys;
 use std::marker::Model;
 
+/// How many messages go one after another in any case: so few leave most lanes without work.
+pub const FEW: usize = 2;
+
 /// Writes the digest of each message to the place in `digests` that the message has in `messages`.
 /// There must be as many places as messages. Nothing is allocated.
 ///
@@ -140,8 +143,7 @@ impl<D: BatchDigest> ListHasher<D> {
         requires { length (P.list places.old) ≡ length messages.now }
         ensures { P.list places.new ≡ map (made_by D.step D.output self.now) (targets messages.now) }
     {
-        // So few leave most lanes without work.
-        if messages.len() < 3 {
+        if messages.len() <= FEW {
             self.put_one_by_one::<P>(messages, 0, places);
         } else if self.by_fours {
             self.put_fours::<P>(messages, 0, places);

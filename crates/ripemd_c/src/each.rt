@@ -13,6 +13,7 @@ ghost use Rattle.ripemd_c.specs.Records.{WritesDigests, WritesEachDigest, Writes
 use ripemd::block_api::ByteArray;
 use ripemd::digest::OutputSizeUser;
 use ripemd::{Digest, Ripemd128, Ripemd160, Ripemd256, Ripemd320};
+use ripemd_batch::lists::FEW;
 use ripemd_batch::pbkdf2::digest_size;
 use ripemd_batch::{BatchDigest, ListHasher};
 use ripemd_calls::by_variant;
@@ -35,12 +36,7 @@ pub extern "C" fn nattizhu_each_nonnull(
 {
     by_variant!(
         variant,
-        write_each(
-            &ListHasher::new().in_vectors_of(words),
-            bytes,
-            size,
-            digests
-        )
+        write_each(ListHasher::new(), words, bytes, size, digests)
     )
 }
 
@@ -59,12 +55,7 @@ pub extern "C" fn nattizhu_hmac_each_nonnull(
 {
     by_variant!(
         variant,
-        write_each(
-            &ListHasher::keyed(key).in_vectors_of(words),
-            bytes,
-            size,
-            tags
-        )
+        write_each(ListHasher::keyed(key), words, bytes, size, tags)
     )
 }
 
@@ -81,7 +72,7 @@ pub extern "C" fn nattizhu_list_nonnull(
 {
     by_variant!(
         variant,
-        write_list(&ListHasher::new().in_vectors_of(words), messages, digests)
+        write_list(ListHasher::new(), words, messages, digests)
     )
 }
 
@@ -99,18 +90,21 @@ pub extern "C" fn nattizhu_hmac_list_nonnull(
 {
     by_variant!(
         variant,
-        write_list(&ListHasher::keyed(key).in_vectors_of(words), texts, tags)
+        write_list(ListHasher::keyed(key), words, texts, tags)
     )
 }
 
-// Writes what the hasher makes of each record, if the lengths fit.
+// Writes what the hasher makes of each record, if the lengths fit. Few records have a branch of their own, in which the
+// compiler keeps the hasher in registers.
+#[inline(always)]
 fn write_each<D: BatchDigest>(
-    hasher: &ListHasher<D>,
+    hasher: ListHasher<D>,
+    words: u32,
     bytes: &[u8],
     size: usize,
     outputs: &mut [u8],
 ) -> bool
-    ensures { FillsEach D.OUTPUT_SIZE (made_by D.step D.output hasher.now) bytes.now size
+    ensures { FillsEach D.OUTPUT_SIZE (made_by D.step D.output hasher) bytes.now size
         outputs.old outputs.new result }
 {
     let width = digest_size::<D>();
@@ -118,24 +112,36 @@ fn write_each<D: BatchDigest>(
     if !is_product(outputs.len(), count, width) || !is_product(bytes.len(), count, size) {
         return false;
     }
-    let mut messages: [&[u8]; GROUP] = [&[]; GROUP];
-    write_records(hasher, bytes, size, 0, count, &mut messages, outputs);
+    if count <= FEW {
+        let mut messages: [&[u8]; FEW] = [&[]; FEW];
+        write_group(&hasher, bytes, size, 0, &mut messages[..count], outputs);
+    } else {
+        let hasher = hasher.in_vectors_of(words);
+        let mut messages: [&[u8]; GROUP] = [&[]; GROUP];
+        write_records(&hasher, bytes, size, 0, count, &mut messages, outputs);
+    }
     true
 }
 
-// Writes what the hasher makes of each message, if there is room for so many outputs.
+// Writes what the hasher makes of each message, if there is room for so many outputs. Few messages have a branch too.
+#[inline(always)]
 fn write_list<D: BatchDigest>(
-    hasher: &ListHasher<D>,
+    hasher: ListHasher<D>,
+    words: u32,
     messages: &[&[u8]],
     outputs: &mut [u8],
 ) -> bool
-    ensures { FillsList D.OUTPUT_SIZE (made_by D.step D.output hasher.now) (targets messages.now)
+    ensures { FillsList D.OUTPUT_SIZE (made_by D.step D.output hasher) (targets messages.now)
         outputs.old outputs.new result }
 {
     if !is_product(outputs.len(), messages.len(), digest_size::<D>()) {
         return false;
     }
-    hasher.write_joined(messages, outputs);
+    if messages.len() <= FEW {
+        hasher.write_joined(messages, outputs);
+    } else {
+        hasher.in_vectors_of(words).write_joined(messages, outputs);
+    }
     true
 }
 
@@ -170,8 +176,27 @@ fn write_records<'a, D: BatchDigest>(
         write_records(hasher, bytes, size, at + half, rest, messages, back);
         return;
     }
-    put_records(bytes, size, at, &mut messages[..count]);
-    hasher.write_joined(&messages[..count], outputs);
+    write_group(hasher, bytes, size, at, &mut messages[..count], outputs);
+}
+
+// Writes what the hasher makes of as many records from one on as there are places for them.
+#[inline(always)]
+fn write_group<'a, D: BatchDigest>(
+    hasher: &ListHasher<D>,
+    bytes: &'a [u8],
+    size: usize,
+    at: usize,
+    places: &mut [&'a [u8]],
+    outputs: &mut [u8],
+)
+    requires fits { at + length places.old < 2 ^ 64 }
+    requires length { (at + length places.old) * size ≤ length bytes.now }
+    requires room { length outputs.old ≡ length places.old * D.Output.LEN }
+    ensures { outputs.new ≡ flat_map (made_by D.step D.output hasher.now)
+        (records at (length places.old) size bytes.now) }
+{
+    put_records(bytes, size, at, places);
+    hasher.write_joined(places, outputs);
 }
 
 // Half of them, and as many more as make whole eights, which are hashed at once.

@@ -34,10 +34,7 @@ pub fn verify_text(variant: u32, key: &[u8], text: &[u8], tag: &[u8]) -> bool
 pub fn init(variant: u32, state: &mut [u8; 225], key: &[u8]) -> bool
     ensures { InitsHmac variant key.now state.old state.new result }
 {
-    by_variant!(
-        variant,
-        init_kept::<Hmac>(key, 128 + (variant / 8) as u8, state)
-    )
+    by_variant!(variant, init_kept::<Hmac>(key, state))
 }
 
 /// Appends bytes to the text. False exactly if these are the bytes of no HMAC state, and then nothing is
@@ -82,10 +79,7 @@ pub fn save(state: &[u8; 225], saved: &mut [u8]) -> bool
 pub fn load(variant: u32, state: &mut [u8; 225], saved: &[u8]) -> bool
     ensures { LoadsHmac variant saved.now state.old state.new result }
 {
-    by_variant!(
-        variant,
-        load_saved::<Hmac>(saved, 128 + (variant / 8) as u8, state)
-    )
+    by_variant!(variant, load_saved::<Hmac>(saved, state))
 }
 
 // Writes the tag of a text that is there as a whole, if its place has the size of it.

@@ -9,15 +9,16 @@ ghost use Rattle.ripemd_calls.specs.Variants.{AtVariant, Writes, WritesDigest, d
 
 /// A call of a generic function at the variant whose digests have so many bits, at its hasher or the HMAC over
 /// it. False if there is none. Whoever uses it has the names of the hashers in scope, and of `Hmac`. Of all four
-/// in one `match` the compiler would make a table of jumps, which at times take longer.
+/// in one `match` the compiler would make a table of jumps, which at times take longer. RIPEMD-160 is the first arm,
+/// since the compiler puts the code of that arm right behind the tests, where no jump leads.
 #[macro_export]
 macro_rules! by_variant {
     ($bits:expr, $call:ident::<Hmac> $arguments:tt) => {{
         let bits: u32 = $bits;
         if bits < 256 {
             match bits {
-                128 => $call::<Hmac<Ripemd128>> $arguments,
                 160 => $call::<Hmac<Ripemd160>> $arguments,
+                128 => $call::<Hmac<Ripemd128>> $arguments,
                 _ => false,
             }
         } else {
@@ -32,8 +33,8 @@ macro_rules! by_variant {
         let bits: u32 = $bits;
         if bits < 256 {
             match bits {
-                128 => $call::<Ripemd128> $arguments,
                 160 => $call::<Ripemd160> $arguments,
+                128 => $call::<Ripemd128> $arguments,
                 _ => false,
             }
         } else {

@@ -1,7 +1,7 @@
 //! What is done to the states that callers keep, the same for hash states and HMAC states. Between the pieces of a
 //! message the caller keeps a state as a mark and the bytes that it is saved as, but that any may stand behind a tail.
 
-ghost use Rattle.std.specs.Prelude.{◌≡◌, ◌↔◌, ℕ, ◌+◌, ◌<◌, List, [], length, drop, slice_index, IsTrue, IsFalse};
+ghost use Rattle.std.specs.Prelude.{◌≡◌, ◌↔◌, ℕ, ◌+◌, ◌%◌, ◌<◌, List, [], length, drop, slice_index, IsTrue, IsFalse};
 ghost use Rattle.ripemd.specs.Saved.{IsSaved, cleared};
 ghost use Rattle.ripemd.specs.States.{initial_state};
 ghost use Rattle.ripemd_mac.specs.Hmac.{keyed_state};
@@ -24,6 +24,13 @@ pub(crate) trait Kept: Resumable {
     /// Makes it.
     fn begin(key: &[u8]) -> Self
         ensures { result ≡ first key.now };
+
+    // The mark before its bytes: the size of a digest, and that and 128 for HMAC.
+    ghost mark: { ℕ };
+
+    /// The mark.
+    fn mark() -> u8
+        ensures { result ≡ mark };
 
     /// Puts zeros behind the tails of kept bytes.
     fn clear(kept: &mut [u8])
@@ -53,6 +60,12 @@ impl<F: ResumableFunction> Kept for BlockHasher<F> {
         BlockHasher::new()
     }
 
+    ghost mark = { F.Digest.LEN % 256 };
+
+    fn mark() -> u8 {
+        <F::Digest as ByteArray>::LEN as u8
+    }
+
     fn clear(kept: &mut [u8]) {
         clear(<F::SavedCore as ByteArray>::LEN, kept);
     }
@@ -80,6 +93,12 @@ impl<F: ResumableFunction> Kept for Hmac<BlockHasher<F>> {
         Hmac::new(key)
     }
 
+    ghost mark = { (128 + F.Digest.LEN) % 256 };
+
+    fn mark() -> u8 {
+        128u8.wrapping_add(<F::Digest as ByteArray>::LEN as u8)
+    }
+
     fn clear(kept: &mut [u8]) {
         let (inner, outer) = kept.split_at_mut(<F::SavedHasher as ByteArray>::LEN);
         clear(<F::SavedCore as ByteArray>::LEN, inner);
@@ -104,28 +123,28 @@ impl<F: ResumableFunction> Kept for Hmac<BlockHasher<F>> {
     ghost saved_is_clear = { saved_hmac_is_clear F.injective_output F.SavedCore.LEN F.saved_core_size };
 }
 
-// Keeps the state before the first byte behind a mark.
-pub(crate) fn init_kept<S: Kept>(key: &[u8], mark: u8, state: &mut [u8]) -> bool
+// Keeps the state before the first byte behind its mark.
+pub(crate) fn init_kept<S: Kept>(key: &[u8], state: &mut [u8]) -> bool
     requires room { S.Saved.LEN < length state.old }
     ensures yes { IsTrue result }
-    ensures marked { slice_index state.new 0 ≡ mark }
+    ensures marked { slice_index state.new 0 ≡ S.mark }
     ensures kept { IsSaved S.is_valid S.state_bytes (S.fed (S.first key.now) [])
         (S.cleared (kept_in S.Saved.LEN state.new)) }
     ensures behind { drop (1 + S.Saved.LEN) state.new ≡ drop (1 + S.Saved.LEN) state.old }
 {
     let (first, rest) = state.split_at_mut(1);
     let (place, _) = rest.split_at_mut(<S::Saved as ByteArray>::LEN);
-    first[0] = mark;
+    first[0] = S::mark();
     S::begin(key).keep(place);
     true
 }
 
-// Keeps the state that is saved as these bytes behind a mark. False exactly if none is, and then nothing is
+// Keeps the state that is saved as these bytes behind its mark. False exactly if none is, and then nothing is
 // written.
-pub(crate) fn load_saved<S: Kept>(saved: &[u8], mark: u8, state: &mut [u8]) -> bool
+pub(crate) fn load_saved<S: Kept>(saved: &[u8], state: &mut [u8]) -> bool
     requires room { S.Saved.LEN < length state.old }
     ensures { WithState (IsSaved S.is_valid S.state_bytes) saved.now
-        (λ s. Keeps (λ s kept. IsSaved S.is_valid S.state_bytes s (S.cleared kept)) mark S.Saved.LEN s
+        (λ s. Keeps (λ s kept. IsSaved S.is_valid S.state_bytes s (S.cleared kept)) S.mark S.Saved.LEN s
         state.old state.new result)
         (Refuses state.old state.new result) }
 {
@@ -138,7 +157,7 @@ pub(crate) fn load_saved<S: Kept>(saved: &[u8], mark: u8, state: &mut [u8]) -> b
     let Some(_state) = S::load_kept(saved) else {
         return false;
     };
-    put(saved, mark, state);
+    put(saved, S::mark(), state);
     true
 }
 

@@ -10,7 +10,7 @@ use ripemd::{Ripemd128, Ripemd160, Ripemd256, Ripemd320};
 pub fn init(variant: u32, state: &mut [u8; 113]) -> bool
     ensures { InitsState variant state.old state.new result }
 {
-    by_variant!(variant, init_kept(&[], (variant / 8) as u8, state))
+    by_variant!(variant, init_kept(&[], state))
 }
 
 /// Appends bytes to the message. False exactly if these are the bytes of no hash state, and then nothing
@@ -45,5 +45,5 @@ pub fn save(state: &[u8; 113], saved: &mut [u8]) -> bool
 pub fn load(variant: u32, state: &mut [u8; 113], saved: &[u8]) -> bool
     ensures { LoadsState variant saved.now state.old state.new result }
 {
-    by_variant!(variant, load_saved(saved, (variant / 8) as u8, state))
+    by_variant!(variant, load_saved(saved, state))
 }

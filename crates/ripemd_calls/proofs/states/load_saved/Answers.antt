@@ -12,7 +12,7 @@ returns g c =
     record {
       state = λ s is. record {
         yes = search rules;
-        marked = c.put.ensures.marked;
+        marked = c.put.ensures.marked ∙ c.mark.ensures;
         kept = record { valid = is.valid; saved = is.saved ∙ sym clear ∙ ap cleared (sym there) };
         behind = rw size at c.put.ensures.behind;
       };
