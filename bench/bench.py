@@ -147,8 +147,10 @@ def by_rattle(levels, programs):
 def by_c(levels, folder):
     """The functions of nattizhu.h beside those of other libraries."""
     libraries = {DEFAULT: folder / "libnattizhu.so.0", "x86-64-v3": folder / "glibc-hwcaps/x86-64-v3/libnattizhu.so.0"}
-    # Its jumps and calls do not cross 32 bytes, which would slow one library or another on processors up to Cascade Lake.
-    subprocess.run(["cc", "-O2", "-Wall", "-Wa,-mbranches-within-32B-boundaries", "-o", folder / "linked",
+    # Loops begin at a multiple of 32 bytes, and no jump or call crosses one: processors from Skylake to Cascade Lake decode
+    # such 32 bytes anew each time, and so one library or another would take longer.
+    subprocess.run(["cc", "-O2", "-Wall", "-falign-loops=32",
+                    "-Wa,-malign-branch-boundary=32,-malign-branch=jcc+fused+jmp+call+indirect+ret", "-o", folder / "linked",
                     ROOT / "bench/linked.c", "-ldl"], check=True)
     subprocess.run([folder / "linked", *(f"{level}={libraries[level]}" for level in levels)], check=True)
 

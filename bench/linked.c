@@ -7,6 +7,7 @@
 // libraries take turns, and the rounds are outermost: a disturbance of seconds spoils a round of all
 // figures, not all rounds of one. There are more rounds while figures still fall. Below each table
 // stands how far its ratios were apart in single rounds: little, where the machine was quiet.
+#include <alloca.h>
 #include <dlfcn.h>
 #include <stdbool.h>
 #include <stdint.h>
@@ -314,7 +315,7 @@ static void add_nettle(void *from) {
   TAKE(from, nettle_hmac_ripemd160_set_key), TAKE(from, nettle_hmac_ripemd160_update);
   TAKE(from, nettle_hmac_ripemd160_digest), TAKE(from, nettle_ripemd160_init);
   TAKE(from, nettle_ripemd160_update), TAKE(from, nettle_ripemd160_digest);
-  static uint64_t state[32]; // more than a hash state has
+  static _Alignas(64) uint64_t state[32]; // more than a hash state has
   char version[30];
   snprintf(version, sizeof version, "%d.%d", nettle_version_major(), nettle_version_minor());
   struct library *nettle = add("Nettle", version);
@@ -394,7 +395,7 @@ static void add_ours(char *argument) {
   *(void **)&added->digest = function(from, "nattizhu_digest");
   *(void **)&added->each = function(from, "nattizhu_each");
   *(void **)&added->tag_each = function(from, "nattizhu_hmac_each");
-  static uint8_t states[MOST][113];
+  static _Alignas(64) uint8_t states[MOST][128]; // 113 bytes of them are a state
   our_pieces(added, states[added - libraries]);
   *(void **)&added->init = function(from, "nattizhu_init");
   *(void **)&added->update = function(from, "nattizhu_update");
@@ -596,8 +597,11 @@ static double ratio(int l, int cell, bool of_round) {
   return least / (of_round ? time->in_round : time->least);
 }
 
-// Measures all cells, the libraries in turn.
+// Measures all cells, the libraries in turn. In each round the stack lies elsewhere within 4 KiB: a
+// load waits for an earlier store that lies alike there, and where the stack begins is a matter of
+// how the program was started.
 static void measure_all(int round) {
+  *(volatile char *)alloca(1 + 64 * (11 * round % 64)) = 0;
   for (int cell = 0; cell < CELLS; cell++) {
     for (int l = 0; l < count; l++)
       if (has_cell(&libraries[l], cell))

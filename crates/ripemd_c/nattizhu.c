@@ -6,8 +6,8 @@
 /* Messages of such a list that are handed on at once. */
 enum { GROUP = 128 };
 
-/* How many words a vector of the processor has. With four, lists go by fours, which takes less time
- * (docs/DECISIONS.md); only x86-64 is measured. */
+/* By how many words lists go: by fours where vectors have four, which takes less time
+ * (docs/DECISIONS.md). Those of ARM64 have four too, but there neither was timed. */
 #if defined __x86_64__ && !defined __AVX2__
 enum { WORDS = 4 };
 #else
