@@ -147,8 +147,8 @@ def by_rattle(levels, programs):
 def by_c(levels, folder):
     """The functions of nattizhu.h beside those of other libraries."""
     libraries = {DEFAULT: folder / "libnattizhu.so.0", "x86-64-v3": folder / "glibc-hwcaps/x86-64-v3/libnattizhu.so.0"}
-    # Loops begin at a multiple of 32 bytes, and no jump or call crosses one: processors from Skylake to Cascade Lake decode
-    # such 32 bytes anew each time, and so one library or another would take longer.
+    # Loops begin at a multiple of 32 bytes, and no jump or call crosses or ends at one: processors from Skylake to Cascade
+    # Lake decode such 32 bytes anew each time. So no library takes longer because of where its loop happens to lie.
     subprocess.run(["cc", "-O2", "-Wall", "-falign-loops=32",
                     "-Wa,-malign-branch-boundary=32,-malign-branch=jcc+fused+jmp+call+indirect+ret", "-o", folder / "linked",
                     ROOT / "bench/linked.c", "-ldl"], check=True)

@@ -40,7 +40,7 @@ def four_threads(make):
         for thread in threads:
             thread.join()
 
-    one, four = least([lambda: work(1), lambda: work(4)], 1, 5)
+    one, four = least([lambda: work(1), lambda: work(4)], 1, 40)
     return f"{four / one:.2f}"
 
 

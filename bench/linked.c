@@ -395,7 +395,7 @@ static void add_ours(char *argument) {
   *(void **)&added->digest = function(from, "nattizhu_digest");
   *(void **)&added->each = function(from, "nattizhu_each");
   *(void **)&added->tag_each = function(from, "nattizhu_hmac_each");
-  static _Alignas(64) uint8_t states[MOST][128]; // 113 bytes of them are a state
+  static _Alignas(64) uint8_t states[MOST][128]; // a state takes 113 of 128 bytes
   our_pieces(added, states[added - libraries]);
   *(void **)&added->init = function(from, "nattizhu_init");
   *(void **)&added->update = function(from, "nattizhu_update");
@@ -598,8 +598,8 @@ static double ratio(int l, int cell, bool of_round) {
 }
 
 // Measures all cells, the libraries in turn. In each round the stack lies elsewhere within 4 KiB: a
-// load waits for an earlier store that lies alike there, and where the stack begins is a matter of
-// how the program was started.
+// load waits for an earlier store whose address is equal modulo 4 KiB, and where the stack begins is a
+// matter of how the program was started.
 static void measure_all(int round) {
   *(volatile char *)alloca(1 + 64 * (11 * round % 64)) = 0;
   for (int cell = 0; cell < CELLS; cell++) {

@@ -207,6 +207,7 @@ def assert_tried(least, *command, by=run):
     printed = by(*command).stdout
     good, tried = map(int, re.search(r"^calls: (\d+) of (\d+) cases as expected$", printed, re.MULTILINE).groups())
     assert good == tried >= least, f"tests/calls.c has to try at least {least} cases, and tried {tried}"
+    assert by is memcheck or "no addresses" not in printed, "tests/calls.c has to try a key that is too long"
 
 
 def test_calls(build):

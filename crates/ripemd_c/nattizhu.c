@@ -6,8 +6,8 @@
 /* Messages of such a list that are handed on at once. */
 enum { GROUP = 128 };
 
-/* By how many words lists go: by fours where vectors have four, which takes less time
- * (docs/DECISIONS.md). Those of ARM64 have four too, but there neither was timed. */
+/* The words of a vector by which lists go: four on x86-64 without AVX2, where it takes less time
+ * (docs/DECISIONS.md), and elsewhere eight. On ARM64 neither was timed. */
 #if defined __x86_64__ && !defined __AVX2__
 enum { WORDS = 4 };
 #else
