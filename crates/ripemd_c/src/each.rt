@@ -1,6 +1,6 @@
 //! Digests of many messages, and their tags under one key (RFC 2104): of records of one size that lie
-//! one after another, and of a list of messages of any sizes. The caller says how many words a vector of the
-//! processor has, by which only the time differs.
+//! one after another, and of a list of messages of any sizes. The caller says of how many
+//! words the vectors are by which lists go; only the time depends on it.
 
 ghost use Rattle.std.specs.Prelude.{◌≡◌, ◌↔◌, ◌+◌, ◌*◌, ◌^◌, ◌<◌, ◌≤◌, length, IsTrue};
 ghost use Rattle.std.specs.List.{flat_map};
@@ -179,7 +179,7 @@ fn write_records<'a, D: BatchDigest>(
     write_group(hasher, bytes, size, at, &mut messages[..count], outputs);
 }
 
-// Writes what the hasher makes of as many records from one on as there are places for them.
+// Writes what the hasher makes of the records from `at` on, one for each place.
 #[inline(always)]
 fn write_group<'a, D: BatchDigest>(
     hasher: &ListHasher<D>,
