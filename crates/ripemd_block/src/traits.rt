@@ -255,15 +255,6 @@ pub trait ListBlockFunction: BlockFunction<Digest: ByteArray> {
         *first = state;
     }
 
-    /// The same. A block function may have a second copy of its walk here, which the compiler inlines into its
-    /// one caller.
-    fn walk_here(first: &mut Self::State, blocks: &[[u8; 64]])
-        ensures value { first.new ≡ walk Self.step_of first.old blocks.now }
-        ensures valid { Self.is_state first.old → Self.is_state first.new }
-    {
-        Self::walk_on(first, blocks);
-    }
-
     // They are those of the block function.
     ghost over_lists: { IsOverLists list Self.is_state Self.step_of Self.output_of
         Self.Digest.bytes are_words step output };
@@ -306,7 +297,7 @@ pub trait ResumableFunction: ListBlockFunction {
         let digest = Self::Digest::from_slice(output).unwrap();
         if let Some(state) = Self::from_output(digest) {
             let mut last = state;
-            Self::walk_here(&mut last, blocks);
+            Self::walk_on(&mut last, blocks);
             output.copy_from_slice(Self::output(last).as_bytes());
         }
     }

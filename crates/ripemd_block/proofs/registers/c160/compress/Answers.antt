@@ -4,7 +4,7 @@ use Rattle.ripemd_block.proofs.Stepping.{no_rounds, next_round, compress_from, w
 use Rattle.ripemd_block.proofs.registers.c160.compress.Goals as goal
 
 pub returns-clause-value : goal.returns-clause-value
-returns-clause-value g c =
+returns-clause-value c =
     let words = c.words_of_five_rounds-words.ensures in
     c.joint_state_of_five.ensures ∙ compress_from (next_round (next_round (next_round (next_round (next_round
     (no_rounds ripemd160 c.args.state c.args.block.now c.lines_of_160.ensures)
@@ -15,4 +15,4 @@ returns-clause-value g c =
     c.round-lines-5.ensures.left c.round-lines-5.ensures.right refl words)
 
 pub returns-clause-words : goal.returns-clause-words
-returns-clause-words g c = record { count = omega arith; fit = rw c.joint_state_of_five.ensures (word_sums_fit _ _) }
+returns-clause-words c = record { count = omega arith; fit = rw c.joint_state_of_five.ensures (word_sums_fit _ _) }

@@ -4,7 +4,7 @@ use Rattle.ripemd_block.proofs.Stepping.{no_rounds, next_round, compress_from, w
 use Rattle.ripemd_block.proofs.registers.c256.compress.Goals as goal
 
 pub returns-clause-value : goal.returns-clause-value
-returns-clause-value g c =
+returns-clause-value c =
     let words = c.words_of_four_rounds-words.ensures in
     c.double_state_of_four.ensures ∙ compress_from (next_round (next_round (next_round (next_round
     (no_rounds ripemd256 c.args.state c.args.block.now c.lines_of_256.ensures)
@@ -14,4 +14,4 @@ returns-clause-value g c =
     c.round-4.ensures.left c.round-4.ensures.right c.exchange-lines-4.ensures words)
 
 pub returns-clause-words : goal.returns-clause-words
-returns-clause-words g c = record { count = omega arith; fit = rw c.double_state_of_four.ensures (word_sums_fit _ _) }
+returns-clause-words c = record { count = omega arith; fit = rw c.double_state_of_four.ensures (word_sums_fit _ _) }
