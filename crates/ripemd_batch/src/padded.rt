@@ -5,7 +5,7 @@ ghost use Rattle.ripemd_block.specs.Standard.Words.{block_size, eight_bytes};
 ghost use Rattle.ripemd_block.specs.Standard.Hashing.{length_place, with_padding, blocks};
 ghost use Rattle.ripemd_batch.specs.Lanes.{padded_after};
 
-use ripemd::padding::{whole_blocks, write_length, write_marked};
+use ripemd::padding::{last_blocks, whole_blocks};
 use std::marker::Model;
 
 /// The blocks of a message with its padding: the whole ones, and the last one or two. Contracts see
@@ -80,24 +80,5 @@ impl<'a, 'b> MessageBlocks<'a, 'b> {
         } else {
             &self.last[0]
         }
-    }
-}
-
-// The one or two blocks of the tail of a message whose length is `bit_len` bits, made in the place
-// of two blocks of zero bytes.
-#[inline(always)]
-fn last_blocks<'b>(tail: &[u8], bit_len: u64, zeros: &'b mut [[u8; 64]; 2]) -> &'b [[u8; 64]]
-    requires short { length tail.now < block_size }
-    requires zeros { zeros.old ≡ replicate 2 (replicate block_size 0) }
-    ensures value { result.now ≡ blocks (with_padding tail.now bit_len) }
-    ensures some { 0 < length result.now }
-{
-    write_marked(&mut zeros[0], tail);
-    if tail.len() < 56 {
-        write_length(&mut zeros[0], bit_len);
-        &zeros[..1]
-    } else {
-        write_length(&mut zeros[1], bit_len);
-        &zeros[..2]
     }
 }

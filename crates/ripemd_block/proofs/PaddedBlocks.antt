@@ -1,14 +1,13 @@
 -- The blocks of a message with its padding, by their places.
 use Rattle.std.proofs.Common.{◌≡◌, ℕ, zero, suc, ◌+◌, ◌-◌, ◌*◌, ◌/◌, ◌%◌, ◌^◌, ◌<◌, ◌≤◌, refl, sym, ap, ◌∙◌, arith}
-use Rattle.std.proofs.Common.{List, [], ◌∷◌, ◌++◌, length, take, drop, replicate, Option, None, Some, get_or}
+use Rattle.std.proofs.Common.{List, [], ◌∷◌, ◌++◌, length, take, drop, replicate, Some, get_or}
 use Rattle.std.specs.Int.{w64, from_le_bytes}
 use Rattle.std.specs.List.{slice_get}
-use Rattle.std.specs.Option.{option_to_list}
 use Rattle.std.specs.Simd.{first_chunks}
 use Rattle.std.proofs.lemmas.List.{length-append, length-replicate, length-drop, take_at, take_all, drop_at, drop-drop}
 use Rattle.std.proofs.lemmas.List.{take-append-drop, take-append-le}
 use Rattle.std.proofs.lemmas.Nat.{from_le_bytes-to_le_bytes_8}
-use Rattle.std.proofs.lemmas.Option.{slice_get-get_or, slice_get_past}
+use Rattle.std.proofs.lemmas.Option.{slice_get-get_or}
 use Rattle.ripemd_block.specs.Standard.Words.{eight_bytes}
 use Rattle.ripemd_block.specs.Standard.Hashing.{zero_count, with_padding, padded_message, blocks, partial_block}
 use Rattle.ripemd_block.specs.Laws.Blocks.{length-blocks}
@@ -55,28 +54,16 @@ whole_block m place within =
     (sym (slice_get-get_or (blocks m) place [] within))
 
 -- one of the blocks after them, or none
-pub last_block : (m : List ℕ) (place : ℕ) {tail first : List ℕ} {bit_length : ℕ} (second : Option (List ℕ))
-    → first ∷ option_to_list second ≡ blocks (with_padding tail bit_length)
+pub last_block : (m : List ℕ) (place : ℕ) {tail : List ℕ} {bit_length : ℕ} (last : List (List ℕ))
+    → last ≡ blocks (with_padding tail bit_length)
     → tail ≡ partial_block m → bit_length ≡ 8 * length m % 2 ^ 64 → length (blocks m) ≤ place
-    → slice_get (first ∷ option_to_list second) (place - length (blocks m))
-    ≡ slice_get (blocks (padded_message m)) place
-last_block m place second last tail_is length_is behind =
+    → slice_get last (place - length (blocks m)) ≡ slice_get (blocks (padded_message m)) place
+last_block m place last of_last tail_is length_is behind =
     let n : ℕ = 8 * length m % 2 ^ 64 in
     let rest = blocks (with_padding (partial_block m) n) in
     let j : ℕ = place - length (blocks m) in
     rw (with_padding_rest m n, slice_get-append-second (blocks m) rest place j (omega arith))
-    (rw (last, tail_is, length_is) refl)
-
--- the second of the one or two
-pub second_block : (first : List ℕ) (second : Option (List ℕ)) → second ≡ slice_get (first ∷ option_to_list second) 1
-second_block first None = refl
-second_block first (Some block) = refl
-
--- there is no third
-pub no_third_block : (first : List ℕ) (second : Option (List ℕ)) (j : ℕ) → 2 ≤ j
-    → None ≡ slice_get (first ∷ option_to_list second) j
-no_third_block first None j h = sym (slice_get_past (first ∷ []) j (omega arith))
-no_third_block first (Some block) j h = sym (slice_get_past (first ∷ block ∷ []) j h)
+    (rw (of_last, tail_is, length_is) refl)
 
 -- ---- what a padded message begins with and ends in, and whole blocks
 

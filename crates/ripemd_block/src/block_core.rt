@@ -8,7 +8,7 @@ ghost use Rattle.ripemd_block.specs.States.{initial_state, after_blocks, with_ta
 
 use crate::arrays::{ByteArray, read_count};
 use crate::buffer::Buffer;
-use crate::padding::{padded_words, whole_blocks, write_length, write_marked};
+use crate::padding::{last_blocks, padded_words, whole_blocks};
 use crate::traits::{
     AlgorithmName, BlockFunction, BlockSizeUser, BufferKindUser, DeserializeStateError, Eager,
     FixedOutputCore, HashMarker, HashMeaning, ListBlockFunction, OutputSizeUser, Reset,
@@ -186,14 +186,8 @@ fn walk_tail<F: ListBlockFunction>(state: &mut F::State, tail: &[u8], bit_len: u
     ensures value { state.new ≡ walk F.step_of state.old (blocks (with_padding tail.now bit_len)) }
     ensures valid { F.is_state state.new }
 {
-    let mut last = [0; 64];
-    write_marked(&mut last, tail);
-    if tail.len() >= 56 {
-        F::walk_on(state, from_ref(&last));
-        last = [0; 64];
-    }
-    write_length(&mut last, bit_len);
-    F::walk_on(state, from_ref(&last));
+    let mut zeros = [[0; 64]; 2];
+    F::walk_on(state, last_blocks(tail, bit_len, &mut zeros));
 }
 
 /// The digest of a whole message.

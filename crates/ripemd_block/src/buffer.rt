@@ -133,8 +133,12 @@ impl Buffer {
         ensures empty { self.new ≡ [] }
         ensures valid { IsTail self.old }
     {
-        let len = self.len;
-        let padded = last_blocks(&self.bytes[..len], bit_len);
+        let mut zeros = [[0; 64]; 2];
+        let last = last_blocks(self.get_data(), bit_len, &mut zeros);
+        let padded = Padded {
+            first: last[0],
+            second: last.get(1).copied(),
+        };
         self.len = 0;
         padded
     }

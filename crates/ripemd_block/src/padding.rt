@@ -1,13 +1,11 @@
 //! The padding, which is that of MD4: the whole blocks of a message, the last blocks, which its tail
 //! and the padding make up, and each of its blocks by its place, so that nothing has to be stored.
 
-ghost use Rattle.std.specs.Prelude.{◌≡◌, ◌-◌, ◌%◌, ◌<◌, ◌≤◌, ◌↔◌, ◌∷◌, ◌++◌, length, take, replicate, IsSome, []};
+ghost use Rattle.std.specs.Prelude.{◌≡◌, ◌-◌, ◌%◌, ◌<◌, ◌≤◌, ◌↔◌, ◌∷◌, ◌++◌, length, take, replicate, []};
 ghost use Rattle.std.specs.List.{slice_get};
-ghost use Rattle.std.specs.Option.{option_to_list};
 ghost use Rattle.ripemd_block.specs.Standard.Words.{block_size, eight_bytes, word_bytes};
 ghost use Rattle.ripemd_block.specs.Standard.Hashing.{length_place, with_padding};
 ghost use Rattle.ripemd_block.specs.Standard.Hashing.{padded_message, blocks, partial_block};
-ghost use Rattle.ripemd_block.specs.States.{IsTail};
 
 use crate::arrays::{read_words, write_short};
 use std::simd::prelude::*;
@@ -51,53 +49,40 @@ pub fn pad_block(message: &[u8], place: usize) -> Option<[u8; 64]>
         return Some(whole[place]);
     }
     let bit_len = (message.len() as u64).wrapping_mul(8);
-    let padded = last_blocks(tail, bit_len);
-    match place - whole.len() {
-        0 => Some(padded.first),
-        1 => padded.second,
-        _ => None,
-    }
-}
-
-// The one or two blocks of the tail of a message whose length is `bit_len` bits.
-pub(crate) fn last_blocks(tail: &[u8], bit_len: u64) -> Padded
-    requires { length tail.now < block_size }
-    ensures value { result.first ∷ option_to_list result.second
-        ≡ blocks (with_padding tail.now bit_len) }
-    ensures second { IsSome result.second ↔ (length_place ≤ length tail.now) }
-    ensures valid { IsTail tail.now }
-{
-    let mut first = marked_block(tail);
-    if tail.len() < 56 {
-        write_length(&mut first, bit_len);
-        Padded {
-            first,
-            second: None,
-        }
+    let mut zeros = [[0; 64]; 2];
+    let last = last_blocks(tail, bit_len, &mut zeros);
+    let behind = place - whole.len();
+    if behind < last.len() {
+        Some(last[behind])
     } else {
-        let mut second = [0; 64];
-        write_length(&mut second, bit_len);
-        Padded {
-            first,
-            second: Some(second),
-        }
+        None
     }
 }
 
-// The tail, the byte 0x80, and zero bytes to the end of the block.
-fn marked_block(tail: &[u8]) -> [u8; 64]
-    requires { length tail.now < block_size }
-    ensures block { result ≡ tail.now ++ 0x80 ∷ replicate (63 - length tail.now) 0 }
-    ensures valid { IsTail tail.now }
+/// The one or two blocks of the tail of a message whose length is `bit_len` bits: the tail, the byte 0x80, the fewest
+/// zero bytes that leave room for the length, and the length in 8 bytes, least first (RFC 1320, sections 3.1 and
+/// 3.2). They are made in the place of two blocks of zero bytes.
+#[inline(always)]
+pub fn last_blocks<'a>(tail: &[u8], bit_len: u64, zeros: &'a mut [[u8; 64]; 2]) -> &'a [[u8; 64]]
+    requires short { length tail.now < block_size }
+    requires zeros { zeros.old ≡ replicate 2 (replicate block_size 0) }
+    ensures value { result.now ≡ blocks (with_padding tail.now bit_len) }
+    ensures two { (length result.now ≡ 2) ↔ (length_place ≤ length tail.now) }
+    ensures some { (0 < length result.now) × (length result.now ≤ 2) }
 {
-    let mut block = [0; 64];
-    write_marked(&mut block, tail);
-    block
+    write_marked(&mut zeros[0], tail);
+    if tail.len() < 56 {
+        write_length(&mut zeros[0], bit_len);
+        &zeros[..1]
+    } else {
+        write_length(&mut zeros[1], bit_len);
+        &zeros[..2]
+    }
 }
 
-/// Writes a tail and the byte 0x80 to the front of a block of zero bytes (RFC 1320, section 3.1).
+// Writes a tail and the byte 0x80 to the front of a block of zero bytes.
 #[inline(always)]
-pub fn write_marked(block: &mut [u8; 64], tail: &[u8])
+fn write_marked(block: &mut [u8; 64], tail: &[u8])
     requires short { length tail.now < block_size }
     requires zeros { block.old ≡ replicate block_size 0 }
     ensures { block.new ≡ tail.now ++ 0x80 ∷ replicate (63 - length tail.now) 0 }
@@ -107,10 +92,9 @@ pub fn write_marked(block: &mut [u8; 64], tail: &[u8])
     block[len] = 0x80;
 }
 
-/// Writes the length of a message in bits, least byte first, in place of the last 8 bytes of a block (RFC 1320,
-/// section 3.2).
+// Writes the length of a message in bits in place of the last 8 bytes of a block.
 #[inline(always)]
-pub fn write_length(block: &mut [u8; 64], bit_len: u64)
+fn write_length(block: &mut [u8; 64], bit_len: u64)
     ensures { block.new ≡ take length_place block.old ++ eight_bytes bit_len }
 {
     block[56..].copy_from_slice(&bit_len.to_le_bytes());
