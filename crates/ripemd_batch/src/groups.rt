@@ -12,9 +12,9 @@ use crate::lane_states::LaneStates;
 use crate::lanes::Lanes;
 use crate::message::message_words;
 use crate::padded::MessageBlocks;
+use ripemd::BlockHasher;
 use ripemd::digest::BlockDigest;
 use ripemd::padding::block_count;
-use ripemd::{Ripemd128, Ripemd160, Ripemd256, Ripemd320};
 use ripemd_block::block_api::{
     BlockFunction, ByteArray, ListBlockFunction, Ripemd128Function, Ripemd160Function,
     Ripemd256Function, Ripemd320Function, walk_message, walk_words,
@@ -55,9 +55,46 @@ pub trait BatchDigest: BlockDigest<Output: ByteArray> {
 // The states of its block function.
 pub(crate) type StateOf<D> = <<D as BatchDigest>::Function as BlockFunction>::State;
 
-impl BatchDigest for Ripemd128 {
-    type Function = Ripemd128Function;
+impl<F: BatchFunction> BatchDigest for BlockHasher<F> {
+    type Function = F;
 
+    type Four = F::Four;
+
+    type Eight = F::Eight;
+
+    ghost use Rattle.std.specs.Prelude.{refl};
+
+    ghost four = { F.four };
+
+    ghost eight = { F.eight };
+
+    ghost same_start = { refl };
+
+    ghost same_step = { refl };
+
+    ghost same_output = { refl };
+
+    ghost some_bytes = { F.some_bytes };
+
+    ghost same_bytes = { λ d. refl };
+}
+
+/// A block function by which four or eight messages can be walked through at once.
+pub trait BatchFunction: ListBlockFunction {
+    /// The states of four messages.
+    type Four: LaneStates<Function = Self>;
+
+    /// The states of eight messages.
+    type Eight: LaneStates<Function = Self>;
+
+    ghost four: { Self.Four.Vector.COUNT ≡ 4 };
+
+    ghost eight: { Self.Eight.Vector.COUNT ≡ 8 };
+
+    ghost some_bytes: { 0 < Self.Digest.LEN };
+}
+
+impl BatchFunction for Ripemd128Function {
     type Four = [Four; 4];
 
     type Eight = [Eight; 4];
@@ -68,20 +105,10 @@ impl BatchDigest for Ripemd128 {
 
     ghost eight = { refl };
 
-    ghost same_start = { refl };
-
-    ghost same_step = { refl };
-
-    ghost same_output = { refl };
-
     ghost some_bytes = { omega arith };
-
-    ghost same_bytes = { λ d. refl };
 }
 
-impl BatchDigest for Ripemd160 {
-    type Function = Ripemd160Function;
-
+impl BatchFunction for Ripemd160Function {
     type Four = [Four; 5];
 
     type Eight = [Eight; 5];
@@ -92,20 +119,10 @@ impl BatchDigest for Ripemd160 {
 
     ghost eight = { refl };
 
-    ghost same_start = { refl };
-
-    ghost same_step = { refl };
-
-    ghost same_output = { refl };
-
     ghost some_bytes = { omega arith };
-
-    ghost same_bytes = { λ d. refl };
 }
 
-impl BatchDigest for Ripemd256 {
-    type Function = Ripemd256Function;
-
+impl BatchFunction for Ripemd256Function {
     type Four = [Four; 8];
 
     type Eight = [Eight; 8];
@@ -116,20 +133,10 @@ impl BatchDigest for Ripemd256 {
 
     ghost eight = { refl };
 
-    ghost same_start = { refl };
-
-    ghost same_step = { refl };
-
-    ghost same_output = { refl };
-
     ghost some_bytes = { omega arith };
-
-    ghost same_bytes = { λ d. refl };
 }
 
-impl BatchDigest for Ripemd320 {
-    type Function = Ripemd320Function;
-
+impl BatchFunction for Ripemd320Function {
     type Four = [Four; 10];
 
     type Eight = [Eight; 10];
@@ -140,15 +147,7 @@ impl BatchDigest for Ripemd320 {
 
     ghost eight = { refl };
 
-    ghost same_start = { refl };
-
-    ghost same_step = { refl };
-
-    ghost same_output = { refl };
-
     ghost some_bytes = { omega arith };
-
-    ghost same_bytes = { λ d. refl };
 }
 
 // Where a group of at most `size` ends that begins at place `at`, of `len` in all.

@@ -145,8 +145,6 @@ impl<D: BatchDigest> ListHasher<D> {
     {
         if messages.len() <= FEW {
             self.put_one_by_one::<P>(messages, 0, places);
-        } else if self.by_fours {
-            self.put_fours::<P>(messages, 0, places);
         } else {
             self.put_groups::<P>(messages, 0, places);
         }
@@ -185,27 +183,13 @@ impl<D: BatchDigest> ListHasher<D> {
         ensures { PutFrom at (map (made_by D.step D.output self.now) (targets messages.now))
             (P.list places.old) (P.list places.new) }
     {
-        let (all, longest) = count_blocks(messages);
-        if all / 5 >= longest {
-            self.put_lanes::<P, D::Eight>(messages, at, places);
-        } else {
-            self.put_fours::<P>(messages, at, places);
+        if !self.by_fours {
+            let (all, longest) = count_blocks(messages);
+            if all / 5 >= longest {
+                self.put_lanes::<P, D::Eight>(messages, at, places);
+                return;
+            }
         }
-    }
-
-    // The same by fours. Not inlined, and a loop, for the same reasons as `put_groups`.
-    #[inline(never)]
-    fn put_fours<P: Places<D::Output>>(
-        &self,
-        messages: &[&[u8]],
-        at: usize,
-        places: &mut [P::Element],
-    )
-        requires fits { at + length messages.now < 2 ^ 64 }
-        requires room { at + length messages.now ≤ length (P.list places.old) }
-        ensures { PutFrom at (map (made_by D.step D.output self.now) (targets messages.now))
-            (P.list places.old) (P.list places.new) }
-    {
         for g in 0..messages.len().div_ceil(4) {
             let end = group_end(messages.len(), 4 * g, 4);
             self.put_four::<P>(&messages[4 * g..end], at + 4 * g, places);

@@ -2,7 +2,7 @@
 use Rattle.std.proofs.Common.{◌≡◌, ◌*◌, min, length, map, take}
 use Rattle.ripemd_batch.specs.Lanes.{made_by, targets}
 use Rattle.ripemd_batch.proofs.Placing.{Put}
-use Rattle.ripemd_batch.proofs.lists.ListHasher.put_fours.Given as goal
+use Rattle.ripemd_batch.proofs.lists.ListHasher.put_group.Given as goal
 
 abbrev pub invariant-loop-g : goal.invariant-loop-g
 invariant-loop-g g l = record {

@@ -1,7 +1,7 @@
 use Rattle.std.proofs.Common.{◌≡◌, ℕ, ◌+◌, ◌*◌, List, length, take, min, arith, ◌∙◌}
 use Rattle.ripemd_batch.specs.Lanes.{made_by}
 use Rattle.ripemd_batch.proofs.Placing.{put_part}
-use Rattle.ripemd_batch.proofs.lists.ListHasher.put_fours.Goals as goal
+use Rattle.ripemd_batch.proofs.lists.ListHasher.put_group.Goals as goal
 
 pub loop-g-preserved : goal.loop-g-preserved
 loop-g-preserved g c =
