@@ -129,7 +129,7 @@ install-library: prefix
 	install -D -m 644 -t "$(AT)/include" crates/ripemd_c/nattizhu.h
 	install -d "$(LIBRARIES)/pkgconfig" "$(PAGES)/man3"
 	$(call filled,crates/ripemd_c/nattizhu.pc.in,$(LIBRARIES)/pkgconfig/nattizhu.pc)
-	$(call filled,crates/ripemd_c/nattizhu.3,$(PAGES)/man3/nattizhu.3)
+	build/manual >"$(PAGES)/man3/nattizhu.3" && chmod 644 "$(PAGES)/man3/nattizhu.3"
 	cd "$(PAGES)/man3" && for name in $(FUNCTIONS); do ln -sf nattizhu.3 $$name.3; done
 
 install-provider: prefix
