@@ -161,8 +161,8 @@ NATTIZHU_CHECKED bool nattizhu_hmac(nattizhu_variant variant, const uint8_t *key
 
 /* Returns whether these bytes are the tag of the text under the key, all of them. It compares all
  * bytes of a tag of the right length, whatever they are, and returns false at once to another
- * length. It writes nothing. That the time is always the same is not proved; that of memcmp shows
- * where a wrong tag differs. */
+ * length; memcmp takes a time that shows where a wrong tag differs. That the time of this is always
+ * the same is not proved. It writes nothing. */
 NATTIZHU_CHECKED bool nattizhu_hmac_verify_text(nattizhu_variant variant, const uint8_t *key,
                                                 size_t key_length, const uint8_t *text,
                                                 size_t text_length, const uint8_t *tag,
