@@ -129,7 +129,7 @@ install-library: prefix
 	install -D -m 644 -t "$(AT)/include" crates/ripemd_c/nattizhu.h
 	install -d "$(LIBRARIES)/pkgconfig" "$(PAGES)/man3"
 	$(call filled,crates/ripemd_c/nattizhu.pc.in,$(LIBRARIES)/pkgconfig/nattizhu.pc)
-	$(call filled,crates/ripemd_c/nattizhu.3,$(PAGES)/man3/nattizhu.3)
+	build/manual >"$(PAGES)/man3/nattizhu.3" && chmod 644 "$(PAGES)/man3/nattizhu.3"
 	cd "$(PAGES)/man3" && for name in $(FUNCTIONS); do ln -sf nattizhu.3 $$name.3; done
 
 install-provider: prefix
@@ -149,17 +149,14 @@ install-python: prefix
 	fi
 
 uninstall: prefix
-	rm -f "$(AT)/bin/ripemd_sum" "$(AT)/bin/rmdsum" "$(AT)/bin/rmdsum-v3" "$(PAGES)/man1/ripemd_sum.1" \
-	  "$(PAGES)/man1/rmdsum.1" "$(PAGES)/man1/rmdsum-v3.1" "$(COMPLETIONS)/rmdsum" "$(COMPLETIONS)/rmdsum-v3" \
-	  "$(AT)/include/nattizhu.h" \
-	  "$(LIBRARIES)/libnattizhu.a" "$(LIBRARIES)/libnattizhu_v3.a" "$(LIBRARIES)/libnattizhu.so" \
-	  "$(LIBRARIES)/libnattizhu.so.0" "$(LIBRARIES)/$(HWCAPS)/libnattizhu.so.0" \
-	  "$(LIBRARIES)/pkgconfig/nattizhu.pc" "$(PAGES)/man3/nattizhu.3" \
-	  "$(DESTDIR)$(MODULESDIR)/nattizhu.so" "$(AT)/share/nattizhu/openssl.cnf"
-	cd "$(PAGES)/man3" 2>/dev/null && rm -f $(FUNCTIONS:=.3) || :
-	cd "$(LIBRARIES)" 2>/dev/null && rmdir -p $(HWCAPS) 2>/dev/null || :
-	rmdir "$(AT)/share/nattizhu" 2>/dev/null || :
-	rm -rf "$(AT)"/lib/python3.*/site-packages/nattizhu "$(AT)"/lib/python3.*/site-packages/nattizhu-*.dist-info
+	rm -f "$(DESTDIR)$(MODULESDIR)/nattizhu.so"
+	! cd "$(AT)" 2>/dev/null || rm -rf bin/ripemd_sum bin/rmdsum bin/rmdsum-v3 include/nattizhu.h share/nattizhu/openssl.cnf \
+	  share/bash-completion/completions/rmdsum share/bash-completion/completions/rmdsum-v3 \
+	  share/man/man1/ripemd_sum.1 share/man/man1/rmdsum.1 share/man/man1/rmdsum-v3.1 share/man/man3/nattizhu*.3 \
+	  $(addprefix $(LIBDIR)/,libnattizhu.a libnattizhu_v3.a libnattizhu.so libnattizhu.so.0 pkgconfig/nattizhu.pc \
+	    $(HWCAPS)/libnattizhu.so.0) \
+	  lib/python3.*/site-packages/nattizhu lib/python3.*/site-packages/nattizhu-*.dist-info
+	rmdir "$(AT)/share/nattizhu" "$(LIBRARIES)/$(HWCAPS)" "$(LIBRARIES)/$(dir $(HWCAPS))" 2>/dev/null || :
 
 clean:
 	rm -rf crates/*/out dist

@@ -151,7 +151,7 @@ def by_c(levels, folder):
     # Lake decode such 32 bytes anew each time. So no library takes longer because of where its loop happens to lie.
     subprocess.run(["cc", "-O2", "-Wall", "-falign-loops=32",
                     "-Wa,-malign-branch-boundary=32,-malign-branch=jcc+fused+jmp+call+indirect+ret", "-o", folder / "linked",
-                    ROOT / "bench/linked.c", "-ldl"], check=True)
+                    ROOT / "bench/linked.c", ROOT / "bench/libraries.c", "-ldl"], check=True)
     subprocess.run([folder / "linked", *(f"{level}={libraries[level]}" for level in levels)], check=True)
 
 

@@ -1,6 +1,5 @@
 """Tries the functions of nattizhu.h from C and from C++, by each compiler: the header and the binary interface,
-warnings of wrong calls, the programs of docs/C.md and of the manual page, and tests/calls.c, also where each access
-is checked."""
+warnings of wrong calls, the programs of docs/C.md, and tests/calls.c, also where each access is checked."""
 import re
 
 import pytest
@@ -10,9 +9,7 @@ CRATE = ROOT / "crates/ripemd_c"
 CALLS = ROOT / "tests/calls.c"
 HEADER = (CRATE / "nattizhu.h").read_text("utf-8")
 FUNCTIONS = sorted(re.findall(r"^NATTIZHU_CHECKED .*[ *](nattizhu_\w+)\(", HEADER, re.MULTILINE))
-MANUAL = (CRATE / "nattizhu.3").read_text("utf-8").replace(r"\-", "-").replace(r"\e", "\\")
-EXAMPLE = re.search(r"^\.nf\n(#include .*?^}\n)\n.*?^\$ \./digest\n(.*?)\.fi$", MANUAL, re.DOTALL | re.MULTILINE)
-PROGRAMS = [*programs("docs/C.md", "c"), EXAMPLE.groups()]
+PROGRAMS = programs("docs/C.md", "c")
 
 # Debian's packages of the compilers.
 PACKAGES = {"cc": "gcc", "c++": "g++", "clang": "clang", "clang++": "clang"}

@@ -6,23 +6,11 @@ import shutil
 import pytest
 from conftest import ABC, need, programs, run
 
-SOURCE = r"""
-#include <nattizhu.h>
-#include <stdio.h>
-
-int main(void) {
-  uint8_t digest[NATTIZHU_RIPEMD160_SIZE];
-  if (!nattizhu_digest(NATTIZHU_RIPEMD160, (const uint8_t *)"abc", 3, digest, sizeof digest))
-    return 1;
-  for (size_t i = 0; i < sizeof digest; i++)
-    printf("%02x", digest[i]);
-}
-"""
-
 
 @pytest.fixture(name="source")
 def fixture_source(tmp_path):
-    (tmp_path / "example.c").write_text(SOURCE)
+    """The first program of docs/C.md."""
+    (tmp_path / "example.c").write_text(programs("docs/C.md", "c")[0][0])
     return tmp_path / "example.c"
 
 
@@ -46,7 +34,7 @@ def test_completion(prefix, words, options):
 def by_pkg_config(prefix, source):
     flags = run("pkg-config", "--cflags", "--libs", "nattizhu", env={"PKG_CONFIG_PATH": prefix / "lib/pkgconfig"}).stdout
     run("cc", "-o", source.with_suffix(""), source, *shlex.split(flags))
-    assert run(source.with_suffix(""), env={"LD_LIBRARY_PATH": prefix / "lib"}).stdout == ABC
+    assert run(source.with_suffix(""), env={"LD_LIBRARY_PATH": prefix / "lib"}).stdout == ABC + "\n"
 
 
 def test_pkg_config(prefix, source):
@@ -62,7 +50,7 @@ def test_space_in_the_prefix(library, source, tmp_path):
 
 def test_static_library(prefix, source):
     run("cc", "-o", source.with_suffix(""), "-I", prefix / "include", source, prefix / "lib/libnattizhu.a")
-    assert run(source.with_suffix("")).stdout == ABC
+    assert run(source.with_suffix("")).stdout == ABC + "\n"
 
 
 def test_static_library_with_musl(prefix, source):

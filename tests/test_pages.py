@@ -2,7 +2,7 @@
 import re
 
 import pytest
-from conftest import ROOT, fences, run, version
+from conftest import ROOT, fences, lines, run, version
 
 # The examples of these pages, and the contracts that they quote, stand in files that are proved.
 USES = "crates/ripemd_uses"
@@ -38,6 +38,12 @@ def test_examples_are_those_that_are_proved(page):
 @pytest.mark.parametrize("file", VERSIONS)
 def test_version(file):
     assert re.search(VERSIONS[file], (ROOT / file).read_text("utf-8"), re.MULTILINE)[1] == version()
+
+
+def test_manual_page_has_every_function_for_c():
+    page = run("build/manual").stdout
+    names = [words[1] for words in lines("interface.txt") if words[0] == "function"]
+    assert names and [name for name in names if f"{name}(" not in page] == []
 
 
 def test_figures_are_those_that_were_measured():

@@ -1,5 +1,5 @@
-/* Nattizhu: RIPEMD-128, RIPEMD-160, RIPEMD-256 and RIPEMD-320 (1996), HMAC over them (RFC 2104),
- * and keys from passwords by HMAC (PBKDF2, RFC 8018).
+/* nattizhu - RIPEMD-128, RIPEMD-160, RIPEMD-256 and RIPEMD-320 (1996), HMAC over them (RFC 2104),
+ * and keys from passwords by HMAC (PBKDF2, RFC 8018)
  *
  * What the functions in Rattle write and return is proved. nattizhu.c, which calls them and is
  * tested, looks after null pointers.
@@ -7,7 +7,8 @@
  * Each call that returns a bool returns true where it did what it says. It returns false and writes
  * nothing where it can't: if there is no such variant, if what it writes to does not have its size,
  * if a pointer is null whose length or count is not 0, if bytes given as a state are not one, or as
- * the function says.
+ * the function says. A product that overflows equals no length. Compilers warn where an answer is
+ * ignored.
  *
  * Arguments come in this order: the variant; the state; what is read; what is written. The length
  * of a piece of memory, or the count of a list, follows its pointer, which may be null where that is
@@ -25,6 +26,7 @@
  *
  * No call allocates memory, keeps a pointer, or uses global data that changes: all calls may
  * run at once in any number of threads. Nothing is wiped from memory, neither keys nor texts. */
+
 #ifndef NATTIZHU_H
 #define NATTIZHU_H
 
@@ -35,6 +37,8 @@
 #endif
 
 #define NATTIZHU_VERSION "0.1.0"
+
+/* ---- Variants and sizes */
 
 /* Bytes of a block, of every variant. */
 #define NATTIZHU_BLOCK_SIZE 64
@@ -54,7 +58,6 @@
 #define NATTIZHU_SAVED_SIZE(size) ((size) + 72)
 #define NATTIZHU_HMAC_SAVED_SIZE(size) (2 * NATTIZHU_SAVED_SIZE(size))
 
-/* Compilers warn where the answer of a function with this mark is ignored. */
 #if defined(__cplusplus) ? __cplusplus >= 201703L                                                  \
                          : defined(__STDC_VERSION__) && __STDC_VERSION__ >= 202311L
 #define NATTIZHU_CHECKED [[nodiscard]]
@@ -95,8 +98,8 @@ NATTIZHU_CHECKED bool nattizhu_digest(nattizhu_variant variant, const uint8_t *m
 /* ---- Digests of many messages, up to eight at once */
 
 /* Writes the digests of records of `size` bytes, one after another. For n records, which lie one
- * after another too, `length` has to be n * size, without overflow, and `digests_length` n digests.
- * Records of 0 bytes are empty messages, and `length` then is 0. */
+ * after another too, `length` has to be n * `size`, and `digests_length` n digests. Records of 0
+ * bytes are empty messages, and `length` then is 0. */
 NATTIZHU_CHECKED bool nattizhu_each(nattizhu_variant variant, const uint8_t *records, size_t length,
                                     size_t size, uint8_t *digests, size_t digests_length);
 
@@ -111,13 +114,13 @@ typedef struct nattizhu_message {
 NATTIZHU_CHECKED bool nattizhu_list(nattizhu_variant variant, const nattizhu_message *messages,
                                     size_t count, uint8_t *digests, size_t digests_length);
 
-/* ---- Digests of messages in pieces
- *
- * A hash state is bytes without pointers, the same on every machine: it may be copied, also to
- * another process. Its first byte is the size of its digests. Some bytes mean nothing and need not
- * be initialized. To store a state or to compare states, save them. States are not authenticated:
- * each call checks the first byte and the number of bytes that wait for a block, and nothing else.
- * Zeros are no state. */
+/* ---- Digests of messages in pieces */
+
+/* A hash state is bytes without pointers, the same on every machine: it may be copied, also to
+ * another process, and both go on. Its first byte is the size of its digests. Some bytes mean
+ * nothing and need not be initialized. To store a state or to compare states, save them. States are
+ * not authenticated: each call checks the first byte and the number of bytes that wait for a block,
+ * and nothing else. Zeros are no state. */
 typedef struct nattizhu_state {
   uint8_t bytes[NATTIZHU_STATE_SIZE];
 } nattizhu_state;
@@ -140,7 +143,8 @@ NATTIZHU_CHECKED bool nattizhu_save(const nattizhu_state *state, uint8_t *saved,
                                     size_t saved_length);
 
 /* Writes the state that is saved as these bytes, all of them; returns false if no state of the
- * variant is. */
+ * variant is. It checks how many bytes there are, how many of them wait for a block, and that zeros
+ * follow those, and nothing else. */
 NATTIZHU_CHECKED bool nattizhu_load(nattizhu_variant variant, nattizhu_state *state,
                                     const uint8_t *saved, size_t saved_length);
 
@@ -157,7 +161,8 @@ NATTIZHU_CHECKED bool nattizhu_hmac(nattizhu_variant variant, const uint8_t *key
 
 /* Returns whether these bytes are the tag of the text under the key, all of them. It compares all
  * bytes of a tag of the right length, whatever they are, and returns false at once to another
- * length. It writes nothing. That the time is always the same is not proved. */
+ * length; memcmp takes a time that shows where a wrong tag differs. That the time of this is always
+ * the same is not proved. It writes nothing. */
 NATTIZHU_CHECKED bool nattizhu_hmac_verify_text(nattizhu_variant variant, const uint8_t *key,
                                                 size_t key_length, const uint8_t *text,
                                                 size_t text_length, const uint8_t *tag,
@@ -214,9 +219,9 @@ NATTIZHU_CHECKED bool nattizhu_pbkdf2(nattizhu_variant variant, const uint8_t *p
                                       size_t key_length);
 
 /* Derives a key of `size` bytes from each password and the salt at its place, up to eight at once,
- * and writes one after another. It returns false too if `rounds` is 0, or `size` is more than
- * 2^32 - 1 digests, or the counts differ, or `keys_length` is not `count * size`, as a product
- * without overflow. */
+ * and writes one after another. It returns false too if the counts differ, if `keys_length` is not
+ * `count` * `size`, and, for empty lists too, if `rounds` is 0 or `size` is more than 2^32 - 1
+ * digests. */
 NATTIZHU_CHECKED bool nattizhu_pbkdf2_list(nattizhu_variant variant,
                                            const nattizhu_message *passwords, size_t count,
                                            const nattizhu_message *salts, size_t salt_count,
