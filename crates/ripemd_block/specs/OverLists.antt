@@ -17,18 +17,6 @@ pub of_arrays : {is_state : List ℕ → Type 0} {step : List ℕ → List ℕ �
     → IsOverLists (λ state. state) is_state step output (λ digest. digest) is_state step output
 of_arrays = record { of_state = λ state valid. valid; of_step = λ state block. refl; of_output = λ state. refl }
 
--- of values that have lists of words, and outputs that have lists of bytes, they are the same by these lists
-pub of_words_and_bytes : {S D : Type 0} {words : S → List ℕ} (of_words : List ℕ → S) {bytes : D → List ℕ}
-    (of_bytes : List ℕ → D) {are_words : List ℕ → Type 0} {step : List ℕ → List ℕ → List ℕ} {output : List ℕ → List ℕ}
-    → ((xs : List ℕ) → words (of_words xs) ≡ xs) → ((xs : List ℕ) → bytes (of_bytes xs) ≡ xs)
-    → IsOverLists words (λ s. are_words (words s)) (λ s block. of_words (step (words s) block))
-    (λ s. of_bytes (output (words s))) bytes are_words step output
-of_words_and_bytes {words = words} of_words of_bytes {step = step} {output = output} words_of bytes_of = record {
-  of_state = λ s valid. valid;
-  of_step = λ s block. words_of (step (words s) block);
-  of_output = λ s. bytes_of (output (words s));
-}
-
 -- an output of n bytes, which different words never share
 pub record IsInjectiveOutput (are_words : List ℕ → Type 0) (output : List ℕ → List ℕ) (n : ℕ) : Type 0 where
   pub size : (xs : List ℕ) → are_words xs → length (output xs) ≡ n

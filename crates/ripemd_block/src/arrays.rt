@@ -1,20 +1,13 @@
 //! Arrays of bytes, whatever their length, and words as bytes.
 
-ghost use Rattle.std.specs.Prelude.{◌≡◌, ℕ, ◌+◌, ◌*◌, ◌^◌, ◌<◌, ◌≤◌, ◌↔◌, List, ◌++◌, length, drop, replicate, IfSome, IsSome, true};
+ghost use Rattle.std.specs.Prelude.{◌≡◌, ℕ, ◌+◌, ◌*◌, ◌^◌, ◌<◌, ◌≤◌, ◌↔◌, List, ◌++◌, length, drop, replicate, IfSome, IsSome};
 ghost use Rattle.std.specs.List.{All};
 ghost use Rattle.ripemd_block.specs.Standard.Words.{word_bytes, eight_bytes};
-ghost use Rattle.ripemd_block.specs.States.{AreWords};
 
 /// An array of bytes: `[u8; N]`, for any length `N`.
 pub trait ByteArray: Copy {
     // Its bytes.
     ghost bytes: { Self → List ℕ };
-
-    // The array of some bytes.
-    ghost of_bytes: { List ℕ → Self };
-
-    // Its bytes are those.
-    ghost bytes_of_array: { (xs : List ℕ) → bytes (of_bytes xs) ≡ xs };
 
     // Arrays of equal bytes are equal.
     ghost same_array: { (a b : Self) → bytes a ≡ bytes b → a ≡ b };
@@ -39,11 +32,6 @@ pub trait ByteArray: Copy {
         ensures same { IfSome result (λ array. bytes array ≡ front.now ++ back.now) }
         ensures some { IsSome result ↔ (length front.now + length back.now ≡ LEN) };
 
-    /// The array of the bytes of words, four for each, least first.
-    fn from_words(words: &[u32]) -> Self
-        requires { 4 * length words.now ≡ LEN }
-        ensures { bytes result ≡ word_bytes words.now };
-
     /// Its bytes.
     fn as_bytes(&self) -> &[u8]
         ensures bytes { result.now ≡ bytes self.now }
@@ -52,12 +40,6 @@ pub trait ByteArray: Copy {
 
 impl<const N: usize> ByteArray for [u8; N] {
     ghost bytes = { λ bytes. bytes };
-
-    ghost of_bytes = { λ bytes. bytes };
-
-    ghost use Rattle.std.specs.Prelude.{refl};
-
-    ghost bytes_of_array = { λ bytes. refl };
 
     ghost same_array = { λ a b same. same };
 
@@ -82,75 +64,7 @@ impl<const N: usize> ByteArray for [u8; N] {
         Some(array)
     }
 
-    #[inline(always)]
-    fn from_words(words: &[u32]) -> [u8; N] {
-        let mut bytes = [0; N];
-        write_words(words, &mut bytes);
-        bytes
-    }
-
     fn as_bytes(&self) -> &[u8] {
-        self
-    }
-}
-
-/// An array of words: `[u32; N]`, for any length `N`.
-pub trait WordArray: Copy + Eq {
-    // Its words.
-    ghost words: { Self → List ℕ };
-
-    // The array of some words.
-    ghost of_words: { List ℕ → Self };
-
-    ghost COUNT: { ℕ };
-
-    /// The array of the words that have these bytes.
-    fn from_bytes(bytes: &[u8]) -> Self
-        requires { length bytes.now ≡ 4 * COUNT }
-        ensures bytes { word_bytes (words result) ≡ bytes.now }
-        ensures valid { AreWords COUNT (words result) };
-
-    /// Its words.
-    fn as_words(&self) -> &[u32]
-        ensures words { result.now ≡ words self.now }
-        ensures valid { AreWords COUNT (words self.now) };
-
-    // Its words are those.
-    ghost words_of_array: { (xs : List ℕ) → words (of_words xs) ≡ xs };
-
-    // Arrays of equal words are equal.
-    ghost same_array: { (a b : Self) → words a ≡ words b → a ≡ b };
-
-    // Arrays that are equal by `==` are one.
-    ghost equal_array: { (a b : Self) → Self.PartialEq.eq a b ≡ true → a ≡ b };
-}
-
-impl<const N: usize> WordArray for [u32; N] {
-    ghost words = { λ words. words };
-
-    ghost of_words = { λ words. words };
-
-    ghost use Rattle.std.specs.Prelude.{refl};
-    ghost use Rattle.ripemd_block.specs.Laws.Arrays.{equal_words};
-
-    ghost words_of_array = { λ words. refl };
-
-    ghost same_array = { λ a b same. same };
-
-    ghost equal_array = { equal_words };
-
-    ghost COUNT = { N };
-
-    #[inline(always)]
-    fn from_bytes(bytes: &[u8]) -> [u32; N] {
-        let mut words = [0; N];
-        read_words(bytes, &mut words);
-        words
-    }
-
-    #[inline(always)]
-    fn as_words(&self) -> &[u32] {
-        words_in_range(self);
         self
     }
 }

@@ -18,10 +18,6 @@ use Rattle.ripemd_block.specs.Laws.WordBytes.{words_of, words_read, words_in_ran
 pub word_bytes_output : (n : ℕ) → IsInjectiveOutput (AreWords n) word_bytes (4 * n)
 word_bytes_output n = record { size = bytes_of_words n; injective = word_bytes_injective n }
 
--- so they are by an array of their bytes
-pub words_output : (n size : ℕ) → size ≡ 4 * n → IsInjectiveOutput (AreWords n) word_bytes size
-words_output n size is = rw is (word_bytes_output n)
-
 -- a count is told by its bytes
 pub eight_bytes_injective : (m n : ℕ) → m < 2 ^ 64 → n < 2 ^ 64 → eight_bytes m ≡ eight_bytes n → m ≡ n
 eight_bytes_injective m n of_m of_n same =

@@ -35,16 +35,6 @@ pub word_bytes_injective : (n : ℕ) (xs ys : List ℕ) → AreWords n xs → Ar
 word_bytes_injective n xs ys of_xs of_ys same =
     sym (words_of_bytes xs of_xs.fit) ∙ rw (of_xs.count, same, ← of_ys.count) (words_of_bytes ys of_ys.fit)
 
--- so values that have n words are the same if the arrays of their bytes are
-pub same_output : {S D : Type 0} {words : S → List ℕ} (bytes : D → List ℕ) (of_bytes : List ℕ → D) {n : ℕ}
-    → ((s t : S) → words s ≡ words t → s ≡ t) → ((xs : List ℕ) → bytes (of_bytes xs) ≡ xs)
-    → (s t : S) → AreWords n (words s) → AreWords n (words t)
-    → of_bytes (word_bytes (words s)) ≡ of_bytes (word_bytes (words t)) → s ≡ t
-same_output {words = words} bytes of_bytes {n = n} same bytes_of s t of_s of_t outputs =
-    let both : word_bytes (words s) ≡ word_bytes (words t) =
-    sym (bytes_of (word_bytes (words s))) ∙ ap bytes outputs ∙ bytes_of (word_bytes (words t)) in
-    same s t (word_bytes_injective n (words s) (words t) of_s of_t both)
-
 -- ---- any bytes are those of words, four for each
 
 -- the number of four bytes is a word
