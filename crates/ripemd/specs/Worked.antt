@@ -1,5 +1,5 @@
--- Worked examples of the machine of `replay`, of collisions and of kept bytes, as facts of these definitions. Those of
--- the machine are by RIPEMD-160, with digests that its authors published.
+-- Worked examples of the machine of `replay` and of collisions, as facts of these definitions. Those of the machine are
+-- by RIPEMD-160, with digests that its authors published.
 use Rattle.std.specs.Prelude.{◌≡◌, ℕ, ◌+◌, ◌%◌, codes, List, [], ◌∷◌, ◌++◌, map, replicate, None}
 use Rattle.std.specs.List.{flat_map}
 use Rattle.std.specs.Borrow.{Bor}
@@ -15,7 +15,6 @@ use Rattle.ripemd.specs.declared.replay.ReplayError.TheVariants.{NoHasher, NoSav
 use Rattle.ripemd.specs.declared.witness.Collision.{Collision}
 use Rattle.ripemd.specs.Replay.{Gives, Stops}
 use Rattle.ripemd.specs.Collisions.{CollideAt, IsCollision, IsOnlyCollision}
-use Rattle.ripemd.specs.Saved.{cleared}
 
 -- ---- lists of commands
 
@@ -107,12 +106,3 @@ pub record WorkedCollisions : Type 0 where
   pub another_right_state : ¬ Met (met 0 (block_of 1) 1 (block_of 3))
   pub another_right_block : ¬ Met (met 0 (block_of 1) 0 (block_of 5))
   pub not_none : ¬ IsOnlyCollision 0 parity (message_of (1 ∷ 2 ∷ [])) (message_of (3 ∷ 2 ∷ [])) None
-
--- ---- kept bytes
-
--- of a core of two bytes: with a tail of one byte, with one of none, and with one of all bytes that there are
-pub record WorkedKept : Type 0 where
-  pub one : cleared 2 (9 ∷ 8 ∷ 1 ∷ 7 ∷ 6 ∷ 5 ∷ []) ≡ 9 ∷ 8 ∷ 1 ∷ 7 ∷ 0 ∷ 0 ∷ []
-  pub none : cleared 2 (9 ∷ 8 ∷ 0 ∷ 7 ∷ 6 ∷ 5 ∷ []) ≡ 9 ∷ 8 ∷ 0 ∷ 0 ∷ 0 ∷ 0 ∷ []
-  pub all : cleared 2 (9 ∷ 8 ∷ 3 ∷ 7 ∷ 6 ∷ 5 ∷ []) ≡ 9 ∷ 8 ∷ 3 ∷ 7 ∷ 6 ∷ 5 ∷ []
-  pub empty : cleared 2 (9 ∷ []) ≡ 9 ∷ []

@@ -3,7 +3,7 @@
 
 ghost use Rattle.std.specs.Prelude.{◌≡◌, ℕ, List, codes, replicate};
 ghost use Rattle.std.specs.Borrow.{Bor};
-ghost use Rattle.ripemd.specs.Worked.{saved_after_a, WorkedLists, WorkedPlaces, WorkedCollisions, WorkedKept};
+ghost use Rattle.ripemd.specs.Worked.{saved_after_a, WorkedLists, WorkedPlaces, WorkedCollisions};
 
 /// What `replay` answers to some lists of commands, by RIPEMD-160: one for each command, and one for
 /// each error.
@@ -17,9 +17,4 @@ pub fn replays()
 pub fn collisions()
     ensures places { WorkedPlaces }
     ensures answers { WorkedCollisions }
-{}
-
-/// Kept bytes, with zeros behind the tail.
-pub fn kept_bytes()
-    ensures { WorkedKept }
 {}
