@@ -14,4 +14,5 @@ pub mod Layouts
 pub mod Listed
 pub mod Grouped
 pub mod Agreeing
+pub mod Determined
 pub mod Toys
