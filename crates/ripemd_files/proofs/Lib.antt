@@ -15,4 +15,3 @@ pub mod Listed
 pub mod Grouped
 pub mod Agreeing
 pub mod Determined
-pub mod Toys

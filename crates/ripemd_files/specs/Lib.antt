@@ -30,5 +30,3 @@ pub mod Printed
 pub mod Determined
 -- Checks of lists, worked.
 pub mod WorkedChecks
--- Reports on lists, worked.
-pub mod WorkedReports
