@@ -1,8 +1,8 @@
 -- Lines that were printed, and are checked.
-use Rattle.std.proofs.Common.{rules, ◌≡◌, ◌≢◌, ℕ, ◌-◌, ◌*◌, ◌==◌, ◌&&◌, Bool, true, false, List, [], ◌∷◌, length, take, get_or, cond, Option, unwrap_or, refl, sym, ap, subst, ◌∙◌, arith}
+use Rattle.std.proofs.Common.{rules, ◌≡◌, ◌≢◌, ℕ, ◌-◌, ◌==◌, ◌&&◌, Bool, true, false, List, [], ◌∷◌, length, take, get_or, cond, Option, unwrap_or, refl, sym, ap, subst, ◌∙◌, arith}
 use Rattle.std.specs.List.{list_any}
 use Rattle.std.specs.Str.{bytes_eq}
-use Rattle.std.specs.Io.BufRead.{ends_with_byte, strip_last}
+use Rattle.std.specs.Io.BufRead.{ends_with_byte}
 use Rattle.std.proofs.lemmas.Bool.{lt-ltb, eqb-true}
 use Rattle.std.proofs.lemmas.Slice.Eq.{bytes_eq-Decides}
 use Rattle.std.proofs.lemmas.List.Folds.{list_any_at}
@@ -17,9 +17,9 @@ use Rattle.ripemd_files.specs.declared.outcome.Outcome.{Outcome}
 use Rattle.ripemd_files.specs.declared.outcome.Outcome.TheVariants.{Digest, Refused, Broken}
 use Rattle.ripemd_files.specs.declared.verdict.Verdict.{Verdict}
 use Rattle.ripemd_files.specs.declared.verdict.Verdict.TheVariants.{Differs, Matches, Missing, Unreadable}
-use Rattle.ripemd_files.specs.Lines.{IsLine, is_end, line_of}
+use Rattle.ripemd_files.specs.Lines.{IsLine, is_end}
 use Rattle.ripemd_files.specs.Readings.{ComesTo, Gives, Place, parameters_of}
-use Rattle.ripemd_files.specs.Checking.{checked, is_missing, verdict_of, verdict_of_digest}
+use Rattle.ripemd_files.specs.Checking.{checked, is_missing, verdict_of}
 use Rattle.ripemd_files.specs.Lists.{IsEventOn, IsTaken, body_of_line}
 use Rattle.ripemd_files.specs.Printed.{IsPrinted, printed_line}
 use Rattle.ripemd_files.proofs.Written.{IsLine-line_of}

@@ -14,4 +14,4 @@ pub mod Layouts
 pub mod Listed
 pub mod Grouped
 pub mod Agreeing
-pub mod Toys
+pub mod Determined

@@ -8,7 +8,6 @@ use Rattle.ripemd_files.specs.declared.line.Layout.TheVariants.{Standard}
 use Rattle.ripemd_files.specs.declared.line.Line.{Line}
 use Rattle.ripemd_files.specs.declared.list.Rules.{Rules}
 use Rattle.ripemd_files.specs.declared.list.Cursor.{Cursor}
-use Rattle.ripemd_files.specs.declared.list.Entry.TheVariants.{Misformatted, Said}
 use Rattle.ripemd_files.specs.Lines.{IsLine, Says}
 use Rattle.ripemd_files.specs.Readings.{Place}
 use Rattle.ripemd_files.specs.Checking.{Event, IsEventOf, misformatted}
@@ -48,10 +47,6 @@ match_false : (A B : Type 0) (b : Bool) → IsFalse b → B → MatchBool b A B
 match_false A B true is both = absurd (search (rules, is))
 match_false A B false is both = both
 
-match_true : (A B : Type 0) (b : Bool) → IsTrue b → A → MatchBool b A B
-match_true A B true is both = both
-match_true A B false is both = absurd (search (rules, is))
-
 module _ {File : Type 0} (place : Place File) (ignore_missing : Bool) (kinds : Rules) (before after : Cursor) (text : List ℕ)
     (next : after.layout ≡ layout_after kinds before.layout text) (step : after.number ≡ before.number + 1) where
   -- the report goes on with these events
@@ -67,39 +62,30 @@ module _ {File : Type 0} (place : Place File) (ignore_missing : Bool) (kinds : R
         (subst (λ n. Reports place ignore_missing kinds after.layout n rest more last) step report),
   )
 
-  pub takes_nothing : IsTrue (is_passed_over text) → (lines : List Line) → Takes place ignore_missing kinds before after text lines lines None
-  takes_nothing passed lines = λ events zipped. (
-    events,
-    [],
-    sym (append-nil events),
-    zipped,
-    goes_on [] (match_true _ _ (is_passed_over text) passed refl),
-  )
-
-  pub takes_misformatted : IsEntry kinds after.layout text Misformatted → (lines : List Line)
+  pub takes_misformatted : IsFalse (is_passed_over text) → IsEntry kinds after.layout text None → (lines : List Line)
       → Takes place ignore_missing kinds before after text lines lines (Some before.number)
-  takes_misformatted entry lines = λ events zipped. (
+  takes_misformatted counts entry lines = λ events zipped. (
     events,
     [],
     sym (append-nil events),
     zipped,
     goes_on (misformatted before.number ∷ [])
-        (match_false _ _ (is_passed_over text) entry.0 (misformatted before.number, refl, (refl, entry.1))),
+        (match_false _ _ (is_passed_over text) counts (misformatted before.number, refl, (refl, entry))),
   )
 
-  pub takes_said : (line : Line) → IsEntry kinds after.layout text (Said line) → (lines : List Line)
+  pub takes_said : (line : Line) → IsFalse (is_passed_over text) → IsEntry kinds after.layout text (Some line) → (lines : List Line)
       → Takes place ignore_missing kinds before after text lines (lines ++ line ∷ []) None
-  takes_said line entry lines = λ events zipped.
+  takes_said line counts entry lines = λ events zipped.
       let (earlier, event, same, first, both) = all_zip_last (IsEventOf place ignore_missing) lines line events zipped in (
         earlier,
         event ∷ [],
         same,
         first,
         goes_on (event ∷ [])
-            (match_false _ _ (is_passed_over text) entry.0 (
+            (match_false _ _ (is_passed_over text) counts (
               event,
               refl,
               subst (IsEventOn place ignore_missing kinds after.layout before.number text) (sym both.2)
-                  (line.variant, line.digest.items, both.0, entry.1, both.1, refl),
+                  (line.variant, line.digest.items, both.0, entry, both.1, refl),
             )),
       )

@@ -1,6 +1,8 @@
 -- Files, read piece by piece.
-use Rattle.std.proofs.Common.{◌≡◌, ℕ, ◌+◌, List, [], ◌++◌, length, Option, refl, append_assoc, length-append, arith}
-use Rattle.std.proofs.lemmas.List.{append-nil}
+use Rattle.std.proofs.Common.{◌≡◌, ℕ, ◌+◌, ◌≤◌, List, [], ◌++◌, length, take, Option, refl, sym, ap, ◌∙◌, append_assoc, length-append, length-take-le, arith}
+use Rattle.std.proofs.lemmas.List.{append-nil, take-append-le}
+use Rattle.std.proofs.Math.Seq.{take-append-add}
+use borrow.Rule.Slice.PartMut.{put_mid, post_of}
 use Rattle.std.specs.Io.KnownBytes.{Consumes}
 use Rattle.std.proofs.KnownBytes.{Consumes-nil, Consumes-trans}
 
@@ -17,6 +19,15 @@ consumed_more old now next before more first second = Consumes-trans _ _ _ befor
 pub consumed_no_more : (old now next : Option (List ℕ)) (before : List ℕ) → Consumes old now before → Consumes now next []
     → Consumes old next before
 consumed_no_more old now next before first second = rw append-nil at (consumed_more old now next before [] first second)
+
+-- what is written to a list from a place on stands behind what was there before
+pub written_behind : (place room n : ℕ) (xs ys : List ℕ) → place ≤ length xs → n ≤ length ys
+    → take (place + n) (put_mid place room xs ys) ≡ take place xs ++ take n ys
+written_behind place room n xs ys within fits =
+    let front = length-take-le place xs within in
+    ap (λ (p : ℕ). take (p + n) (put_mid place room xs ys)) (sym front)
+    ∙ take-append-add (take place xs) (ys ++ post_of place room xs) n
+    ∙ ap (λ (l : List ℕ). take place xs ++ l) (take-append-le n ys (post_of place room xs) fits)
 
 -- what was read since, behind what was there first, was all hashed and counted
 pub record Hashed (old now : Option (List ℕ)) (IsHasherOf : List ℕ → Type 0) (first : List ℕ) (count : ℕ) : Type 0 where

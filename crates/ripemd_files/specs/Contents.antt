@@ -1,8 +1,5 @@
 -- What a file gave, as it is read.
-use Rattle.std.specs.Prelude.{◌≡◌, ℕ, List, [], Option, ⊤}
-use Rattle.std.specs.Io.KnownBytes.{Consumes}
-use Rattle.ripemd_files.specs.declared.digests.Stop.{Stop}
-use Rattle.ripemd_files.specs.declared.digests.Stop.TheVariants.{Failed, NoMemory}
+use Rattle.std.specs.Prelude.{◌≡◌, ℕ, List, []}
 use Rattle.ripemd_files.specs.declared.digests.Content.{Content}
 use Rattle.ripemd_files.specs.declared.digests.Content.TheVariants.{Short, Long, Refused, Broken}
 use Rattle.ripemd_files.specs.declared.outcome.Outcome.{Outcome}
@@ -14,11 +11,6 @@ abbrev pub IsDigest : Outcome → List ℕ → Type 0
 IsDigest (outcomes.Digest digest) bytes = digest.items ≡ bytes
 IsDigest (outcomes.Refused error) bytes = ⊥
 IsDigest (outcomes.Broken error) bytes = ⊥
-
--- a read of a file failed, after some bytes; nothing is said where memory ran out
-abbrev pub IsStop : {File : Type 0} → (left : File → Option (List ℕ)) → (may_fail : File → Type 0) → File → Stop → Type 0
-IsStop {File} left may_fail old (Failed error) = (bytes : List ℕ) × (now : File) × Consumes (left old) (left now) bytes × may_fail now
-IsStop left may_fail old NoMemory = ⊤
 
 -- the file of a name has this content
 abbrev pub IsContent : {File T : Type 0} → (bytes_of : T → List ℕ) → Place File → (hash : List ℕ → List ℕ) → List ℕ → Content T → Type 0

@@ -5,8 +5,6 @@ use Rattle.std.specs.Io.KnownBytes.{Consumes}
 use Rattle.ripemd_files.specs.declared.line.Line.{Line}
 use Rattle.ripemd_files.specs.declared.line.Layout.{Layout}
 use Rattle.ripemd_files.specs.declared.list.Rules.{Rules}
-use Rattle.ripemd_files.specs.declared.list.Entry.{Entry}
-use Rattle.ripemd_files.specs.declared.list.Entry.TheVariants.{Nothing, Misformatted, Said}
 use Rattle.ripemd_files.specs.declared.list.Cursor.{Cursor}
 use Rattle.ripemd_files.specs.declared.list.Group.{Group}
 use Rattle.ripemd_files.specs.declared.list.Next.{Next}
@@ -18,15 +16,12 @@ use Rattle.ripemd_files.specs.declared.verdict.Options.{Options}
 use Rattle.ripemd_files.specs.declared.verdict.Tally.{Tally}
 use Rattle.ripemd_files.specs.Said.{Remark, Wrote}
 use Rattle.ripemd_files.specs.Checking.{Event, IsEventOf, IsTally, line_of_event, misformatted, remarks_on_event}
-use Rattle.ripemd_files.specs.Lists.{IsTaken, Reports, is_passed_over}
+use Rattle.ripemd_files.specs.Lists.{IsTaken, Reports}
 
--- what a line says, by the layout of its list
-abbrev pub IsEntry : Rules → Option Layout → List ℕ → Entry → Type 0
-IsEntry rules layout text Nothing = IsTrue (is_passed_over text)
-IsEntry rules layout text Misformatted =
-    IsFalse (is_passed_over text) × ((variant : Variant) (digest name : List ℕ) → ¬ IsTaken rules layout text variant digest name)
-IsEntry rules layout text (Said line) =
-    IsFalse (is_passed_over text) × IsTaken rules layout text line.variant line.digest.items line.name.items
+-- what a line says, by the layout of its list, if that counts
+abbrev pub IsEntry : Rules → Option Layout → List ℕ → Option Line → Type 0
+IsEntry rules layout text None = (variant : Variant) (digest name : List ℕ) → ¬ IsTaken rules layout text variant digest name
+IsEntry rules layout text (Some line) = IsTaken rules layout text line.variant line.digest.items line.name.items
 
 -- the event of a line that says nothing
 abbrev pub misformatted_events : Option ℕ → List Event

@@ -26,7 +26,7 @@ pub mod Lists
 pub mod Groups
 -- Lines that were printed, and are checked.
 pub mod Printed
+-- What is right where all is known of a folder.
+pub mod Determined
 -- Checks of lists, worked.
 pub mod WorkedChecks
--- Reports on lists, worked.
-pub mod WorkedReports

@@ -1,18 +1,38 @@
-//! What is proved of the definitions of checks: worked cases. The functions do nothing; their contracts
-//! are the facts.
+//! What is proved of the definitions of prints and checks: worked cases, and that one thing is right. The
+//! functions do nothing; their contracts are the facts.
 
-ghost use Rattle.std.specs.Prelude.{◌≡◌, ℕ, List, [], ◌∷◌, Bool, codes};
+ghost use Rattle.std.specs.Prelude.{◌≡◌, ℕ, List, [], ◌∷◌, Bool, IsTrue, Option, Result, length};
 ghost use Rattle.std.specs.declared.io.Error.{Error};
-ghost use Rattle.std.specs.declared.io.ErrorKind.TheVariants.{NotFound};
-ghost use Rattle.std.specs.IoError.{error_kind};
 ghost use Rattle.ripemd_files.specs.declared.outcome.Outcome.{Outcome};
+ghost use Rattle.ripemd_files.specs.declared.line.Layout.{Layout};
+ghost use Rattle.ripemd_files.specs.declared.list.Rules.{Rules};
 ghost use Rattle.ripemd_files.specs.declared.printing.Style.{Style};
+ghost use Rattle.ripemd_files.specs.declared.verdict.Options.{Options};
+ghost use Rattle.ripemd_files.specs.Determined.{Before, IsKnown, Print, Report};
 ghost use Rattle.ripemd_files.specs.Contents.{IsDigest};
 ghost use Rattle.ripemd_files.specs.Checking.{Event};
 ghost use Rattle.ripemd_files.specs.WorkedChecks.{DigestVerdicts, ErrorVerdicts, LinesOfEvents, RemarksOnEvents, Tallies, OtherTallies, LongCounts, ClosingRemarks, Answers, PassedOver, Bodies, NextLayouts, Wanted, PrintedLines, PrintedErrors};
-ghost use Rattle.ripemd_files.specs.WorkedReports.{Hashes, OtherChecks, Growths, ReversedLists, MissingFiles, SecondList, OtherHashes, PrintedFiles, OtherPrints, toy, DigestsOfAbc, ErrorsOfAbc, LongFiles, TakenLines, OtherReports, ReadLists, CheckedLists, FailedList};
-ghost use Rattle.ripemd_files.specs.Worked.{digest_of};
-ghost use Rattle.ripemd_files.specs.declared.line.Variant.TheVariants.{R128, R160};
+
+use crate::folder::Folder;
+
+/// Where all is known of a folder, one report on a list is right.
+pub fn one_report<F: Folder>(_folder: &F)
+    // If all of the list was read,
+    ensures whole { (contents : List ℕ → Result (List ℕ) Error) (options : Options) (rules : Rules) (first : Option Layout) (list : List ℕ)
+        (before : Before) → IsKnown (F.place _folder.now) contents → (one other : Report (F.place _folder.now) options rules first list before)
+        → IsTrue one.checks.whole → IsTrue other.checks.whole → (one.last ≡ other.last) × (one.after ≡ other.after) }
+    // or as much of it.
+    ensures as_far { (contents : List ℕ → Result (List ℕ) Error) (options : Options) (rules : Rules) (first : Option Layout) (list : List ℕ)
+        (before : Before) → IsKnown (F.place _folder.now) contents → (one other : Report (F.place _folder.now) options rules first list before)
+        → one.checks.whole ≡ other.checks.whole → length one.checks.bytes ≡ length other.checks.bytes
+        → (one.last ≡ other.last) × (one.after ≡ other.after) }
+{}
+
+/// And one print of files.
+pub fn one_print<F: Folder>(_folder: &F)
+    ensures { (contents : List ℕ → Result (List ℕ) Error) (style : Style) (names : List (List ℕ)) (before : Before)
+        → IsKnown (F.place _folder.now) contents → (one other : Print (F.place _folder.now) style names before) → one.after ≡ other.after }
+{}
 
 /// What a check finds of files.
 pub fn worked_verdicts()
@@ -47,38 +67,4 @@ pub fn worked_lists()
 pub fn worked_prints()
     ensures lines { (outcome : Outcome) → IsDigest outcome (0x01 ∷ 0xab ∷ []) → PrintedLines outcome }
     ensures errors { (style : Style) (error : Error) → PrintedErrors style error }
-{}
-
-/// What reading files comes to.
-pub fn worked_readings()
-    ensures hashes { Hashes }
-    ensures digests { (outcome : Outcome) → IsDigest outcome (toy (codes "abc")) → DigestsOfAbc outcome }
-    ensures errors { (error : Error) → ErrorsOfAbc error }
-    ensures long { (bytes : List ℕ) (error : Error) → LongFiles bytes error }
-{}
-
-/// What the lines of lists say, and what comes of them.
-pub fn worked_reports()
-    ensures taken { TakenLines }
-    ensures others { OtherReports }
-    ensures read { ReadLists }
-    ensures checked { (outcome : Outcome) → IsDigest outcome (digest_of R128) → CheckedLists outcome }
-    ensures failed { FailedList }
-    ensures other_checks { OtherChecks }
-{}
-
-/// What comes of reversed lines, of files that are not there, of another variant, and of a second list.
-pub fn worked_other_lists()
-    ensures growths { Growths }
-    ensures reversed { (outcome : Outcome) → IsDigest outcome (digest_of R128) → ReversedLists outcome }
-    ensures of160 { (outcome : Outcome) → IsDigest outcome (digest_of R160) → OtherHashes outcome }
-    ensures second { SecondList }
-    ensures missing { (error : Error) → error_kind error ≡ NotFound → MissingFiles error }
-{}
-
-/// What is printed of several files.
-pub fn worked_files()
-    ensures printed { (outcome : Outcome) (error : Error) → IsDigest outcome (digest_of R128) → error_kind error ≡ NotFound
-        → PrintedFiles outcome error }
-    ensures others { OtherPrints }
 {}

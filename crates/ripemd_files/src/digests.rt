@@ -1,14 +1,13 @@
 //! The digests of files, several at once.
 
-ghost use Rattle.std.specs.Prelude.{◌≡◌, ◌+◌, ◌<◌, ◌≤◌, ◌^◌, ◌++◌, ◌⊎◌, ◌*◌, ◌≢◌, ℕ, List, [], length, map, take, IfOk, IfErr, IsErr, IsTrue};
+ghost use Rattle.std.specs.Prelude.{◌≡◌, ◌+◌, ◌<◌, ◌≤◌, ◌^◌, ◌++◌, ◌⊎◌, ◌*◌, ◌≢◌, ℕ, List, [], length, map, take, IfOk, IsErr};
 ghost use Rattle.std.specs.Io.KnownBytes.{Consumes, IsAtEnd};
 ghost use Rattle.ripemd_block.specs.Standard.Hashing.{hash};
 ghost use Rattle.ripemd.specs.Standard.Hashing.{ripemd};
 ghost use Rattle.ripemd_batch.specs.Lanes.{targets};
 ghost use Rattle.ripemd_files.specs.Readings.{Gives, Gave, Breaks, ComesTo, Place, parameters_of};
 ghost use Rattle.std.specs.List.{AllZip};
-ghost use Rattle.ripemd_files.specs.Contents.{Follows, IsContent, IsStop, message_in};
-ghost use Rattle.ripemd_files.specs.declared.digests.Stop.TheVariants.{NoMemory};
+ghost use Rattle.ripemd_files.specs.Contents.{Follows, IsContent, message_in};
 
 use crate::folder::Folder;
 use crate::line::Variant;
@@ -22,9 +21,6 @@ use std::io;
 /// The length of a message that is too long: its length in bits does not fit into 64 bits.
 const TOO_LONG: u64 = 1 << 61;
 
-// A file that gives so many bytes is not kept in memory.
-const LONG: usize = 1 << 16;
-
 // What a file gave: a whole message, or the digest of a longer one.
 #[derive(Drop)]
 enum Content<T> {
@@ -34,60 +30,43 @@ enum Content<T> {
     Broken(io::Error),
 }
 
-// Why a file was not read to its end.
-enum Stop {
-    Failed(io::Error),
-    NoMemory,
-}
-
-impl From<AllocError> for Stop {
-    ghost from_gives = { λ _ stop. stop ≡ NoMemory };
-
-    fn from(_error: AllocError) -> Stop {
-        Stop::NoMemory
-    }
-}
-
-// Reads until the file ends, or has given `LONG` bytes or more. Whether it ended.
-#[tactic(auto, using(crate::proofs::Pieces::consumed_more, crate::proofs::Pieces::consumed_none))]
-fn gather<F: Folder>(
-    folder: &F,
-    file: &mut F::File,
-    buffer: &mut [u8],
-    message: &mut Vec<u8>,
-) -> Result<bool, Stop>
-    requires fresh { message.old.items ≡ [] }
-    requires room { 0 < length buffer.old }
-    ensures ok { IfOk result (λ ended. Consumes ((F.place folder.now).left file.old) ((F.place folder.now).left file.new) message.new.items
-        × (IsTrue ended → IsAtEnd ((F.place folder.now).left file.new))) }
-    ensures err { IfErr result (IsStop ((F.place folder.now).left) ((F.place folder.now).may_fail) file.old) }
+// Reads to the front of the buffer, until the file ends or the buffer is full. How many bytes: if there is room for
+// more, the file has ended.
+fn fill<F: Folder>(folder: &F, file: &mut F::File, buffer: &mut [u8]) -> Result<usize, io::Error>
+    ensures ok { IfOk result (λ count. (count ≤ length buffer.new)
+        × Consumes ((F.place folder.now).left file.old) ((F.place folder.now).left file.new) (take count buffer.new)
+        × (count < length buffer.new → IsAtEnd ((F.place folder.now).left file.new))) }
+    ensures err { IsErr result → (bytes : List ℕ) × (now : F.File) × Consumes ((F.place folder.now).left file.old) ((F.place folder.now).left now) bytes
+        × (F.place folder.now).may_fail now }
+    ensures room { length buffer.new ≡ length buffer.old }
 {
-    while message.len() < LONG {
-        match folder.read(file, buffer) {
-            Ok(0) => return Ok(true),
-            Ok(count) => message.extend_from_slice(&buffer[..count])?,
-            Err(error) => return Err(Stop::Failed(error)),
+    let mut count = 0;
+    while count < buffer.len() {
+        match folder.read(file, &mut buffer[count..]) {
+            Ok(0) => return Ok(count),
+            Ok(more) => count += more,
+            Err(error) => return Err(error),
         }
     }
-    Ok(false)
+    Ok(count)
 }
 
-// The digest of a file that gives so many bytes or more: of those that the hasher took, and of the rest.
+// The digest of a file that gives more bytes than the buffer has room for: of those that fill it, and of the rest.
 #[tactic(auto, using(crate::proofs::Pieces::consumed_more, crate::proofs::Pieces::consumed_none))]
 fn hash_rest<D: Digest, F: Folder>(
     folder: &F,
     file: &mut F::File,
-    first: &[u8],
     buffer: &mut [u8],
 ) -> Result<D::Output, io::Error>
     requires room { 0 < length buffer.old }
     ensures ok { IfOk result (λ digest. (rest : List ℕ) × Consumes ((F.place folder.now).left file.old) ((F.place folder.now).left file.new) rest
-        × IsAtEnd ((F.place folder.now).left file.new) × (D.bytes_of digest ≡ hash D.start D.step D.output (first.now ++ rest))) }
+        × IsAtEnd ((F.place folder.now).left file.new) × (D.bytes_of digest ≡ hash D.start D.step D.output (buffer.old ++ rest))) }
     ensures err { IsErr result → (rest : List ℕ) × (now : F.File) × Consumes ((F.place folder.now).left file.old) ((F.place folder.now).left now) rest
-        × ((F.place folder.now).may_fail now ⊎ (2 ^ 61 ≤ length (first.now ++ rest))) }
+        × ((F.place folder.now).may_fail now ⊎ (2 ^ 61 ≤ length (buffer.old ++ rest))) }
+    ensures room { length buffer.new ≡ length buffer.old }
 {
-    let mut hasher = D::new_with_prefix(first);
-    let mut length = first.len() as u64;
+    let mut hasher = D::new_with_prefix(buffer);
+    let mut length = buffer.len() as u64;
     while length < TOO_LONG {
         match folder.read(file, buffer) {
             Ok(0) => return Ok(hasher.finalize()),
@@ -116,15 +95,18 @@ fn read_file<D: Digest, F: Folder>(
         Ok(file) => file,
         Err(error) => return Ok(Content::Refused(error)),
     };
-    let mut message = Vec::new(alloc);
-    match gather(folder, &mut file, buffer, &mut message) {
-        Ok(true) => Ok(Content::Short(message)),
-        Ok(false) => match hash_rest::<D, F>(folder, &mut file, message.as_slice(), buffer) {
-            Ok(digest) => Ok(Content::Long(digest)),
-            Err(error) => Ok(Content::Broken(error)),
-        },
-        Err(Stop::Failed(error)) => Ok(Content::Broken(error)),
-        Err(Stop::NoMemory) => Err(AllocError),
+    match fill(folder, &mut file, buffer) {
+        Ok(count) => {
+            if count < buffer.len() {
+                let message = Vec::from_slice(alloc, &buffer[..count])?;
+                return Ok(Content::Short(message));
+            }
+        }
+        Err(error) => return Ok(Content::Broken(error)),
+    }
+    match hash_rest::<D, F>(folder, &mut file, buffer) {
+        Ok(digest) => Ok(Content::Long(digest)),
+        Err(error) => Ok(Content::Broken(error)),
     }
 }
 
@@ -219,8 +201,8 @@ fn read_group<D: BatchDigest, F: Folder>(
     Ok(outcomes)
 }
 
-/// What comes of reading the files of some names, in order. Files of at most 64 KiB are hashed at once. Each
-/// is read through the buffer, which has to have room.
+/// What comes of reading the files of some names, in order. Each is read to the buffer, which has to have room;
+/// those that leave room there are hashed at once.
 pub fn read_digests<F: Folder>(
     alloc: Global,
     folder: &F,

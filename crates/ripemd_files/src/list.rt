@@ -1,6 +1,6 @@
 //! Lists of lines, as a check reads them.
 
-ghost use Rattle.std.specs.Prelude.{◌≡◌, ◌≢◌, ◌↔◌, ◌+◌, ◌<◌, ◌^◌, ◌++◌, ◌∷◌, [], codes, IfOk, IsTrue, OnOk};
+ghost use Rattle.std.specs.Prelude.{◌≡◌, ◌≢◌, ◌↔◌, ◌+◌, ◌<◌, ◌^◌, ◌++◌, ◌∷◌, [], codes, IfOk, IsFalse, IsTrue, OnOk};
 ghost use Rattle.ripemd_files.specs.Lists.{IsTaken, IsWanted, body_of_line, is_passed_over, layout_after};
 ghost use Rattle.ripemd_files.specs.Groups.{IsEntry, ReadsGroup, Takes};
 
@@ -21,15 +21,6 @@ pub struct Rules {
     pub only: Option<Variant>,
     /// Whether the list is standard input, which no line of it can name.
     pub from_input: bool,
-}
-
-// What a line says.
-#[derive(Drop)]
-pub(crate) enum Entry {
-    // Nothing: it is empty or a comment.
-    Nothing,
-    Misformatted,
-    Said(Line),
 }
 
 // How far a list is read: its layout, if an untagged line said it, and the number of the next line.
@@ -76,13 +67,11 @@ fn is_skipped(text: &[u8]) -> bool
     }
 }
 
-// The layout of a list after a line.
+// The layout of a list after a line that is not passed over.
 fn next_layout(rules: Rules, layout: Option<Layout>, text: &[u8]) -> Option<Layout>
+    requires { IsFalse (is_passed_over text.now) }
     ensures { result ≡ layout_after rules layout text.now }
 {
-    if is_skipped(text) {
-        return layout;
-    }
     match layout {
         Some(layout) => Some(layout),
         None => line_layout(rules.only, without_return(text)),
@@ -113,27 +102,24 @@ fn counts(rules: Rules, line: &Line) -> bool
     is_wanted(rules.only, line.variant) && !(rules.from_input && is_input(line.name.as_slice()))
 }
 
-// What a line says.
+// What a line says, if that counts.
 fn read_entry(
     alloc: Global,
     rules: Rules,
     layout: Option<Layout>,
     text: &[u8],
-) -> Result<Entry, AllocError>
+) -> Result<Option<Line>, AllocError>
     ensures { IfOk result (IsEntry rules layout text.now) }
 {
-    if is_skipped(text) {
-        return Ok(Entry::Nothing);
-    }
     let layout = layout.unwrap_or(Layout::Standard);
     match parse_line(alloc, layout, without_return(text))? {
         Some(line) => {
             if counts(rules, &line) {
-                return Ok(Entry::Said(line));
+                return Ok(Some(line));
             }
-            Ok(Entry::Misformatted)
+            Ok(None)
         }
-        None => Ok(Entry::Misformatted),
+        None => Ok(None),
     }
 }
 
@@ -156,15 +142,14 @@ fn take_line<F: Folder>(
     if number == u64::MAX {
         return Err(Fault::TooManyLines);
     }
-    let layout = next_layout(rules, cursor.layout, text);
-    *cursor = Cursor {
-        layout,
-        number: number + 1,
-    };
-    match read_entry(alloc, rules, layout, text)? {
-        Entry::Nothing => Ok(None),
-        Entry::Misformatted => Ok(Some(number)),
-        Entry::Said(line) => {
+    cursor.number = number + 1;
+    if is_skipped(text) {
+        return Ok(None);
+    }
+    cursor.layout = next_layout(rules, cursor.layout, text);
+    match read_entry(alloc, rules, cursor.layout, text)? {
+        None => Ok(Some(number)),
+        Some(line) => {
             push_line(lines, line)?;
             Ok(None)
         }

@@ -6,6 +6,7 @@ use ripemd_files::fault::Fault;
 use ripemd_files::list::Rules;
 use ripemd_files::log::Complaint;
 use ripemd_files::verdict::Options;
+use ripemd_files::{Layout, Variant};
 use std::alloc::Global;
 use std::io::BufReader;
 use std::test::Fail;
@@ -16,6 +17,13 @@ const PLAIN: Options = Options {
     status: false,
     strict: false,
     warn: false,
+};
+
+// Missing files are left out, and nothing is said of others that are as they should be.
+const IGNORING: Options = Options {
+    ignore_missing: true,
+    quiet: true,
+    ..PLAIN
 };
 
 const RULES: Rules = Rules {
@@ -37,7 +45,6 @@ const FILES: &[(&[u8], &[u8])] = &[(b"abc", b"abc"), (b"empty", b"")];
 // What a check of a list answers, and what it leaves.
 fn check(
     alloc: Global,
-    options: Options,
     list: List<'_>,
     calls: Calls,
     page: &mut Page,
@@ -51,7 +58,7 @@ fn check(
     check_list(
         alloc,
         &memory,
-        options,
+        PLAIN,
         RULES,
         &mut None,
         &mut reader,
@@ -60,67 +67,176 @@ fn check(
     )
 }
 
-#[test]
-fn a_list_is_checked(rt: HostRuntime) -> Result<(), Fail> {
-    let alloc = rt.alloc();
-    let mut page = Page::new(alloc, 0);
-    let mut remarks = Remarks::new(alloc);
-    let options = Options {
-        warn: true,
-        ..PLAIN
-    };
-    let list = List::new(LIST, 0);
-    let success = check(
-        alloc,
-        options,
-        list,
-        Calls::failing_at(0),
-        &mut page,
-        &mut remarks,
-    )?;
-    assert!(rt; !success);
-    assert_eq!(rt; page.bytes.as_slice(), REPORT);
-    assert_eq!(rt; remarks.unreadable, 1);
-    let wanted = [
-        Complaint::Misformatted(5),
-        Complaint::MisformattedLines(1),
-        Complaint::UnreadableFiles(1),
-        Complaint::Mismatches(1),
-    ];
-    assert_eq!(rt; remarks.complaints.as_slice(), wanted.as_slice());
-    Ok(())
+// A list, how it is checked, in which layout, and what comes of that.
+#[derive(Clone, Copy)]
+struct Case<'a> {
+    options: Options,
+    rules: Rules,
+    first: Option<Layout>,
+    list: &'a [u8],
+    report: &'a [u8],
+    unreadable: usize,
+    complaints: &'a [Complaint],
+    success: bool,
+    last: Option<Layout>,
 }
 
+// A list with one good line.
+const GOOD: Case<'static> = Case {
+    options: PLAIN,
+    rules: RULES,
+    first: None,
+    list: b"8eb208f7e05d987a9b044a8e98c6b087f15a0bfc  abc\n",
+    report: b"abc: OK\n",
+    unreadable: 0,
+    complaints: &[],
+    success: true,
+    last: Some(Layout::Standard),
+};
+
+// `sha256sum` says the same of each, with its own digests.
+const CASES: &[Case<'static>] = &[
+    GOOD,
+    Case {
+        options: Options {
+            warn: true,
+            ..PLAIN
+        },
+        list: LIST,
+        report: REPORT,
+        unreadable: 1,
+        complaints: &[
+            Complaint::Misformatted(5),
+            Complaint::MisformattedLines(1),
+            Complaint::UnreadableFiles(1),
+            Complaint::Mismatches(1),
+        ],
+        success: false,
+        ..GOOD
+    },
+    // One line of each variant.
+    Case {
+        list: b"c14a12199c66e4ba84636b0f69144c77  abc\n\
+            8eb208f7e05d987a9b044a8e98c6b087f15a0bfc  abc\n\
+            afbd6e228b9d8cbbcef5ca2d03e6dba10ac0bc7dcbe4680e1e42d2e975459b65  abc\n\
+            de4c01b3054f8930a79d09ae738e92301e5a17085beffdc1b8d116713e74f82fa942d64cdbc4682d  abc\n",
+        report: b"abc: OK\nabc: OK\nabc: OK\nabc: OK\n",
+        ..GOOD
+    },
+    // One variant counts.
+    Case {
+        rules: Rules {
+            only: Some(Variant::R128),
+            ..RULES
+        },
+        list: b"8eb208f7e05d987a9b044a8e98c6b087f15a0bfc  abc\n\
+            c14a12199c66e4ba84636b0f69144c77  abc\n",
+        complaints: &[Complaint::MisformattedLines(1)],
+        ..GOOD
+    },
+    // Standard input is the list.
+    Case {
+        rules: Rules {
+            from_input: true,
+            ..RULES
+        },
+        list: b"8eb208f7e05d987a9b044a8e98c6b087f15a0bfc  -\n\
+            8eb208f7e05d987a9b044a8e98c6b087f15a0bfc  abc\n",
+        complaints: &[Complaint::MisformattedLines(1)],
+        ..GOOD
+    },
+    // The first untagged line decides the layout, and so for the next list.
+    Case {
+        list: b"8eb208f7e05d987a9b044a8e98c6b087f15a0bfc abc\n\
+            8eb208f7e05d987a9b044a8e98c6b087f15a0bfc  abc\n",
+        report: b"abc: OK\n abc: FAILED open or read\n",
+        unreadable: 1,
+        complaints: &[Complaint::UnreadableFiles(1)],
+        success: false,
+        last: Some(Layout::Reversed),
+        ..GOOD
+    },
+    Case {
+        list: b"8eb208f7e05d987a9b044a8e98c6b087f15a0bfc  abc\n\
+            8eb208f7e05d987a9b044a8e98c6b087f15a0bfc abc\n",
+        complaints: &[Complaint::MisformattedLines(1)],
+        ..GOOD
+    },
+    Case {
+        first: Some(Layout::Reversed),
+        list: b"RMD160 (abc) = 8eb208f7e05d987a9b044a8e98c6b087f15a0bfc\n\
+            8eb208f7e05d987a9b044a8e98c6b087f15a0bfc  abc\n",
+        report: b"abc: OK\n abc: FAILED open or read\n",
+        unreadable: 1,
+        complaints: &[Complaint::UnreadableFiles(1)],
+        success: false,
+        last: Some(Layout::Reversed),
+        ..GOOD
+    },
+    // A name of two lines.
+    Case {
+        list: b"\\8eb208f7e05d987a9b044a8e98c6b087f15a0bfc  a\\nb\n",
+        report: b"\\a\\nb: FAILED open or read\n",
+        unreadable: 1,
+        complaints: &[Complaint::UnreadableFiles(1)],
+        success: false,
+        ..GOOD
+    },
+    // No line.
+    Case {
+        list: b"",
+        report: b"",
+        complaints: &[Complaint::NoLines],
+        success: false,
+        last: None,
+        ..GOOD
+    },
+    // Missing files are left out.
+    Case {
+        options: IGNORING,
+        list: b"8eb208f7e05d987a9b044a8e98c6b087f15a0bfc  abc\n\
+            8eb208f7e05d987a9b044a8e98c6b087f15a0bfc  b\n",
+        report: b"",
+        ..GOOD
+    },
+    Case {
+        options: IGNORING,
+        list: b"8eb208f7e05d987a9b044a8e98c6b087f15a0bfc  b\n",
+        report: b"",
+        complaints: &[Complaint::NothingVerified],
+        success: false,
+        ..GOOD
+    },
+];
+
 #[test]
-fn missing_files_are_left_out(rt: HostRuntime) -> Result<(), Fail> {
+fn lists_are_checked(rt: HostRuntime) -> Result<(), Fail> {
     let alloc = rt.alloc();
-    let options = Options {
-        ignore_missing: true,
-        quiet: true,
-        ..PLAIN
-    };
-    let lists: [(&[u8], bool); 2] = [
-        (
-            b"8eb208f7e05d987a9b044a8e98c6b087f15a0bfc  abc\n8eb208f7e05d987a9b044a8e98c6b087f15a0bfc  b\n",
-            true,
-        ),
-        (b"8eb208f7e05d987a9b044a8e98c6b087f15a0bfc  b\n", false),
-    ];
-    for (list, wanted) in lists {
+    for case in CASES {
+        let memory = Memory {
+            files: FILES,
+            calls: Calls::failing_at(0),
+        };
+        let list = List::new(case.list, 0);
+        let mut reader = BufReader::with_capacity(alloc, 16, list)?;
+        let mut layout = case.first;
         let mut page = Page::new(alloc, 0);
         let mut remarks = Remarks::new(alloc);
-        let list = List::new(list, 0);
-        let success = check(
+        let success = check_list(
             alloc,
-            options,
-            list,
-            Calls::failing_at(0),
+            &memory,
+            case.options,
+            case.rules,
+            &mut layout,
+            &mut reader,
             &mut page,
             &mut remarks,
         )?;
-        assert_eq!(rt; success, wanted);
-        assert!(rt; page.bytes.is_empty());
-        assert_eq!(rt; remarks.complaints.is_empty(), wanted);
+        assert_eq!(rt; page.bytes.as_slice(), case.report);
+        assert_eq!(rt; remarks.unreadable, case.unreadable);
+        assert_eq!(rt; remarks.complaints.as_slice(), case.complaints);
+        assert_eq!(rt; success, case.success);
+        assert_eq!(rt; layout, case.last);
     }
     Ok(())
 }
@@ -134,14 +250,7 @@ fn each_read_of_a_list_may_fail(rt: HostRuntime) -> Result<(), Fail> {
         let mut page = Page::new(alloc, 0);
         let mut remarks = Remarks::new(alloc);
         let list = List::new(LIST, failing);
-        let success = check(
-            alloc,
-            PLAIN,
-            list,
-            Calls::failing_at(0),
-            &mut page,
-            &mut remarks,
-        )?;
+        let success = check(alloc, list, Calls::failing_at(0), &mut page, &mut remarks)?;
         assert!(rt; !success);
         assert!(rt; REPORT.starts_with(page.bytes.as_slice()));
         if page.bytes.as_slice() == REPORT {
@@ -168,7 +277,7 @@ fn each_call_of_a_folder_may_fail(rt: HostRuntime) -> Result<(), Fail> {
         let mut remarks = Remarks::new(alloc);
         let list = List::new(list, 0);
         let calls = Calls::failing_at(failing);
-        let success = check(alloc, PLAIN, list, calls, &mut page, &mut remarks)?;
+        let success = check(alloc, list, calls, &mut page, &mut remarks)?;
         let wanted: &[u8] = match failing {
             1..=3 => b"abc: FAILED open or read\nempty: OK\n",
             4 | 5 => b"abc: OK\nempty: FAILED open or read\n",
@@ -187,14 +296,7 @@ fn each_write_may_fail(rt: HostRuntime) -> Result<(), Fail> {
         let mut page = Page::new(alloc, failing);
         let mut remarks = Remarks::new(alloc);
         let list = List::new(LIST, 0);
-        let outcome = check(
-            alloc,
-            PLAIN,
-            list,
-            Calls::failing_at(0),
-            &mut page,
-            &mut remarks,
-        );
+        let outcome = check(alloc, list, Calls::failing_at(0), &mut page, &mut remarks);
         assert!(rt; matches!(outcome, Err(Fault::Write(_))), "write {failing}");
     }
     Ok(())
