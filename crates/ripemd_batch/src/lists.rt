@@ -16,9 +16,6 @@ use ripemd_block::block_api::{BlockFunction, walk};
 use ripemd_mac::hmac::masked_keys;
 use std::marker::Model;
 
-/// How many messages go one after another in any case: so few leave most lanes without work.
-pub const FEW: usize = 2;
-
 /// Writes the digest of each message to the place in `digests` that the message has in `messages`.
 /// There must be as many places as messages. Nothing is allocated.
 ///
@@ -137,13 +134,14 @@ impl<D: BatchDigest> ListHasher<D> {
         self.put_each::<Bytes>(messages, bytes);
     }
 
-    // Puts what is made of each message in its place.
+    // Puts what is made of each message in its place. One or two go one after another, since they leave most lanes
+    // without work.
     #[inline(always)]
     fn put_each<P: Places<D::Output>>(&self, messages: &[&[u8]], places: &mut [P::Element])
         requires { length (P.list places.old) ≡ length messages.now }
         ensures { P.list places.new ≡ map (made_by D.step D.output self.now) (targets messages.now) }
     {
-        if messages.len() <= FEW {
+        if messages.len() <= 2 {
             self.put_one_by_one::<P>(messages, 0, places);
         } else {
             self.put_groups::<P>(messages, 0, places);

@@ -13,7 +13,6 @@ ghost use Rattle.ripemd_c.specs.Records.{WritesDigests, WritesEachDigest, Writes
 use ripemd::block_api::ByteArray;
 use ripemd::digest::OutputSizeUser;
 use ripemd::{Digest, Ripemd128, Ripemd160, Ripemd256, Ripemd320};
-use ripemd_batch::lists::FEW;
 use ripemd_batch::pbkdf2::digest_size;
 use ripemd_batch::{BatchDigest, ListHasher};
 use ripemd_calls::by_variant;
@@ -94,8 +93,7 @@ pub extern "C" fn nattizhu_hmac_list_nonnull(
     )
 }
 
-// Writes what the hasher makes of each record, if the lengths fit. Few records have a branch of their own, in which the
-// compiler keeps the hasher in registers.
+// Writes what the hasher makes of each record, if the lengths fit.
 #[inline(always)]
 fn write_each<D: BatchDigest>(
     hasher: ListHasher<D>,
@@ -112,18 +110,13 @@ fn write_each<D: BatchDigest>(
     if !is_product(outputs.len(), count, width) || !is_product(bytes.len(), count, size) {
         return false;
     }
-    if count <= FEW {
-        let mut messages: [&[u8]; FEW] = [&[]; FEW];
-        write_group(&hasher, bytes, size, 0, &mut messages[..count], outputs);
-    } else {
-        let hasher = hasher.in_vectors_of(words);
-        let mut messages: [&[u8]; GROUP] = [&[]; GROUP];
-        write_records(&hasher, bytes, size, 0, count, &mut messages, outputs);
-    }
+    let hasher = hasher.in_vectors_of(words);
+    let mut messages: [&[u8]; GROUP] = [&[]; GROUP];
+    write_records(&hasher, bytes, size, 0, count, &mut messages, outputs);
     true
 }
 
-// Writes what the hasher makes of each message, if there is room for so many outputs. Few messages have a branch too.
+// Writes what the hasher makes of each message, if there is room for so many outputs.
 #[inline(always)]
 fn write_list<D: BatchDigest>(
     hasher: ListHasher<D>,
@@ -137,11 +130,7 @@ fn write_list<D: BatchDigest>(
     if !is_product(outputs.len(), messages.len(), digest_size::<D>()) {
         return false;
     }
-    if messages.len() <= FEW {
-        hasher.write_joined(messages, outputs);
-    } else {
-        hasher.in_vectors_of(words).write_joined(messages, outputs);
-    }
+    hasher.in_vectors_of(words).write_joined(messages, outputs);
     true
 }
 
@@ -176,25 +165,7 @@ fn write_records<'a, D: BatchDigest>(
         write_records(hasher, bytes, size, at + half, rest, messages, back);
         return;
     }
-    write_group(hasher, bytes, size, at, &mut messages[..count], outputs);
-}
-
-// Writes what the hasher makes of the records from `at` on, one for each place.
-#[inline(always)]
-fn write_group<'a, D: BatchDigest>(
-    hasher: &ListHasher<D>,
-    bytes: &'a [u8],
-    size: usize,
-    at: usize,
-    places: &mut [&'a [u8]],
-    outputs: &mut [u8],
-)
-    requires fits { at + length places.old < 2 ^ 64 }
-    requires length { (at + length places.old) * size ≤ length bytes.now }
-    requires room { length outputs.old ≡ length places.old * D.Output.LEN }
-    ensures { outputs.new ≡ flat_map (made_by D.step D.output hasher.now)
-        (records at (length places.old) size bytes.now) }
-{
+    let places = &mut messages[..count];
     put_records(bytes, size, at, places);
     hasher.write_joined(places, outputs);
 }
