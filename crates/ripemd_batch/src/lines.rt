@@ -7,10 +7,7 @@ ghost use Rattle.ripemd_block.specs.Code.Lines.{both_lines};
 ghost use Rattle.ripemd_batch.specs.Lanes.{line_of, lane_of, HasWords};
 
 use crate::lanes::Lanes;
-use ripemd_block::textbook::{
-    left_constant, left_number, right_constant_of_five_rounds, right_constant_of_four_rounds,
-    right_number, rotation,
-};
+use ripemd_block::textbook::{left_constant, left_number, right_constant, right_number, rotation};
 use std::mem::swap;
 
 /// One of the two lines.
@@ -69,7 +66,7 @@ impl<V: Lanes> LineRegisters for [V; 4] {
     fn constant(side: Side, r: usize) -> u32 {
         match side {
             Side::Left => left_constant(r),
-            Side::Right => right_constant_of_four_rounds(r),
+            Side::Right => right_constant(4, r),
         }
     }
 
@@ -99,7 +96,7 @@ impl<V: Lanes> LineRegisters for [V; 5] {
     fn constant(side: Side, r: usize) -> u32 {
         match side {
             Side::Left => left_constant(r),
-            Side::Right => right_constant_of_five_rounds(r),
+            Side::Right => right_constant(5, r),
         }
     }
 

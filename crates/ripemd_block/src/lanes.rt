@@ -10,10 +10,7 @@ ghost use Rattle.ripemd_block.specs.Code.Lines.{both_lines, message_words};
 ghost use Rattle.ripemd_block.specs.Code.Lanes.{line_of_lane, lane};
 
 use crate::message::message_words;
-use crate::textbook::{
-    amounts, left_constant, left_number, right_constant_of_five_rounds,
-    right_constant_of_four_rounds, right_number,
-};
+use crate::textbook::{amounts, left_constant, left_number, right_constant, right_number};
 use std::simd::prelude::*;
 
 /// The registers of both lines: as many vectors as a line has registers, which are as many as its
@@ -118,7 +115,7 @@ impl Registers for [u32x2; 4] {
 
     #[inline(always)]
     fn constants(r: usize) -> u32x2 {
-        u32x2::from_array([left_constant(r), right_constant_of_four_rounds(r)])
+        u32x2::from_array([left_constant(r), right_constant(4, r)])
     }
 
     #[inline(always)]
@@ -149,7 +146,7 @@ impl Registers for [u32x2; 5] {
 
     #[inline(always)]
     fn constants(r: usize) -> u32x2 {
-        u32x2::from_array([left_constant(r), right_constant_of_five_rounds(r)])
+        u32x2::from_array([left_constant(r), right_constant(5, r)])
     }
 
     #[inline(always)]

@@ -1,6 +1,6 @@
 //! The tables of 1996 as code, each entry equal to its definition in `specs/Standard/`.
 
-ghost use Rattle.std.specs.Prelude.{◌≡◌, ◌<◌, ℕ, slice_index};
+ghost use Rattle.std.specs.Prelude.{◌≡◌, ◌<◌, ◌≤◌, ℕ, slice_index};
 ghost use Rattle.ripemd_block.specs.Standard.Schedule.{left_line, right_line, rotation};
 
 // The numbers of the message words that the left line takes, by round and step (1996, ordering of
@@ -58,10 +58,8 @@ static AMOUNTS: [[[u32; 16]; 2]; 5] = [
 // The constants of the left line's rounds (1996, constants).
 static LEFT_CONSTANTS: [u32; 5] = [0, 0x5a82_7999, 0x6ed9_eba1, 0x8f1b_bcdc, 0xa953_fd4e];
 
-// The constants of the right line's rounds, of which the last has none.
-static FIVE_RIGHT_CONSTANTS: [u32; 5] = [0x50a2_8be6, 0x5c4d_d124, 0x6d70_3ef3, 0x7a6d_76e9, 0];
-
-static FOUR_RIGHT_CONSTANTS: [u32; 4] = [0x50a2_8be6, 0x5c4d_d124, 0x6d70_3ef3, 0];
+// The constants of the right line's rounds but the last, which has none.
+static RIGHT_CONSTANTS: [u32; 4] = [0x50a2_8be6, 0x5c4d_d124, 0x6d70_3ef3, 0x7a6d_76e9];
 
 /// The number of the message word that step `i` of round `r` of the left line takes.
 #[inline(always)]
@@ -120,20 +118,16 @@ pub fn left_constant(r: usize) -> u32
     LEFT_CONSTANTS[r]
 }
 
-/// The constant of round `r` of the right line, of four rounds.
+/// The constant of round `r` of the right line, of so many rounds.
 #[inline(always)]
-pub fn right_constant_of_four_rounds(r: usize) -> u32
-    requires { r < 4 }
-    ensures { result ≡ (right_line 4).constant r }
+pub fn right_constant(rounds: usize, r: usize) -> u32
+    requires round { r < rounds }
+    requires most { rounds ≤ 5 }
+    ensures { result ≡ (right_line rounds).constant r }
 {
-    FOUR_RIGHT_CONSTANTS[r]
-}
-
-/// The constant of round `r` of the right line, of five rounds.
-#[inline(always)]
-pub fn right_constant_of_five_rounds(r: usize) -> u32
-    requires { r < 5 }
-    ensures { result ≡ (right_line 5).constant r }
-{
-    FIVE_RIGHT_CONSTANTS[r]
+    if r + 1 < rounds {
+        RIGHT_CONSTANTS[r]
+    } else {
+        0
+    }
 }

@@ -259,8 +259,8 @@ fn round_is_that_of_textbook(r: usize) -> bool
         }
     }
     textbook::left_constant(r) == LEFT_CONSTANTS[r]
-        && textbook::right_constant_of_five_rounds(r) == RIGHT_CONSTANTS[1][r]
-        && (r == 4 || textbook::right_constant_of_four_rounds(r) == RIGHT_CONSTANTS[0][r])
+        && textbook::right_constant(5, r) == RIGHT_CONSTANTS[1][r]
+        && (r == 4 || textbook::right_constant(4, r) == RIGHT_CONSTANTS[0][r])
 }
 
 #[test]
