@@ -170,11 +170,6 @@ read_whole : (whole : Bool) (list bytes : List ℕ) (left : Option (List ℕ)) �
 read_whole true list bytes left is read = taken_all list bytes left read.0 read.1
 read_whole false list bytes left is read = cc is
 
-both_true : (x y : Bool) → IsTrue x → IsTrue y → x ≡ y
-both_true true true t u = refl
-both_true true false t u = sym u
-both_true false y t u = cc t
-
 module _ {File : Type 0} (place : Place File) (contents : List ℕ → Result (List ℕ) Error) (known : IsKnown place contents)
     (options : Options) (rules : Rules) (first : Option Layout) (list : List ℕ) (before : Before)
     (one other : Report place options rules first list before) where
@@ -218,7 +213,7 @@ module _ {File : Type 0} (place : Place File) (contents : List ℕ → Result (L
 
   pub one_report_whole : IsTrue a.whole → IsTrue b.whole → (one.last ≡ other.last) × (one.after ≡ other.after)
   one_report_whole is too =
-      same_bytes (both_true a.whole b.whole is too)
+      same_bytes (is ∙ sym too)
       (sym (read_whole a.whole list a.bytes one.left is a.read) ∙ read_whole b.whole list b.bytes other.left too b.read)
 
 -- ---- files that are printed
