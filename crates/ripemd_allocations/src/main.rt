@@ -1,6 +1,6 @@
-//! The calls that allocate, `replay` and `mac_collision`, where an allocation may fail. Each call has
-//! to give the right answer, or the error of memory; after the error, the same call has to give the
-//! right answer.
+//! The calls that allocate, `replay` and `mac_collision`, with lists and texts whose answers are known.
+//! An allocation may fail: each call has to give the right answer, or the error of memory; after the
+//! error, the same call has to give the right answer.
 //!
 //! For each byte on standard input it first allocates once and frees that. So the allocation that
 //! fails, the same one in each run, can be any of these calls'.
@@ -62,11 +62,6 @@ fn main(rt: HostRuntime) -> io::Result<()> {
     for _ in 0..rt.stdin().read(&mut before)? {
         take_memory(alloc);
     }
-    for (name, outcome) in lists::outcomes(alloc) {
-        println!(rt; "replay of {name}: {}", outcome.text())?;
-    }
-    for (name, outcome) in texts::outcomes(alloc) {
-        println!(rt; "mac_collision of {name}: {}", outcome.text())?;
-    }
-    Ok(())
+    lists::print_outcomes(&rt)?;
+    texts::print_outcomes(&rt)
 }

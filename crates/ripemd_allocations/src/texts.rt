@@ -7,82 +7,113 @@ use crate::toy::{Sums, SumsFunction};
 use ripemd::witness::{BlockFunction, check_collision};
 use ripemd_mac::{MacCollision, mac_collision};
 use std::alloc::{AllocError, Global};
+use std::io;
 
-// What is wanted of a collision: whether it is met inside the inner messages, its places and
-// states, and the state to which both steps lead.
+// What is wanted of a collision, besides that both its meetings are at one place and in one state:
+// whether it is met inside the inner messages, that place and state, how the two blocks begin, and
+// the state to which both steps lead.
 #[derive(Clone, Copy, PartialEq, Eq)]
 struct Shape {
     is_inner: bool,
-    places: (usize, usize),
-    states: ([u8; 2], [u8; 2]),
+    place: usize,
+    state: [u8; 2],
+    blocks: ([u8; 2], [u8; 2]),
     step: [u8; 2],
 }
 
-// The shape of the collision of two texts; none if there is no collision, or if the check does not
-// take it, or if the steps differ.
-fn shape_of(alloc: Global, a: &[u8], b: &[u8]) -> Result<Option<Shape>, AllocError>
+// Whether the collision of two texts has this shape, and the check takes it; where none is wanted,
+// whether there is none.
+fn is_answer(alloc: Global, a: &[u8], b: &[u8], wanted: &Option<Shape>) -> Result<bool, AllocError>
     requires a_short { length a.now < 2 ^ 61 - 64 }
     requires b_short { length b.now < 2 ^ 61 - 64 }
 {
     let (is_inner, collision) = match mac_collision::<Sums>(alloc, &[], a, b)? {
         Some(MacCollision::Inner(collision)) => (true, collision),
         Some(MacCollision::Outer(collision)) => (false, collision),
-        None => return Ok(None),
+        None => return Ok(wanted.is_none()),
+    };
+    let Some(shape) = wanted else {
+        return Ok(false);
     };
     let left = collision.left;
     let right = collision.right;
-    let step = SumsFunction::step(left.state, &left.block);
-    if !check_collision::<SumsFunction>(&collision)
-        || SumsFunction::step(right.state, &right.block) != step
-    {
-        return Ok(None);
-    }
-    Ok(Some(Shape {
-        is_inner,
-        places: (left.place, right.place),
-        states: (left.state, right.state),
-        step,
-    }))
+    Ok(
+        check_collision::<SumsFunction>(&collision)
+            && is_inner == shape.is_inner
+            && (left.place, right.place) == (shape.place, shape.place)
+            && (left.state, right.state) == (shape.state, shape.state)
+            && left.block.starts_with(&shape.blocks.0)
+            && right.block.starts_with(&shape.blocks.1)
+            && SumsFunction::step(left.state, &left.block) == shape.step
+            && SumsFunction::step(right.state, &right.block) == shape.step,
+    )
 }
 
-// What becomes of a pair of texts, whose collision is this one.
-fn outcome(alloc: Global, a: &[u8], b: &[u8], wanted: Option<Shape>) -> Outcome
+// Prints what becomes of a pair of texts, whose collision is this one.
+fn print_outcome(
+    rt: &HostRuntime,
+    name: &str,
+    a: &[u8],
+    b: &[u8],
+    wanted: Option<Shape>,
+) -> io::Result<()>
     requires a_short { length a.now < 2 ^ 61 - 64 }
     requires b_short { length b.now < 2 ^ 61 - 64 }
 {
-    match shape_of(alloc, a, b) {
-        Ok(found) => Outcome::of_answer(found == wanted),
-        Err(_) => Outcome::of_second(shape_of(alloc, a, b).ok().map(|found| found == wanted)),
-    }
+    let outcome = match is_answer(rt.alloc(), a, b, &wanted) {
+        Ok(is_right) => Outcome::of_answer(is_right),
+        Err(_) => Outcome::of_second(is_answer(rt.alloc(), a, b, &wanted).ok()),
+    };
+    println!(rt; "mac_collision of {name}: {}", outcome.text())
 }
 
-// A collision where the walks through two messages meet in the states of the masked key.
-fn met_after_the_key(is_inner: bool, state: [u8; 2], step: [u8; 2]) -> Option<Shape> {
+// A collision of inner messages, after the masked key and zeros.
+fn inner_at(place: usize, blocks: ([u8; 2], [u8; 2]), step: [u8; 2]) -> Option<Shape> {
     Some(Shape {
-        is_inner,
-        places: (1, 1),
-        states: (state, state),
+        is_inner: true,
+        place,
+        state: [128, 54],
+        blocks,
         step,
     })
 }
 
-/// What becomes of each pair of texts, by its name. Outer messages, equal texts, and texts whose
-/// tags differ ask for no memory. The expected values come from a textbook program of HMAC and of
-/// collisions.
-pub(crate) fn outcomes(alloc: Global) -> [(&'static str, Outcome); 5] {
-    let inner = met_after_the_key(true, [54, 54], [55, 54]);
-    let inner_of_empty = met_after_the_key(true, [54, 54], [182, 54]);
-    let outer = met_after_the_key(false, [92, 92], [18, 92]);
-    let mut last = [0; 64];
-    last[63] = 1;
-    [
-        ("two bytes", outcome(alloc, &[1, 2], &[1, 3], inner)),
-        (
-            "no byte and one",
-            outcome(alloc, &[], &[0x80], inner_of_empty),
-        ),
-        ("outer messages", outcome(alloc, &[0; 64], &last, outer)),
-        ("equal texts", outcome(alloc, &last, &last, None)),
-        ("two tags", outcome(alloc, &[1], &[2], None)),
-    ]
+// Zeros, but for a byte.
+fn zeros_but<const N: usize>(place: usize, byte: u8) -> [u8; N] {
+    let mut bytes = [0; N];
+    if let Some(changed) = bytes.get_mut(place) {
+        *changed = byte;
+    }
+    bytes
+}
+
+// Prints what becomes of texts of 5,000 bytes that differ near the end.
+fn print_outcome_of_long(rt: &HostRuntime) -> io::Result<()> {
+    let wanted = inner_at(66, ([0, 0], [0, 0]), [129, 54]);
+    let a: [u8; 5_000] = zeros_but(4_200, 1);
+    let b: [u8; 5_000] = zeros_but(4_201, 1);
+    print_outcome(rt, "long texts", &a, &b, wanted)
+}
+
+/// Prints what becomes of each pair of texts. Outer messages, equal texts, and texts whose tags differ
+/// ask for no memory. The blocks of outer messages begin with the digests of the inner ones. The
+/// expected values come from a textbook program of HMAC and of collisions.
+pub(crate) fn print_outcomes(rt: &HostRuntime) -> io::Result<()> {
+    let wanted = inner_at(1, ([1, 2], [2, 1]), [21, 54]);
+    print_outcome(rt, "two bytes", &[1, 2], &[2, 1], wanted)?;
+    let wanted = inner_at(1, ([0x80, 0], [0xf8, 0x80]), [2, 54]);
+    print_outcome(rt, "no byte and one", &[], &[0xf8], wanted)?;
+    print_outcome_of_long(rt)?;
+    let outer = Shape {
+        is_inner: false,
+        place: 1,
+        state: [0, 92],
+        blocks: ([0x06, 0x36], [0x05, 0x37]),
+        step: [206, 92],
+    };
+    let a: [u8; 64] = zeros_but(0, 2);
+    let b: [u8; 64] = zeros_but(63, 1);
+    print_outcome(rt, "outer messages", &a, &b, Some(outer))?;
+    print_outcome(rt, "equal texts", &[1, 2], &[1, 2], None)?;
+    print_outcome(rt, "two tags", &[1], &[2], None)
 }

@@ -1,16 +1,16 @@
 //! A hash function whose state and digest are two bytes: collisions of it are easy to make.
 
 ghost use Rattle.std.specs.Prelude.{◌+◌, ◌%◌, [], ◌∷◌, slice_index, ⊤};
+ghost use Rattle.std.specs.List.{fold};
+ghost use Rattle.ripemd.specs.States.{HashState, IsHashState};
 
-use ripemd::witness::BlockFunction;
+use ripemd::digest::{BlockDigest, BlockFunction, Digest, HashMeaning, OutputSizeUser};
 use ripemd::{BlockHasher, ListBlockFunction};
+use ripemd_vectors::bytes::sum_from;
+use std::marker::Model;
 
-/// The block function: a step adds the first byte of the block to the one byte, and the last to the
-/// other.
+/// The block function: a step adds all bytes of the block to the one byte, and the last to the other.
 pub(crate) enum SumsFunction {}
-
-/// The hasher.
-pub(crate) type Sums = BlockHasher<SumsFunction>;
 
 impl BlockFunction for SumsFunction {
     type State = [u8; 2];
@@ -22,7 +22,7 @@ impl BlockFunction for SumsFunction {
     ghost start_of = { 0 ∷ 0 ∷ [] };
 
     ghost step_of = { λ state block.
-        (slice_index state 0 + slice_index block 0) % 256
+        fold (λ sum byte. (sum + byte) % 256) (slice_index state 0) block
         ∷ (slice_index state 1 + slice_index block 63) % 256 ∷ [] };
 
     ghost output_of = { λ state. state };
@@ -32,10 +32,7 @@ impl BlockFunction for SumsFunction {
     }
 
     fn step(state: [u8; 2], block: &[u8; 64]) -> [u8; 2] {
-        [
-            state[0].wrapping_add(block[0]),
-            state[1].wrapping_add(block[63]),
-        ]
+        [sum_from(state[0], block), state[1].wrapping_add(block[63])]
     }
 
     fn output(state: [u8; 2]) -> [u8; 2] {
@@ -64,4 +61,84 @@ impl ListBlockFunction for SumsFunction {
     ghost over_lists = { of_arrays };
 
     ghost digest_most = { Prim.search rules };
+}
+
+/// The hasher. It implements `Digest` and `BlockDigest` itself, as any other crate can.
+#[derive(Drop)]
+pub(crate) struct Sums {
+    hasher: BlockHasher<SumsFunction>,
+}
+
+impl Model for Sums {
+    ghost Value = { HashState };
+
+    ghost view = { λ sums. sums.hasher };
+}
+
+impl HashMeaning for Sums {
+    ghost meaning = { λ h. h };
+
+    ghost is_valid = { IsHashState (λ _. ⊤) };
+}
+
+impl OutputSizeUser for Sums {
+    type Output = [u8; 2];
+
+    ghost bytes_of = { λ digest. digest };
+
+    ghost OUTPUT_SIZE = { 2 };
+
+    const OUTPUT_SIZE: usize = 2;
+
+    ghost same_digest = { λ c d same. same };
+}
+
+impl Digest for Sums {
+    ghost start = { 0 ∷ 0 ∷ [] };
+
+    ghost step = { λ state block.
+        fold (λ sum byte. (sum + byte) % 256) (slice_index state 0) block
+        ∷ (slice_index state 1 + slice_index block 63) % 256 ∷ [] };
+
+    ghost output = { λ state. state };
+
+    fn new() -> Sums {
+        Sums {
+            hasher: BlockHasher::new(),
+        }
+    }
+
+    fn update(&mut self, bytes: &[u8]) {
+        self.hasher.update(bytes);
+    }
+
+    fn finalize_reset(&mut self) -> [u8; 2] {
+        self.hasher.finalize_reset()
+    }
+
+    fn reset(&mut self) {
+        self.hasher.reset();
+    }
+
+    fn duplicate(&self) -> Sums {
+        Sums {
+            hasher: self.hasher.duplicate(),
+        }
+    }
+
+    fn output_bytes(out: &[u8; 2]) -> &[u8] {
+        out
+    }
+
+    ghost use Rattle.ripemd.specs.Laws.{fed_nothing};
+
+    ghost fed_nothing = { λ h valid. fed_nothing _ h valid.count valid.tail.short };
+}
+
+impl BlockDigest for Sums {
+    type Core = SumsFunction;
+
+    ghost use Rattle.std.specs.Prelude.{refl};
+
+    ghost digest_is = { λ message. refl };
 }

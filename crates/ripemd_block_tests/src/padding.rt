@@ -58,30 +58,6 @@ fn ends_in_the_length(rt: HostRuntime) {
     assert!(rt; ends_in(64, 1, &[0x00, 0x02, 0, 0, 0, 0, 0, 0]));
 }
 
-// The bytes 0, 1, 2 and so on to 119, with their padding.
-fn padded_numbers() -> [u8; 192] {
-    let mut bytes = [0; 192];
-    for i in 0..120 {
-        bytes[i] = i as u8;
-    }
-    bytes[120] = 0x80;
-    bytes[184] = 0xc0;
-    bytes[185] = 0x03;
-    bytes
-}
-
-// A message of 120 bytes, block by block.
-#[test]
-fn gives_each_block(rt: HostRuntime) {
-    let padded = padded_numbers();
-    let (blocks, _) = padded.as_chunks::<64>();
-    let message = &padded[..120];
-    for (place, block) in blocks.iter().enumerate() {
-        assert!(rt; pad_block(message, place) == Some(*block), "block {place}");
-    }
-    assert!(rt; block_count(message) == 3 && pad_block(message, 3).is_none());
-}
-
 // The whole blocks of a message, and its tail.
 #[test]
 fn cuts_whole_blocks(rt: HostRuntime) {

@@ -3,12 +3,12 @@
 
 ghost use Rattle.std.specs.Prelude.{◌<◌, ◌≤◌};
 
-use crate::cores::{COUNTED_128, COUNTED_160, COUNTED_256, COUNTED_320};
 use ripemd_block::block_api::{
     ByteArray, ListBlockFunction, Ripemd128Function, Ripemd160Function, Ripemd256Function,
     Ripemd320Function,
 };
 use ripemd_block::textbook;
+use ripemd_vectors::bytes::count_up;
 use ripemd_vectors::digits::is_written;
 
 // The words that the steps of a line take, round by round.
@@ -194,9 +194,7 @@ fn are_double(size: usize, exchanges: &[usize], block: &[u8; 64], bytes: &[u8]) 
 // The bytes 0 to 63.
 fn counting() -> [u8; 64] {
     let mut block = [0; 64];
-    for i in 0..64 {
-        block[i] = i as u8;
-    }
+    count_up(&mut block, 0);
     block
 }
 
@@ -238,6 +236,15 @@ fn steps_doubly<F: ListBlockFunction>(size: usize, exchanges: &[usize], counted:
 }
 
 // The words after the bytes 0 to 63 come from a slow textbook program in Python.
+const COUNTED_128: &str = "a8ffadbf9867b0239f4bef99a685a792";
+
+const COUNTED_160: &str = "7686e0d6baeae0a2b752a5c4cbad943b74837654";
+
+const COUNTED_256: &str = "115023a38024723bfb163700a7199c0ef7f87c75884ad633355769cade59c476";
+
+const COUNTED_320: &str =
+    "526e8cea28d93c813f367d370c20e2e8c6d01c2f17fbff9f9719ba67d13f170198b1aed45d882004";
+
 #[test]
 fn steps_are_those_of_the_tables(rt: HostRuntime) {
     assert!(rt; steps_jointly::<Ripemd128Function>(4, COUNTED_128));

@@ -14,6 +14,4 @@ mod published;
 #[cfg(test)]
 mod tags;
 #[cfg(test)]
-mod toys;
-#[cfg(test)]
 mod verified;

@@ -1,60 +1,38 @@
-//! Lists of commands.
+//! Lists of commands. Those of which an allocation can fail are in `ripemd_allocations`.
 
-mod answers;
 mod errors;
 mod random_lists;
 
-use crate::state::{rest_of, tail_of};
-use ripemd::digest::SerializableState;
-use ripemd::replay::{Command, ReplayError, replay};
-use ripemd::{Digest, Ripemd160};
-use ripemd_vectors::digits::is_written;
-use std::alloc::Global;
+use ripemd::Ripemd160;
+use ripemd::replay::{Command, replay};
+use ripemd_vectors::digits::{ABC_160, is_written};
+use std::alloc::{AllocError, Global};
+use std::test::Fail;
 
-// The words of a new RIPEMD-160 hasher, as another implementation has them.
-const START_WORDS: &[u8; 20] = &[
-    0x01, 0x23, 0x45, 0x67, 0x89, 0xab, 0xcd, 0xef, 0xfe, 0xdc, 0xba, 0x98, 0x76, 0x54, 0x32, 0x10,
-    0xf0, 0xe1, 0xd2, 0xc3,
-];
-
-// What a hasher of RIPEMD-160 is saved as: its words, its count of blocks, the length of its tail,
-// and its tail.
-fn state_160(words: &[u8; 20], block_count: u64, tail_len: u8, tail: &[u8]) -> [u8; 92] {
-    let mut bytes = [0; 92];
-    bytes[..20].copy_from_slice(words);
-    bytes[20..].copy_from_slice(&rest_of(block_count, tail_len, &tail_of(tail)));
-    bytes
+// Hundreds of hashers, of which the last takes in "abc", and of saved states of that one.
+fn many_commands(alloc: Global) -> Result<Vec<Command<'static>>, AllocError> {
+    let mut commands = Vec::new(alloc);
+    for _ in 0..300 {
+        commands.push(Command::New)?;
+    }
+    let bytes = b"abc";
+    commands.push(Command::Update { hasher: 299, bytes })?;
+    for _ in 0..300 {
+        commands.push(Command::Save { hasher: 299 })?;
+    }
+    commands.push(Command::Load { saved: 299 })?;
+    commands.push(Command::Finish { hasher: 300 })?;
+    Ok(commands)
 }
 
-// Whether the digests are these.
-fn are_written<D: Digest>(found: &Vec<D::Output>, digests: &[&str]) -> bool {
-    if found.len() != digests.len() {
-        return false;
-    }
-    for (digest, digits) in found.iter().zip(digests) {
-        if !is_written(D::output_bytes(digest), digits) {
-            return false;
-        }
-    }
-    true
-}
-
-// Whether the commands give these digests.
-fn gives<D: Digest + SerializableState>(
-    alloc: Global,
-    commands: &[Command],
-    digests: &[&str],
-) -> bool {
-    match replay::<D>(alloc, commands) {
-        Ok(found) => are_written::<D>(&found, digests),
-        Err(_) => false,
-    }
-}
-
-// Whether the commands stop with this error, on RIPEMD-160.
-fn stops(alloc: Global, commands: &[Command], error: ReplayError) -> bool {
-    match replay::<Ripemd160>(alloc, commands) {
-        Ok(_) => false,
-        Err(found) => found == error,
-    }
+#[test]
+fn many_hashers(rt: HostRuntime) -> Result<(), Fail> {
+    let commands = many_commands(rt.alloc())?;
+    let digests = replay::<Ripemd160>(rt.alloc(), commands.as_slice());
+    assert!(rt;
+        digests.is_ok_and(|digests| {
+            digests.len() == 1 && is_written(digests[0].as_slice(), ABC_160)
+        })
+    );
+    Ok(())
 }

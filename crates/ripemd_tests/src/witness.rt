@@ -1,11 +1,9 @@
 ghost use Rattle.std.specs.Prelude.{◌<◌, ◌^◌, length};
 
-mod search;
 pub(crate) mod toys;
 
 use ripemd::block_api::{Ripemd128Core, Ripemd160Core, Ripemd256Core, Ripemd320Core};
 use ripemd::witness::{BlockFunction, Collision, Meeting, check_collision, collision_witness};
-use search::{Walk, collisions};
 use toys::{Adding, Forgetting};
 
 // What is wanted of a collision: places, states, and the state to which both steps lead.
@@ -158,78 +156,4 @@ fn checks_a_collision(rt: HostRuntime) {
             right: elsewhere
         })
     );
-}
-
-// The lengths of messages around the ends of blocks and of what one block holds beside the padding.
-const LENGTHS: [usize; 11] = [0, 1, 55, 56, 63, 64, 65, 119, 120, 127, 128];
-
-// Zeros, with a byte at the front or at the end: 1, or what makes up for the length in the padding,
-// so that messages of different lengths have one sum.
-fn message_of(kind: usize, len: usize) -> [u8; 128] {
-    let bits = len.saturating_mul(8);
-    let balance = ((bits % 256) as u8).wrapping_add((bits / 256 % 256) as u8);
-    let mut message = [0; 128];
-    let at = if kind % 2 == 0 {
-        0
-    } else {
-        len.saturating_sub(1)
-    };
-    if let Some(byte) = message.get_mut(at) {
-        *byte = match kind {
-            0 => 0,
-            1 | 2 => 1,
-            _ => 0u8.wrapping_sub(balance),
-        };
-    }
-    message
-}
-
-// How many collisions a search among all pairs of places finds; none if the answer is not that of
-// the search, or if there is not one for different messages with one hash, and else none.
-fn number_found<F: BlockFunction<State = u8>>(a: &[u8], b: &[u8]) -> Option<usize>
-    requires a_short { length a.now < 2 ^ 61 }
-    requires b_short { length b.now < 2 ^ 61 }
-{
-    let left = Walk::new::<F>(a);
-    let right = Walk::new::<F>(b);
-    let (number, wanted) = collisions::<F>(&left, &right);
-    let due = usize::from(a != b && left.end() == right.end());
-    if number == due && collision_witness::<F>(a, b) == wanted {
-        Some(number)
-    } else {
-        None
-    }
-}
-
-// How many collisions the pairs of messages of these lengths have, one of each kind; none if an
-// answer is wrong.
-fn number_of_lengths<F: BlockFunction<State = u8>>(len_a: usize, len_b: usize) -> Option<usize> {
-    let mut number: usize = 0;
-    for kind_a in 0..5 {
-        for kind_b in 0..5 {
-            let a = message_of(kind_a, len_a);
-            let b = message_of(kind_b, len_b);
-            let found = number_found::<F>(&a[..len_a.min(128)], &b[..len_b.min(128)])?;
-            number = number.saturating_add(found);
-        }
-    }
-    Some(number)
-}
-
-// The same of all lengths.
-fn number_of_all<F: BlockFunction<State = u8>>() -> Option<usize> {
-    let mut number: usize = 0;
-    for len_a in LENGTHS {
-        for len_b in LENGTHS {
-            number = number.saturating_add(number_of_lengths::<F>(len_a, len_b)?);
-        }
-    }
-    Some(number)
-}
-
-// Every pair of 55 messages, against the search.
-#[test]
-fn agrees_with_a_search(rt: HostRuntime) {
-    assert!(rt; number_of_all::<Adding>() == Some(596));
-    assert!(rt; number_of_all::<Forgetting>() == Some(222));
 }
