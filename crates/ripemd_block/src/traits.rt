@@ -241,25 +241,16 @@ pub trait ListBlockFunction: BlockFunction<Digest: ByteArray> {
     // The bytes of the output of a list.
     ghost output: { List ℕ → List ℕ };
 
-    /// The state after a block, as `step` gives it. A block function may have a faster body here, by which it takes
-    /// in many blocks.
-    #[inline(always)]
-    fn fast_step(state: Self::State, block: &[u8; 64]) -> Self::State
-        ensures value { result ≡ Self.step_of state block.now }
-        ensures valid { Self.is_state state → Self.is_state result }
-    {
-        Self::step(state, block)
-    }
-
-    /// Takes blocks into a state in order.
+    /// Takes blocks into a state in order. A block function may have a faster body than a step for
+    /// each block.
     #[inline(never)]
-    final fn walk_on(first: &mut Self::State, blocks: &[[u8; 64]])
+    fn walk_on(first: &mut Self::State, blocks: &[[u8; 64]])
         ensures value { first.new ≡ walk Self.step_of first.old blocks.now }
         ensures valid { Self.is_state first.old → Self.is_state first.new }
     {
         let mut state = *first;
         for block in blocks {
-            state = Self::fast_step(state, block);
+            state = Self::step(state, block);
         }
         *first = state;
     }

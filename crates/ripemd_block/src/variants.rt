@@ -84,9 +84,9 @@ impl ListBlockFunction for Ripemd128Function {
 
     ghost output = { word_bytes };
 
-    #[inline(always)]
-    fn fast_step(state: [u32; 4], block: &[u8; 64]) -> [u32; 4] {
-        registers::c128::compress(state, block)
+    #[inline(never)]
+    fn walk_on(first: &mut [u32; 4], blocks: &[[u8; 64]]) {
+        registers::walk_on::<Ripemd128Function>(first, blocks);
     }
 
     ghost use Rattle.std.proofs.Common.{rules};
@@ -186,9 +186,9 @@ impl ListBlockFunction for Ripemd160Function {
 
     ghost output = { word_bytes };
 
-    #[inline(always)]
-    fn fast_step(state: [u32; 5], block: &[u8; 64]) -> [u32; 5] {
-        registers::c160::compress(state, block)
+    #[inline(never)]
+    fn walk_on(first: &mut [u32; 5], blocks: &[[u8; 64]]) {
+        registers::walk_on::<Ripemd160Function>(first, blocks);
     }
 
     ghost use Rattle.std.proofs.Common.{rules};
@@ -291,9 +291,9 @@ impl ListBlockFunction for Ripemd256Function {
 
     ghost output = { word_bytes };
 
-    #[inline(always)]
-    fn fast_step(state: [u32; 8], block: &[u8; 64]) -> [u32; 8] {
-        registers::c256::compress(state, block)
+    #[inline(never)]
+    fn walk_on(first: &mut [u32; 8], blocks: &[[u8; 64]]) {
+        registers::walk_on::<Ripemd256Function>(first, blocks);
     }
 
     ghost use Rattle.std.proofs.Common.{rules};
@@ -398,9 +398,9 @@ impl ListBlockFunction for Ripemd320Function {
 
     ghost output = { word_bytes };
 
-    #[inline(always)]
-    fn fast_step(state: [u32; 10], block: &[u8; 64]) -> [u32; 10] {
-        registers::c320::compress(state, block)
+    #[inline(never)]
+    fn walk_on(first: &mut [u32; 10], blocks: &[[u8; 64]]) {
+        registers::walk_on::<Ripemd320Function>(first, blocks);
     }
 
     ghost use Rattle.std.proofs.Common.{rules};

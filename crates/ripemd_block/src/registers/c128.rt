@@ -8,7 +8,6 @@ use super::lines::{Lines, round, words_of_rounds};
 use crate::chaining::{joint_state_of_four, lines_of_128};
 
 /// The state after a block.
-#[inline(always)]
 pub(crate) fn compress(state: [u32; 4], block: &[u8; 64]) -> [u32; 4]
     ensures value { result ≡ compress ripemd128 state block.now }
     ensures words { AreWords 4 result }

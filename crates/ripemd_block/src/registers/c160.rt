@@ -8,7 +8,6 @@ use super::lines::{Lines, round, words_of_rounds};
 use crate::chaining::{joint_state_of_five, lines_of_160};
 
 /// The state after a block.
-#[inline(always)]
 pub(crate) fn compress(state: [u32; 5], block: &[u8; 64]) -> [u32; 5]
     ensures value { result ≡ compress ripemd160 state block.now }
     ensures words { AreWords 5 result }

@@ -1,7 +1,5 @@
-use Rattle.std.proofs.Common.{◌≡◌, ◌-◌, arith, sym, ◌∙◌, length, ap, []}
-use Rattle.std.specs.List.{slice_get}
+use Rattle.std.proofs.Common.{arith, sym, ◌∙◌, length, ap, []}
 use Rattle.std.proofs.lemmas.Option.{slice_get-get_or, slice_get_past}
-use Rattle.ripemd_block.specs.Standard.Hashing.{blocks, padded_message}
 use Rattle.ripemd_block.proofs.PaddedBlocks.{whole_block, last_block}
 use Rattle.ripemd_block.proofs.padding.pad_block.Goals as goal
 
