@@ -1,14 +1,13 @@
 -- A line, step by step and round by round, of any variant.
 use Rattle.std.proofs.Common.{◌≡◌, ℕ, zero, suc, ◌<◌, ◌+◌, ◌^◌, add-one, ap, ◌∙◌, refl, arith}
-use Rattle.std.proofs.Common.{List, [], ◌∷◌, length, get_or, slice_get, slice_set}
-use Rattle.std.proofs.lemmas.List.Edits.{fill_by_more}
+use Rattle.std.proofs.Common.{List, [], ◌∷◌, get_or, slice_get}
 use Rattle.std.specs.List.{All}
 use Rattle.ripemd_block.specs.Standard.Words.{◌⊞◌, message_word}
 use Rattle.ripemd_block.specs.Standard.Schedule.{Line, left_line, right_line, rotation}
 use Rattle.ripemd_block.specs.Standard.Compression.{Parameters, Lines, step, registers_after, round}
 use Rattle.ripemd_block.specs.Standard.Compression.{word_sums, exchange, lines_after, lines_from, compress}
 use Rattle.ripemd_block.specs.Code.Lines.{message_words, words_with, words_of_rounds}
-use Rattle.ripemd_block.proofs.Tables.{value_at, is_table}
+use Rattle.ripemd_block.proofs.Tables.{value_at}
 
 -- the message word that a step takes
 pub word_of_step : {words : List ℕ} (block : List ℕ) (i n d : ℕ) → words ≡ message_words block → i < 16 → i ≡ n
@@ -25,20 +24,6 @@ word_with_constant line rounds block r j d all round word =
     rw all
     (ap (λ (row : List ℕ). get_or row j d) (value_at (λ r. words_with (line.constant r) block) rounds r [] round)
     ∙ value_at (λ j. message_word block j ⊞ line.constant r) 16 j d word)
-
--- rows of a line, with one more in its place
-pub more_rows : (line : Line) (block : List ℕ) (rows : List (List ℕ)) (r k : ℕ) (row : List ℕ) → r < length rows
-    → k ≡ line.constant r → row ≡ words_with k block
-    → ((j : ℕ) → j < r → get_or rows j [] ≡ words_with (line.constant j) block)
-    → (j : ℕ) → j < r + 1 → get_or (slice_set rows r row) j [] ≡ words_with (line.constant j) block
-more_rows line block rows r k row within constant is so_far =
-    rw (is, constant) (fill_by_more (λ j. words_with (line.constant j) block) rows r [] within so_far)
-
--- all of them
-pub all_rows : (line : Line) (rounds : ℕ) (block : List ℕ) (rows : List (List ℕ)) → length rows ≡ rounds
-    → ((j : ℕ) → j < rounds → get_or rows j [] ≡ words_with (line.constant j) block) → rows ≡ words_of_rounds line rounds block
-unfolding words_of_rounds
-all_rows line rounds block rows size each = is_table (λ r. words_with (line.constant r) block) rounds [] rows size each
 
 same_sum : (u x k : ℕ) → u ⊞ (x ⊞ k) ⊞ 0 ≡ u ⊞ x ⊞ k
 same_sum u x k = omega arith

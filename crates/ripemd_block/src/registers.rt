@@ -12,6 +12,7 @@ mod lines;
 
 use crate::traits::BlockFunction;
 use crate::variants::{Ripemd128Function, Ripemd160Function, Ripemd256Function, Ripemd320Function};
+use std::simd::prelude::*;
 
 /// A block function whose step there is in general registers, too.
 pub(crate) trait InRegisters: BlockFunction {
@@ -19,6 +20,14 @@ pub(crate) trait InRegisters: BlockFunction {
     fn compress(state: Self::State, block: &[u8; 64]) -> Self::State
         ensures value { result ≡ Self.step_of state block.now }
         ensures valid { Self.is_state result };
+
+    /// Writes a state to its place.
+    #[inline(always)]
+    fn put(state: Self::State, place: &mut Self::State)
+        ensures { place.new ≡ state }
+    {
+        *place = state;
+    }
 }
 
 /// Takes blocks into a state in order.
@@ -31,7 +40,7 @@ pub(crate) fn walk_on<F: InRegisters>(first: &mut F::State, blocks: &[[u8; 64]])
     for block in blocks {
         state = F::compress(state, block);
     }
-    *first = state;
+    F::put(state, first);
 }
 
 impl InRegisters for Ripemd128Function {
@@ -45,6 +54,15 @@ impl InRegisters for Ripemd160Function {
     #[inline(always)]
     fn compress(state: [u32; 5], block: &[u8; 64]) -> [u32; 5] {
         c160::compress(state, block)
+    }
+
+    // Four words go into one store: else the compiler makes a vector of them that goes from block to block, and the next
+    // block waits for its words. Of the states of the other functions it makes none.
+    #[inline(always)]
+    fn put(state: [u32; 5], place: &mut [u32; 5]) {
+        let [s0, s1, s2, s3, s4] = state;
+        u32x4::from_array([s0, s1, s2, s3]).copy_to_slice(&mut place[..4]);
+        place[4] = s4;
     }
 }
 

@@ -4,7 +4,7 @@ ghost use Rattle.std.specs.Prelude.{◌≡◌};
 ghost use Rattle.ripemd_block.specs.Standard.Compression.{compress, ripemd128};
 ghost use Rattle.ripemd_block.specs.States.{AreWords};
 
-use super::lines::{Lines, round, words_of_rounds};
+use super::lines::{Lines, round, words_of_four_rounds};
 use crate::chaining::{joint_state_of_four, lines_of_128};
 
 /// The state after a block.
@@ -12,7 +12,7 @@ pub(crate) fn compress(state: [u32; 4], block: &[u8; 64]) -> [u32; 4]
     ensures value { result ≡ compress ripemd128 state block.now }
     ensures words { AreWords 4 result }
 {
-    let words = words_of_rounds::<4>(block);
+    let words = words_of_four_rounds(block);
     let (left, right) = lines_of_128(state);
     let lines = Lines { left, right };
     let lines = round(0, &words, lines);

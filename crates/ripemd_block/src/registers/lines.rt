@@ -103,20 +103,49 @@ fn words_with(block: &[u8; 64], k: u32) -> [u32; 16]
     (message_words(block) + u32x16::splat(k)).to_array()
 }
 
-/// These words of lines of so many rounds. Not inlined: in the steps the compiler would add the constants
+/// These words of lines of four rounds. Not inlined: in the steps the compiler would add the constants
 /// last, where the next step waits for them.
 #[inline(never)]
-pub(crate) fn words_of_rounds<const N: usize>(block: &[u8; 64]) -> Words<N>
-    requires { N ≤ 5 }
-    ensures { HasWords N result.left result.right block.now }
+pub(crate) fn words_of_four_rounds(block: &[u8; 64]) -> Words<4>
+    ensures { HasWords 4 result.left result.right block.now }
 {
-    let mut left = [[0; 16]; N];
-    let mut right = [[0; 16]; N];
-    for r in 0..N {
-        left[r] = words_with(block, left_constant(r));
-        right[r] = words_with(block, right_constant(N, r));
+    Words {
+        left: [
+            words_with(block, left_constant(0)),
+            words_with(block, left_constant(1)),
+            words_with(block, left_constant(2)),
+            words_with(block, left_constant(3)),
+        ],
+        right: [
+            words_with(block, right_constant(4, 0)),
+            words_with(block, right_constant(4, 1)),
+            words_with(block, right_constant(4, 2)),
+            words_with(block, right_constant(4, 3)),
+        ],
     }
-    Words { left, right }
+}
+
+/// The same of lines of five rounds.
+#[inline(never)]
+pub(crate) fn words_of_five_rounds(block: &[u8; 64]) -> Words<5>
+    ensures { HasWords 5 result.left result.right block.now }
+{
+    Words {
+        left: [
+            words_with(block, left_constant(0)),
+            words_with(block, left_constant(1)),
+            words_with(block, left_constant(2)),
+            words_with(block, left_constant(3)),
+            words_with(block, left_constant(4)),
+        ],
+        right: [
+            words_with(block, right_constant(5, 0)),
+            words_with(block, right_constant(5, 1)),
+            words_with(block, right_constant(5, 2)),
+            words_with(block, right_constant(5, 3)),
+            words_with(block, right_constant(5, 4)),
+        ],
+    }
 }
 
 /// The registers of both lines.

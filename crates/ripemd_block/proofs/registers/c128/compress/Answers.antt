@@ -5,7 +5,7 @@ use Rattle.ripemd_block.proofs.registers.c128.compress.Goals as goal
 
 pub returns-clause-value : goal.returns-clause-value
 returns-clause-value c =
-    let words = c.words_of_rounds-words.ensures in
+    let words = c.words_of_four_rounds-words.ensures in
     c.joint_state_of_four.ensures ∙ compress_from (next_round (next_round (next_round (next_round
     (no_rounds ripemd128 c.args.state c.args.block.now c.lines_of_128.ensures)
     c.round-lines.ensures.left c.round-lines.ensures.right refl words)

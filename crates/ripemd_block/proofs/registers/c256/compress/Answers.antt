@@ -5,7 +5,7 @@ use Rattle.ripemd_block.proofs.registers.c256.compress.Goals as goal
 
 pub returns-clause-value : goal.returns-clause-value
 returns-clause-value c =
-    let words = c.words_of_rounds-words.ensures in
+    let words = c.words_of_four_rounds-words.ensures in
     c.double_state_of_four.ensures ∙ compress_from (next_round (next_round (next_round (next_round
     (no_rounds ripemd256 c.args.state c.args.block.now c.lines_of_256.ensures)
     c.round.ensures.left c.round.ensures.right c.exchange-lines.ensures words)
