@@ -1,12 +1,12 @@
 -- The bytes that an HMAC state is kept as, taken apart into those of its two hash states.
-use Rattle.std.proofs.Common.{◌≡◌, ℕ, ◌+◌, List, ◌++◌, length, take, drop, sym, ap, ◌∙◌, arith}
+use Rattle.std.proofs.Common.{◌≡◌, ℕ, ◌+◌, List, ◌++◌, length, take, drop, length-append, sym, ap, ◌∙◌, arith}
 use Rattle.std.proofs.Common.{Option, Some, None, IfNone}
-use Rattle.std.proofs.lemmas.List.{take_at, drop_at, length-take-le}
+use Rattle.std.proofs.lemmas.List.{take_at, drop_at, take-append-drop, length-take-le}
 use Rattle.ripemd.specs.States.{core_and_tail}
 use Rattle.ripemd.specs.OverLists.{IsInjectiveOutput}
 use Rattle.ripemd_mac.specs.Hmac.{KeyedState}
 use Rattle.ripemd_mac.specs.Saved.{IsKeyedState, hmac_bytes}
-use Rattle.ripemd_mac.specs.Laws.{inner_part, outer_part}
+use Rattle.ripemd_mac.specs.Laws.{length-hmac_bytes, inner_part, outer_part}
 use Rattle.ripemd_calls.specs.KeptBytes.{cleared, cleared_hmac}
 use Rattle.ripemd_calls.proofs.KeptBytes.{length-cleared}
 
