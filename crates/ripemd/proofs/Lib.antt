@@ -2,3 +2,4 @@ pub mod LastDifference
 pub mod Reduction
 pub mod Replaying
 pub mod Saved
+pub mod Clearing

@@ -1,6 +1,3 @@
--- The bytes that states are kept as.
-pub mod KeptBytes
-pub mod KeptHmac
 -- Saved bytes tell their state.
 pub mod KeptStates
 -- What calls do with some values.

@@ -49,7 +49,6 @@ macro_rules! by_variant {
 
 pub mod facts;
 pub mod hmac;
-mod kept;
 pub mod pbkdf2;
 mod states;
 pub mod streams;
