@@ -2,4 +2,3 @@ pub mod LastDifference
 pub mod Reduction
 pub mod Replaying
 pub mod Saved
-pub mod Clearing

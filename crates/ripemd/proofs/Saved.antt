@@ -1,88 +1,33 @@
 -- Saved bytes of a core and a tail, put together and taken apart.
-use Rattle.std.proofs.Common.{◌≡◌, ℕ, ◌+◌, ◌-◌, ◌<◌, refl, sym, ap, ◌∙◌, arith, rules}
+use Rattle.std.proofs.Common.{◌≡◌, ℕ, ◌+◌, ◌-◌, ◌<◌, suc, refl, sym, ap, ◌∙◌, arith, rules}
 use Rattle.std.proofs.Common.{List, [], ◌∷◌, ◌++◌, length, take, drop, get_or, replicate}
-use Rattle.std.proofs.Common.{All, length-append, slice_set, suc, ◌≤◌, ◌⊎◌, inl, inr}
-use Rattle.std.proofs.lemmas.List.Elements.{All-append}
-use Rattle.std.proofs.lemmas.Bool.{cases_lt}
-use Rattle.std.proofs.lemmas.List.{append_assoc, append-nil, length-replicate, length-drop}
-use Rattle.std.proofs.lemmas.List.{length-take-le, take-append-drop, take_all, take_at, drop_at}
+use Rattle.std.proofs.lemmas.List.{length-drop, length-take-le, take-append-drop, drop_at}
 use Rattle.std.proofs.Math.Seq.{take-append_seam, drop-append_seam}
 use Rattle.ripemd_block.specs.States.{HashState, IsTail, IsHashState, IsWithoutTail, with_tail}
-use Rattle.ripemd_block.specs.States.{output_and_count, tail_bytes, core_and_tail, fed}
-use Rattle.ripemd_block.specs.Laws.Pieces.{fed_short}
-use Rattle.ripemd.specs.Saved.{IsAppended, cleared, cleared_tail}
-use Rattle.ripemd.specs.SavedLaws.{cleared-both, cleared_behind}
+use Rattle.ripemd_block.specs.States.{output_and_count, tail_bytes, core_and_tail}
 use Rattle.ripemd_block.specs.OverLists.{IsInjectiveOutput}
 use Rattle.ripemd_block.specs.Laws.Saved.{length-output_and_count, length-core_and_tail, core_and_tail-split}
 
--- ---- bytes with zeros behind a tail
+-- ---- the saved bytes of a tail: its length, the tail, and zeros
 
--- a number and as many of the bytes behind it
-pub cleared_front : (kept : List ℕ) → length kept ≡ 64 → get_or kept 0 0 < 64
-    → tail_bytes (take (get_or kept 0 0) (drop 1 kept)) ≡ cleared_tail kept
-cleared_front [] size short = absurd (omega (arith, size))
-cleared_front (n ∷ behind) size short =
+module _ (tail saved : List ℕ) (is : tail_bytes tail ≡ saved) where
+  pub tail_length : get_or saved 0 0 ≡ length tail
+  tail_length = ap (λ (bs : List ℕ). get_or bs 0 0) (sym is)
+
+  pub zeros_behind : length tail < 64 → drop (suc (length tail)) saved ≡ replicate (63 - length tail) 0
+  zeros_behind short = ap (drop (suc (length tail))) (sym is) ∙ drop_at (length tail ∷ tail) _ (suc (length tail)) refl
+
+-- a number, so many bytes, and zeros are those of a tail
+pub tail_of_zeros : (saved : List ℕ) → length saved ≡ 64 → get_or saved 0 0 < 64
+    → drop (suc (get_or saved 0 0)) saved ≡ replicate (length (drop (suc (get_or saved 0 0)) saved)) 0
+    → tail_bytes (take (get_or saved 0 0) (drop 1 saved)) ≡ saved
+tail_of_zeros [] size short zeros = absurd (omega (arith, size))
+tail_of_zeros (n ∷ behind) size short zeros =
     let left : length behind ≡ 63 = omega (arith, size) in
-    rw (length-take-le n behind (omega (arith, left, short)), left) refl
-
-module _ (tail kept : List ℕ) (size : length kept ≡ 64) (short : length tail < 64) (is : tail_bytes tail ≡ cleared_tail kept) where
-  -- bytes that are so with zeros begin with the length of the tail, and then come its bytes
-  pub begins : kept ≡ length tail ∷ tail ++ drop (suc (length tail)) kept
-  begins = parts kept size is
-    where
-      parts : (kept : List ℕ) → length kept ≡ 64 → tail_bytes tail ≡ cleared_tail kept
-          → kept ≡ length tail ∷ tail ++ drop (suc (length tail)) kept
-      parts [] size is = absurd (omega (arith, size))
-      parts (n ∷ behind) size is =
-          let m : ℕ = length tail in
-          let first : n ≡ m = sym (ap (λ (bs : List ℕ). get_or bs 0 0) is) in
-          let held : length (take m behind) ≡ m = length-take-le m behind (omega (arith, size, short)) in
-          let both : tail ++ replicate (63 - m) 0 ≡ take m behind ++ replicate (length behind - m) 0 = rw first at (ap (drop 1) is) in
-          let own : take m behind ≡ tail =
-          sym (take_at (take m behind) (replicate (length behind - m) 0) m held) ∙ ap (take m) (sym both)
-          ∙ take_at tail (replicate (63 - m) 0) m refl in
-          ap (λ (k : ℕ). k ∷ behind) first
-          ∙ ap (λ (bs : List ℕ). m ∷ bs) (sym (take-append-drop m behind) ∙ ap (λ (bs : List ℕ). bs ++ drop m behind) own)
-
-  pub tail_length : get_or kept 0 0 ≡ length tail
-  tail_length = ap (λ (bs : List ℕ). get_or bs 0 0) begins
-
-  pub tail_held : take (length tail) (drop 1 kept) ≡ tail
-  tail_held = ap (λ (bs : List ℕ). take (length tail) (drop 1 bs)) begins ∙ take_at tail _ (length tail) refl
-
-  -- a piece written behind the tail, and its length added to the tail's
-  pub tail_appended : (piece front room : List ℕ) (len : ℕ) → length tail ≡ len → len + length piece < 64
-      → front ≡ take (1 + len) kept → room ≡ drop (1 + len) kept
-      → cleared_tail (slice_set front 0 (len + length piece) ++ (piece ++ drop (length piece) room)) ≡ tail_bytes (tail ++ piece)
-  tail_appended piece front room len same_len fits is_front is_room =
-      let m : ℕ = length piece in
-      let next : 1 + len ≡ suc (length tail) = omega (arith, same_len) in
-      let front_is : front ≡ length tail ∷ tail =
-      is_front ∙ rw next (ap (take (suc (length tail))) begins ∙ take_at (length tail ∷ tail) _ (suc (length tail)) refl) in
-      let joined : length (tail ++ piece) ≡ len + m = omega (arith, length-append tail piece, same_len) in
-      let left : length (drop m room) ≡ 63 - length (tail ++ piece) =
-      omega (arith, length-drop m room, ap length is_room, length-drop (1 + len) kept, size, joined) in
-      rw front_is
-      (rw (← joined, ← append_assoc tail piece (drop m room)) (cleared_behind (tail ++ piece) (drop m room) left))
-
--- there are as many bytes with zeros as without
-length-cleared_tail : (kept : List ℕ) → length (cleared_tail kept) ≡ length kept
-length-cleared_tail [] = refl
-length-cleared_tail (n ∷ behind) = by (cases_lt (length behind) n)
-  where
-    both : length (take n behind ++ replicate (length behind - n) 0) ≡ length (take n behind) + (length behind - n)
-    both = length-append (take n behind) (replicate (length behind - n) 0)
-        ∙ ap (λ (k : ℕ). length (take n behind) + k) (length-replicate {A = ℕ} (length behind - n) 0)
-
-    by : (length behind < n) ⊎ (n ≤ length behind) → length (cleared_tail (n ∷ behind)) ≡ length (n ∷ behind)
-    by (inl few) = omega (arith, both, ap length (take_all n behind (omega (arith, few))), few)
-    by (inr all) = omega (arith, both, length-take-le n behind all, all)
-
-pub length-cleared : (n : ℕ) (kept : List ℕ) → length (cleared n kept) ≡ length kept
-length-cleared n kept =
-    length-append (take n kept) (cleared_tail (drop n kept))
-    ∙ ap (λ (k : ℕ). length (take n kept) + k) (length-cleared_tail (drop n kept))
-    ∙ sym (length-append (take n kept) (drop n kept)) ∙ ap length (take-append-drop n kept)
+    let held : length (take n behind) ≡ n = length-take-le n behind (omega (arith, left, short)) in
+    let none : replicate {A = ℕ} (63 - n) 0 ≡ drop n behind =
+    ap (λ (k : ℕ). replicate {A = ℕ} k 0) (sym (length-drop n behind ∙ ap (λ (k : ℕ). k - n) left)) ∙ sym zeros in
+    rw (held, none) (ap (λ (bs : List ℕ). n ∷ bs) (take-append-drop n behind))
 
 -- ---- the saved bytes of a hasher, taken apart into those of a core and of a tail, where the core's end
 
@@ -113,67 +58,3 @@ module _ {are_words : List ℕ → Type 0} {output : List ℕ → List ℕ} {siz
   pub tail_back : (tail : List ℕ) → tail ≡ drop n bytes → tail_bytes h.tail ≡ tail
   tail_back tail back =
       sym (back ∙ rw (split, place) (drop-append_seam (output_and_count output h) (tail_bytes h.tail)))
-
-  -- a piece that ends no block goes behind the tail
-  pub both_appended : (step : List ℕ → List ℕ → List ℕ) (piece front new : List ℕ) → front ≡ take n bytes
-      → length h.tail + length piece < 64 → All (λ b. b < 256) piece → new ≡ tail_bytes (h.tail ++ piece)
-      → IsAppended (IsHashState are_words) (core_and_tail output) (fed step) bytes piece (front ++ new)
-  unfolding output_and_count
-  both_appended step piece front new is_front short small added =
-      let after : HashState = with_tail h (h.tail ++ piece) in
-      let fits : length (h.tail ++ piece) < 64 = omega (arith, length-append h.tail piece, short) in
-      let core : output_and_count output after ≡ front = core_front front is_front in
-      record {
-        state = h;
-        before = record { valid = valid; saved = same };
-        after = rw (fed_short step h piece valid.count fits) (record {
-          valid = record {
-            words = valid.words;
-            count = valid.count;
-            tail = record { short = fits; bytes = All-append (λ (b : ℕ). b < 256) h.tail piece valid.tail.bytes small };
-          };
-          saved = core_and_tail-split output after ∙ rw (core, added) refl;
-        });
-      }
-
--- ---- the same of the bytes that a hasher is kept as
-
-module _ {are_words : List ℕ → Type 0} {output : List ℕ → List ℕ} {size : ℕ} (told : IsInjectiveOutput are_words output size)
-    (h : HashState) (valid : IsHashState are_words h) (n : ℕ) (core_size : n ≡ size + 8)
-    (kept : List ℕ) (same : core_and_tail output h ≡ cleared n kept) where
-  pub kept_size : length kept ≡ n + 64
-  kept_size = sym (length-cleared n kept) ∙ whole told h valid n core_size (cleared n kept) same
-
-  front_size : length (take n kept) ≡ n
-  front_size = length-take-le n kept (omega (arith, kept_size))
-
-  pub kept_front : (front : List ℕ) → front ≡ take n kept → front ≡ take n (cleared n kept)
-  kept_front front is = is ∙ sym (take_at (take n kept) (cleared_tail (drop n kept)) n front_size)
-
-  pub kept_core : (front : List ℕ) → front ≡ take n kept → output_and_count output (with_tail h []) ≡ front
-  kept_core front is = core_front told h valid n core_size (cleared n kept) same front (kept_front front is)
-
-  pub kept_own : (front : List ℕ) → front ≡ take n kept → output_and_count output h ≡ front
-  unfolding output_and_count
-  kept_own = kept_core
-
-  pub kept_tail : (back : List ℕ) → back ≡ drop n kept → tail_bytes h.tail ≡ cleared_tail back
-  kept_tail back is =
-      tail_back told h valid n core_size (cleared n kept) same (cleared_tail back)
-      (ap cleared_tail is ∙ sym (drop_at (take n kept) (cleared_tail (drop n kept)) n front_size))
-
--- bytes that are those of a core and of a tail are what a hasher of both is saved as
-pub both_saved : (output : List ℕ → List ℕ) (h : HashState) (n : ℕ) (bytes core tail : List ℕ) → core ≡ take n bytes
-    → tail ≡ drop n bytes → output_and_count output h ≡ core → tail_bytes h.tail ≡ tail → core_and_tail output h ≡ bytes
-both_saved output h n bytes core tail front back of_core of_tail =
-    core_and_tail-split output h ∙ rw (of_core, of_tail, front, back) (take-append-drop n bytes)
-
--- a core and a tail are kept as the bytes of the core, and behind them the tail's length and the tail, in place of as many
-pub both_kept : (output : List ℕ → List ℕ) (h : HashState) (tail : List ℕ) (n : ℕ) (core place behind none : List ℕ)
-    → length core ≡ n → output_and_count output h ≡ core → place ≡ length tail ∷ tail ++ behind
-    → length behind ≡ 63 - length tail → none ≡ [] → cleared n (core ++ (place ++ none)) ≡ core_and_tail output (with_tail h tail)
-unfolding output_and_count
-both_kept output h tail n core place behind none core_size of_core of_tail left empty =
-    let is : cleared_tail place ≡ tail_bytes tail = rw of_tail (cleared_behind tail behind left) in
-    let both = core_and_tail-split output (with_tail h tail) in
-    rw (empty, append-nil place) (cleared-both core place n core_size ∙ rw is (ap (λ (bs : List ℕ). bs ++ tail_bytes tail) (sym of_core) ∙ sym both))

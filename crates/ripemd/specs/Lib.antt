@@ -9,9 +9,8 @@ pub mod Replay
 pub mod Collisions
 -- Worked examples of these.
 pub mod Worked
--- Hashers of messages, and states that are saved: definitions for callers.
+-- Hashers of messages: definitions for callers.
 pub mod Messages
-pub mod Saved
 -- Definitions about the code's own vectors: proved, with no need to trust them.
 pub mod Held
 -- Laws for callers: proved.

@@ -1,16 +1,13 @@
 -- The bytes that a hasher is saved as, for a caller who keeps them between the pieces of a message.
-use Rattle.std.proofs.Common.{◌≡◌, ◌≢◌, ℕ, ◌+◌, ◌-◌, List, [], ◌∷◌, ◌++◌, length, replicate, length-append, ap, sym, ◌∙◌, refl, arith}
-use Rattle.std.proofs.lemmas.List.{take_at, drop_at, length-replicate}
+use Rattle.std.proofs.Common.{◌≡◌, ◌≢◌, ℕ, List, [], ◌++◌, ap, sym, ◌∙◌}
 use Rattle.ripemd_block.specs.Standard.Words.{word_bytes}
 use Rattle.ripemd_block.specs.Standard.Compression.{Parameters, compress}
 use Rattle.ripemd_block.specs.Standard.Hashing.{ripemd}
-use Rattle.ripemd_block.specs.States.{HashState, IsHashState, IsState, new_state, fed, finish, hasher_bytes, core_and_tail, output_and_count, tail_bytes}
-use Rattle.ripemd_block.specs.OverLists.{IsInjectiveOutput}
+use Rattle.ripemd_block.specs.States.{HashState, IsState, new_state, fed, finish, hasher_bytes}
 pub use Rattle.ripemd_block.specs.Laws.Saved.{length-core_and_tail, core_and_tail_injective}
-use Rattle.ripemd_block.specs.Laws.Saved.{hasher_bytes_injective, length-output_and_count, core_and_tail-split}
+use Rattle.ripemd_block.specs.Laws.Saved.{hasher_bytes_injective}
 use Rattle.ripemd_block.specs.Laws.Pieces as laws
 use Rattle.ripemd.specs.Laws.{fed_nothing}
-use Rattle.ripemd.specs.Saved.{cleared, cleared_tail}
 
 -- a hasher that was fed this message from the start can occur, and is saved as these bytes
 unfoldable pub SavesAs : Parameters → List ℕ → List ℕ → Type 0
@@ -58,31 +55,3 @@ pub saved_after_none : {v : Parameters} {bytes : List ℕ} → ((h : HashState) 
     → (message : List ℕ) → ¬ IsSavedAfter v message bytes
 unfolding SavesAs
 saved_after_none {v} refused message after = refused (fed (compress v) (new_state v) message) after.is.0 after.is.1
-
--- ---- bytes with zeros behind a tail
-
--- the length of a tail, the tail and any bytes are, with zeros in place of these, what the tail is saved as
-pub cleared_behind : (tail behind : List ℕ) → length behind ≡ 63 - length tail
-    → cleared_tail (length tail ∷ tail ++ behind) ≡ tail_bytes tail
-cleared_behind tail behind size =
-    let left : length (tail ++ behind) - length tail ≡ 63 - length tail = omega (arith, length-append tail behind, size) in
-    rw (take_at tail behind (length tail) refl, left) refl
-
--- zeros are put behind the tail, and the core's bytes stay
-pub cleared-both : (front back : List ℕ) (n : ℕ) → length front ≡ n → cleared n (front ++ back) ≡ front ++ cleared_tail back
-cleared-both front back n size = rw (take_at front back n size, drop_at front back n size) refl
-
--- what a hasher is saved as has zeros there, and so many bytes
-module _ {are_words : List ℕ → Type 0} {output : List ℕ → List ℕ} {n : ℕ} (tells : IsInjectiveOutput are_words output n)
-    (core : ℕ) (size : core ≡ n + 8) where
-  pub saved_is_clear : (h : HashState) → IsHashState are_words h → core_and_tail output h ≡ cleared core (core_and_tail output h)
-  saved_is_clear h valid =
-      let zeros : List ℕ = replicate (63 - length h.tail) 0 in
-      let front : length (output_and_count output h) ≡ core = length-output_and_count tells h valid ∙ sym size in
-      let tail : cleared_tail (tail_bytes h.tail) ≡ tail_bytes h.tail =
-      cleared_behind h.tail zeros (length-replicate {A = ℕ} (63 - length h.tail) 0) in
-      core_and_tail-split output h
-      ∙ sym (rw (core_and_tail-split output h) (cleared-both (output_and_count output h) (tail_bytes h.tail) core front ∙ rw tail refl))
-
-  pub saved_size : (all : ℕ) → all ≡ core + 64 → (h : HashState) → IsHashState are_words h → length (core_and_tail output h) ≡ all
-  saved_size all is h valid = omega (arith, length-core_and_tail tells h valid, size, is)

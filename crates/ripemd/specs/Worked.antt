@@ -1,10 +1,9 @@
--- Worked examples of collisions and of kept bytes, as facts of the definitions.
-use Rattle.std.specs.Prelude.{◌≡◌, ℕ, ◌+◌, ◌%◌, List, [], ◌∷◌, replicate, None}
+-- Worked examples of collisions, as facts of the definitions.
+use Rattle.std.specs.Prelude.{ℕ, ◌+◌, ◌%◌, List, [], ◌∷◌, replicate, None}
 use Rattle.std.specs.List.{flat_map}
 use Rattle.ripemd_block.specs.Standard.Hashing.{padded_message, blocks}
 use Rattle.ripemd.specs.declared.witness.Collision.{Collision}
 use Rattle.ripemd.specs.Collisions.{CollideAt, IsCollision, IsOnlyCollision}
-use Rattle.ripemd.specs.Saved.{cleared}
 
 -- a block function over numbers: the state and the block's first byte, added modulo 2. Of no block it gives 0
 abbrev pub parity : ℕ → List ℕ → ℕ
@@ -51,12 +50,3 @@ pub record WorkedCollisions : Type 0 where
   pub another_right_state : ¬ Met (met 0 (block_of 1) 1 (block_of 3))
   pub another_right_block : ¬ Met (met 0 (block_of 1) 0 (block_of 5))
   pub not_none : ¬ IsOnlyCollision 0 parity (message_of (1 ∷ 2 ∷ [])) (message_of (3 ∷ 2 ∷ [])) None
-
--- ---- kept bytes
-
--- of a core of two bytes: with a tail of one byte, with one of none, and with one of all bytes that there are
-pub record WorkedKept : Type 0 where
-  pub one : cleared 2 (9 ∷ 8 ∷ 1 ∷ 7 ∷ 6 ∷ 5 ∷ []) ≡ 9 ∷ 8 ∷ 1 ∷ 7 ∷ 0 ∷ 0 ∷ []
-  pub none : cleared 2 (9 ∷ 8 ∷ 0 ∷ 7 ∷ 6 ∷ 5 ∷ []) ≡ 9 ∷ 8 ∷ 0 ∷ 0 ∷ 0 ∷ 0 ∷ []
-  pub all : cleared 2 (9 ∷ 8 ∷ 3 ∷ 7 ∷ 6 ∷ 5 ∷ []) ≡ 9 ∷ 8 ∷ 3 ∷ 7 ∷ 6 ∷ 5 ∷ []
-  pub empty : cleared 2 (9 ∷ []) ≡ 9 ∷ []

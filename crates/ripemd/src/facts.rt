@@ -1,15 +1,10 @@
 //! Worked examples of the definitions, proved. The functions do nothing; their contracts are the
 //! facts.
 
-ghost use Rattle.ripemd.specs.Worked.{WorkedPlaces, WorkedCollisions, WorkedKept};
+ghost use Rattle.ripemd.specs.Worked.{WorkedPlaces, WorkedCollisions};
 
 /// Collisions of a block function on one bit, and answers that are none since one part is wrong.
 pub fn collisions()
     ensures places { WorkedPlaces }
     ensures answers { WorkedCollisions }
-{}
-
-/// Kept bytes, with zeros behind the tail.
-pub fn kept_bytes()
-    ensures { WorkedKept }
 {}

@@ -60,6 +60,29 @@ impl<F: ListBlockFunction> Model for BlockHasher<F> {
     ghost invariant = { λ h. IsHashState F.are_words (with_tail h.core h.buffer) };
 }
 
+impl<F: ListBlockFunction> BlockHasher<F> {
+    /// The hasher of a block core and of the tail behind the core's blocks.
+    #[inline(always)]
+    pub fn from_parts(core: BlockCore<F>, tail: Buffer) -> BlockHasher<F>
+        ensures { result ≡ with_tail core tail }
+    {
+        let mut core = core;
+        // Proof only: a core and a tail are valid.
+        core.update_blocks(&[]);
+        tail.get_data();
+        BlockHasher { core, buffer: tail }
+    }
+
+    /// Its block core, and the tail behind the core's blocks.
+    #[inline(always)]
+    pub fn parts(&self) -> (&BlockCore<F>, &[u8])
+        ensures same { with_tail result.0.now result.1.now ≡ self.now }
+        ensures valid { IsHashState F.are_words self.now }
+    {
+        (&self.core, self.buffer.get_data())
+    }
+}
+
 impl<F: ListBlockFunction> Default for BlockHasher<F> {
     ghost is_default = { λ h. h ≡ initial_state (F.list F.start_of) };
 

@@ -5,9 +5,7 @@ use ripemd::block_api::AlgorithmName;
 use ripemd::digest::SerializableState;
 use ripemd::replay::{Command, ReplayError, replay};
 use ripemd::{Digest, Ripemd160, Ripemd320};
-use ripemd_vectors::digits::{
-    ABC_160, ABC_320, EMPTY_160, EMPTY_320, HELLO_160, HELLO_320, is_written,
-};
+use ripemd_tests::digits::{HELLO_160, HELLO_320, OF_160, OF_320, is_written};
 use std::alloc::Global;
 use std::io;
 
@@ -190,7 +188,7 @@ fn print_outcomes_of_imports(rt: &HostRuntime) -> io::Result<()> {
         rt,
         "a state, finished",
         &finished,
-        &[ABC_160, EMPTY_160],
+        &[OF_160.abc, OF_160.empty],
         None,
     )?;
     let finished = finish_imported(&long);
@@ -198,11 +196,11 @@ fn print_outcomes_of_imports(rt: &HostRuntime) -> io::Result<()> {
         rt,
         "a long state, finished",
         &finished,
-        &[EMPTY_160, EMPTY_160],
+        &[OF_160.empty, OF_160.empty],
         None,
     )?;
     let again = save_imported_again(&abc);
-    print_outcome::<Ripemd160>(rt, "a state, saved again", &again, &[ABC_160], None)?;
+    print_outcome::<Ripemd160>(rt, "a state, saved again", &again, &[OF_160.abc], None)?;
     let again = save_imported_again(&letters);
     print_outcome::<Ripemd160>(
         rt,
@@ -218,7 +216,7 @@ fn print_outcomes_of_imports(rt: &HostRuntime) -> io::Result<()> {
 
 /// Prints what becomes of each list.
 pub(crate) fn print_outcomes(rt: &HostRuntime) -> io::Result<()> {
-    print_outcomes_by::<Ripemd160>(rt, EMPTY_160, ABC_160, HELLO_160)?;
-    print_outcomes_by::<Ripemd320>(rt, EMPTY_320, ABC_320, HELLO_320)?;
+    print_outcomes_by::<Ripemd160>(rt, OF_160.empty, OF_160.abc, HELLO_160)?;
+    print_outcomes_by::<Ripemd320>(rt, OF_320.empty, OF_320.abc, HELLO_320)?;
     print_outcomes_of_imports(rt)
 }

@@ -6,7 +6,7 @@ ghost use Rattle.ripemd.specs.States.{HashState, IsHashState};
 
 use ripemd::digest::{BlockDigest, BlockFunction, Digest, HashMeaning, OutputSizeUser};
 use ripemd::{BlockHasher, ListBlockFunction};
-use ripemd_vectors::bytes::sum_from;
+use ripemd_tests::bytes::sum_from;
 use std::marker::Model;
 
 /// The block function: a step adds all bytes of the block to the one byte, and the last to the other.

@@ -1,11 +1,12 @@
-//! The tests of `ripemd_batch`, which call it as any other crate does.
+//! The tests of `ripemd_mac` and `ripemd_batch`, which call these as any other crate does, and of the
+//! callers in `ripemd_uses`.
 #![tactic(auto)]
 
 #[cfg(test)]
-mod digests;
-#[cfg(test)]
-mod keys;
+mod lists;
 #[cfg(test)]
 mod passwords;
 #[cfg(test)]
 mod tags;
+#[cfg(test)]
+mod uses;

@@ -1,125 +1,180 @@
-//! Tags of many texts under one key.
+//! Tags by HMAC: those that others give, which keys count as one, and which tags are taken.
 
-use crate::digests::bytes;
-use ripemd::{Ripemd128, Ripemd160, Ripemd256, Ripemd320};
-use ripemd_batch::{BatchDigest, ListHasher, tag_each};
+use ripemd::block_api::ByteArray;
+use ripemd::digest::BlockDigest;
+use ripemd::{BlockHasher, Digest, ResumableFunction, Ripemd160};
 use ripemd_mac::Hmac;
-use ripemd_vectors::digits::is_written;
+use ripemd_tests::bytes::counted;
+use ripemd_tests::digits::{
+    Ripemd128Function, Ripemd160Function, Ripemd256Function, Ripemd320Function, is_written,
+};
 
-// Lengths around those where a text, or a text after a block, needs another block.
-const LENGTHS: [usize; 17] = [
-    0, 1, 31, 32, 55, 56, 57, 63, 64, 65, 119, 120, 127, 128, 183, 184, 200,
-];
+// The tag of a text that comes in two pieces, by a copy after the first.
+fn tag_of<D: BlockDigest>(key: &[u8], first: &[u8], second: &[u8]) -> D::Output {
+    let mut mac = Hmac::<D>::new(key);
+    mac.update(first);
+    let mut copy = mac.duplicate();
+    mac.update(b"another piece");
+    copy.update(second);
+    copy.finalize()
+}
 
-// Whether the tags of texts are those of one after another, by fours or as they come. `places` has room for them.
-fn agrees<D: BatchDigest>(
-    by_fours: bool,
+// The same, saved and loaded between the pieces.
+fn tag_put_aside<F: ResumableFunction>(
     key: &[u8],
-    texts: &[&[u8]],
-    places: &mut [D::Output],
-) -> bool {
-    let count = texts.len();
-    if count > places.len() {
-        return false;
-    }
-    let tags = &mut places[..count];
-    if by_fours {
-        ListHasher::<D>::keyed(key)
-            .in_vectors_of(4)
-            .hash_each(texts, tags);
-    } else {
-        tag_each::<D>(key, texts, tags);
-    }
-    let keyed = Hmac::<D>::new(key);
-    for i in 0..count {
-        let mut mac = keyed.duplicate();
-        mac.update(texts[i]);
-        if !mac.verify(D::output_bytes(&tags[i])) {
-            return false;
-        }
-    }
-    true
+    first: &[u8],
+    second: &[u8],
+) -> Option<F::Digest> {
+    let mut mac = Hmac::<BlockHasher<F>>::new(key);
+    mac.update(first);
+    let mut loaded = Hmac::<BlockHasher<F>>::load(&mac.save()).ok()?;
+    loaded.update(second);
+    Some(loaded.finalize())
 }
 
-// Whether this is so by each hasher, for up to 40 texts.
-fn all_agree(key: &[u8], texts: &[&[u8]]) -> bool {
-    all_agree_by(true, key, texts) && all_agree_by(false, key, texts)
-}
-
-// The same in one of the two ways.
-fn all_agree_by(by_fours: bool, key: &[u8], texts: &[&[u8]]) -> bool {
-    agrees::<Ripemd128>(by_fours, key, texts, &mut [[0; 16]; 40])
-        && agrees::<Ripemd160>(by_fours, key, texts, &mut [[0; 20]; 40])
-        && agrees::<Ripemd256>(by_fours, key, texts, &mut [[0; 32]; 40])
-        && agrees::<Ripemd320>(by_fours, key, texts, &mut [[0; 40]; 40])
-}
-
-// Whether this is so for 0 to 40 texts of mixed lengths, each of which follows another by `step`
-// places of the list of lengths, under keys of some lengths.
-fn mixed_agree(step: usize) -> bool {
-    let bytes = bytes();
-    let mut texts: [&[u8]; 40] = [&[]; 40];
-    for i in 0..40usize {
-        let length = LENGTHS[i.wrapping_mul(step) % 17];
-        let Some(text) = bytes.get(i..i.saturating_add(length)) else {
+// Whether the tag of a text is this one, wherever the text is cut.
+fn has_tag<F: ResumableFunction>(key: &[u8], text: &[u8], digits: &str) -> bool {
+    for at in [0, 1, 63, 64, 65] {
+        let (first, second) = text.split_at(at.min(text.len()));
+        let tag = tag_of::<BlockHasher<F>>(key, first, second);
+        let Some(same) = tag_put_aside::<F>(key, first, second) else {
             return false;
         };
-        texts[i] = text;
-    }
-    for length in [0, 20, 64, 65, 200] {
-        for count in 0..41 {
-            if !all_agree(&bytes[300..300 + length], &texts[..count]) {
-                return false;
-            }
-        }
-    }
-    true
-}
-
-// Lengths in order, mixed, and all the same.
-#[test]
-fn mixes_lengths_of_texts(rt: HostRuntime) {
-    for step in [1, 5, 17] {
-        assert!(rt; mixed_agree(step), "each {step} places on");
-    }
-}
-
-// Whether the tags of nine texts, eight at once and one alone, are these two in turn.
-fn are_written<D: BatchDigest>(
-    key: &[u8],
-    texts: [&[u8]; 2],
-    digits: [&str; 2],
-    places: &mut [D::Output],
-) -> bool {
-    let [a, b] = texts;
-    let texts: [&[u8]; 9] = [a, b, a, b, a, b, a, b, a];
-    if places.len() != 9 {
-        return false;
-    }
-    tag_each::<D>(key, &texts, places);
-    for i in 0..9 {
-        if !is_written(D::output_bytes(&places[i]), digits[i % 2]) {
+        if !is_written(tag.as_bytes(), digits) || !is_written(same.as_bytes(), digits) {
             return false;
         }
     }
     true
 }
 
-// What RFC 2286 publishes of two texts under a key of 80 bytes.
-#[test]
-fn gives_published_tags(rt: HostRuntime) {
-    let texts: [&[u8]; 2] = [
+// What RFC 2286 publishes: a key for RIPEMD-128 and one for RIPEMD-160, a text, and its tags.
+static PUBLISHED: [(&[u8], &[u8], &[u8], &str, &str); 7] = [
+    (
+        &[0x0b; 16],
+        &[0x0b; 20],
+        b"Hi There",
+        "fbf61f9492aa4bbf81c172e84e0734db",
+        "24cb4bd67d20fc1a5d2ed7732dcc39377f0a5668",
+    ),
+    (
+        b"Jefe",
+        b"Jefe",
+        b"what do ya want for nothing?",
+        "875f828862b6b334b427c55f9f7ff09b",
+        "dda6c0213a485a9e24f4742064a7f033b43c4069",
+    ),
+    (
+        &[0xaa; 16],
+        &[0xaa; 20],
+        &[0xdd; 50],
+        "09f0b2846d2f543da363cbec8d62a38d",
+        "b0b105360de759960ab4f35298e116e295d8e7c1",
+    ),
+    (
+        b"\x01\x02\x03\x04\x05\x06\x07\x08\x09\x0a\x0b\x0c\x0d\x0e\x0f\x10\x11\x12\x13\x14\x15\x16\x17\x18\x19",
+        b"\x01\x02\x03\x04\x05\x06\x07\x08\x09\x0a\x0b\x0c\x0d\x0e\x0f\x10\x11\x12\x13\x14\x15\x16\x17\x18\x19",
+        &[0xcd; 50],
+        "bdbbd7cf03e44b5aa60af815be4d2294",
+        "d5ca862f4d21d5e610e18b4cf1beb97a4365ecf4",
+    ),
+    (
+        &[0x0c; 16],
+        &[0x0c; 20],
+        b"Test With Truncation",
+        "e79808f24b25fd031c155f0d551d9a3a",
+        "7619693978f91d90539ae786500ff3d8e0518e39",
+    ),
+    (
+        &[0xaa; 80],
+        &[0xaa; 80],
         b"Test Using Larger Than Block-Size Key - Hash Key First",
-        b"Test Using Larger Than Block-Size Key and Larger Than One Block-Size Data",
-    ];
-    let of_128 = [
         "dc732928de98104a1f59d373c150acbb",
-        "5c6bec96793e16d40690c237635f30c5",
-    ];
-    let of_160 = [
         "6466ca07ac5eac29e1bd523e5ada7605b791fd8b",
+    ),
+    (
+        &[0xaa; 80],
+        &[0xaa; 80],
+        b"Test Using Larger Than Block-Size Key and Larger Than One Block-Size Data",
+        "5c6bec96793e16d40690c237635f30c5",
         "69ea60798d71616cce5fd0871e23754cd75d5a0a",
-    ];
-    assert!(rt; are_written::<Ripemd128>(&[0xaa; 80], texts, of_128, &mut [[0; 16]; 9]));
-    assert!(rt; are_written::<Ripemd160>(&[0xaa; 80], texts, of_160, &mut [[0; 20]; 9]));
+    ),
+];
+
+#[test]
+fn published_tags(rt: HostRuntime) {
+    for (key_128, key_160, text, tag_128, tag_160) in &PUBLISHED {
+        assert!(rt;
+            has_tag::<Ripemd128Function>(key_128, text, tag_128),
+            "{tag_128}"
+        );
+        assert!(rt;
+            has_tag::<Ripemd160Function>(key_160, text, tag_160),
+            "{tag_160}"
+        );
+    }
+}
+
+// Whether the tags of the text whose bytes are 0 to 149 are these, under keys of 64 and of 65 bytes,
+// which are 1, 2 and so on.
+fn have_tags<F: ResumableFunction>(of_64: &str, of_65: &str) -> bool {
+    let text: [u8; 150] = counted(0);
+    has_tag::<F>(&counted::<64>(1), &text, of_64) && has_tag::<F>(&counted::<65>(1), &text, of_65)
+}
+
+// Lines of tests/data/tags.txt, which says where they come from. Its other tags are tried on the
+// libraries for other languages.
+#[test]
+fn tags_of_others(rt: HostRuntime) {
+    assert!(rt;
+        have_tags::<Ripemd256Function>(
+            "be221f0b5f7f241262b6a7c5d9bf30585d415b0e5c1a50a9263136cdce033f69",
+            "0f3b7db33db96cbbc3f480e5a6e48683dcf4b9ed2dba5d36466421dd899aa66a"
+        )
+    );
+    assert!(rt;
+        have_tags::<Ripemd320Function>(
+            "b9d0ee4a02fe6ec700cfb8d93276454348dbfc09b6be303ebe17cc273407fc84477caa5110cd28a3",
+            "8a07e205dd28da238f82a501f9eab6a228827eb6f3978ddcb9ebb46a3b8d39499f6456129ba9299e"
+        )
+    );
+}
+
+// Whether both keys give one tag.
+fn count_as_one(key: &[u8], other: &[u8]) -> bool {
+    tag_of::<Ripemd160>(key, b"Hi There", b"") == tag_of::<Ripemd160>(other, b"Hi There", b"")
+}
+
+// A key counts as if zeros followed it to 64 bytes, and one that is longer as its digest. One of 64
+// bytes is not hashed: the tag is the digest of the outer message with the key itself.
+#[test]
+fn keys(rt: HostRuntime) {
+    let mut filled = [0; 64];
+    filled[..20].copy_from_slice(&[0x0b; 20]);
+    assert!(rt; count_as_one(&[0x0b; 20], &filled));
+    assert!(rt; count_as_one(&[], &[0; 64]));
+    assert!(rt; count_as_one(&[0x0b; 65], &Ripemd160::digest(&[0x0b; 65])));
+    assert!(rt; !count_as_one(&[0x0b; 65], &[0x0b; 20]));
+    let inner = Ripemd160::new_with_prefix(&[0x0b ^ 0x36; 64]).chain_update(b"Hi There");
+    let outer = Ripemd160::new_with_prefix(&[0x0b ^ 0x5c; 64]).chain_update(&inner.finalize());
+    assert!(rt; tag_of::<Ripemd160>(&[0x0b; 64], b"Hi There", b"") == outer.finalize());
+}
+
+// What `verify` says of a tag of "Hi There", under 20 bytes 0x0b.
+fn is_verified(tag: &[u8]) -> bool {
+    let mut mac = Hmac::<Ripemd160>::new(&[0x0b; 20]);
+    mac.update(b"");
+    mac.update(b"Hi");
+    mac.update(b" There");
+    mac.verify(tag)
+}
+
+#[test]
+fn verified_tags(rt: HostRuntime) {
+    let followed =
+        b"\x24\xcb\x4b\xd6\x7d\x20\xfc\x1a\x5d\x2e\xd7\x73\x2d\xcc\x39\x37\x7f\x0a\x56\x68\x00";
+    let mut wrong = *followed;
+    wrong[19] = 0x67;
+    assert!(rt; is_verified(&followed[..20]));
+    assert!(rt; !is_verified(&followed[..19]) && !is_verified(followed));
+    assert!(rt; !is_verified(&wrong[..20]) && !is_verified(b""));
 }

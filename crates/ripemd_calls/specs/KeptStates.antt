@@ -6,9 +6,9 @@ use Rattle.ripemd.specs.Standard.Words.{word_bytes}
 use Rattle.ripemd.specs.Standard.Compression.{Parameters, compress}
 use Rattle.ripemd.specs.Standard.Hashing.{ripemd}
 use Rattle.ripemd.specs.States.{HashState, AreWords, IsState, new_state, fed, finish, hasher_bytes}
-use Rattle.ripemd.specs.Saved.{IsSaved, cleared}
 use Rattle.ripemd_mac.specs.Hmac.{KeyedState, hmac, keyed_state, fed_text, tag_of}
-use Rattle.ripemd_mac.specs.Saved.{IsKeyedState, cleared_hmac, hmac_bytes}
+use Rattle.ripemd_mac.specs.Saved.{IsKeyedState, hmac_bytes}
+use Rattle.ripemd_calls.specs.KeptBytes.{IsSaved, cleared, cleared_hmac}
 use Rattle.ripemd_calls.specs.Variants.{AtVariant, ByVariant, Refuses, Writes, digest_size}
 
 -- ---- states

@@ -1,9 +1,9 @@
 -- Keys derived from passwords.
 pub mod Pbkdf2
--- The saved bytes of hash states and of HMAC states.
+-- The bytes that hash states and HMAC states are kept as.
+pub mod KeptBytes
+-- What calls that take these do.
 pub mod KeptStates
--- A law of these.
-pub mod KeptLaws
 -- The variants by number, and what calls do at one.
 pub mod Variants
 -- Worked examples of these.

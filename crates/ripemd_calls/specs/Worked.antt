@@ -4,6 +4,7 @@ use Rattle.std.specs.Prelude.{◌≡◌, ℕ, ◌+◌, ◌-◌, ◌*◌, ◌^◌
 use Rattle.std.specs.List.{range_with_len}
 use Rattle.ripemd.specs.Published.{hexadecimal}
 use Rattle.ripemd_mac.specs.Worked.{saved_inner, saved_outer}
+use Rattle.ripemd_calls.specs.KeptBytes.{cleared, cleared_hmac}
 use Rattle.ripemd_calls.specs.Variants.{Refuses, WritesDigest, WritesTag, VerifiesTag}
 use Rattle.ripemd_calls.specs.Pbkdf2.{FillsKey, DerivesKey}
 use Rattle.ripemd_calls.specs.KeptStates.{InitsState, UpdatesState, FinalizesState, LoadsState, SavesState}
@@ -71,6 +72,18 @@ pub record WorkedKeys : Type 0 where
   pub too_long : (old new : List ℕ) (done : Bool) → length old ≡ 20 * (2 ^ 32 - 1) + 1 → Key 1 old new done → Refuses old new done
   pub no_bytes : Gives (Key 1) 0 []
   pub blocks : Gives (FillsKey five 1 [] [] 2) 3 (codes "000000")
+
+-- ---- kept bytes
+
+-- of a core of two bytes: with a tail of one byte, with one of none, and with one of all bytes that there are; of two
+-- hash states with cores of one byte, of a tail of two bytes and of one of none
+pub record WorkedKept : Type 0 where
+  pub one : cleared 2 (9 ∷ 8 ∷ 1 ∷ 7 ∷ 6 ∷ 5 ∷ []) ≡ 9 ∷ 8 ∷ 1 ∷ 7 ∷ 0 ∷ 0 ∷ []
+  pub none : cleared 2 (9 ∷ 8 ∷ 0 ∷ 7 ∷ 6 ∷ 5 ∷ []) ≡ 9 ∷ 8 ∷ 0 ∷ 0 ∷ 0 ∷ 0 ∷ []
+  pub all : cleared 2 (9 ∷ 8 ∷ 3 ∷ 7 ∷ 6 ∷ 5 ∷ []) ≡ 9 ∷ 8 ∷ 3 ∷ 7 ∷ 6 ∷ 5 ∷ []
+  pub empty : cleared 2 (9 ∷ []) ≡ 9 ∷ []
+  pub both : cleared_hmac 1 ((9 ∷ 2 ∷ replicate 63 7) ++ 8 ∷ 0 ∷ replicate 63 7)
+      ≡ (9 ∷ 2 ∷ 7 ∷ 7 ∷ replicate 61 0) ++ 8 ∷ 0 ∷ replicate 63 0
 
 -- ---- states
 

@@ -49,6 +49,7 @@ macro_rules! by_variant {
 
 pub mod facts;
 pub mod hmac;
+mod kept;
 pub mod pbkdf2;
 mod states;
 pub mod streams;

@@ -3,7 +3,7 @@ use Rattle.std.proofs.Common.{rules, ◌≡◌, ◌≢◌, ℕ, ◌-◌, ◌==�
 use Rattle.std.specs.List.{list_any}
 use Rattle.std.specs.Str.{bytes_eq}
 use Rattle.std.specs.Io.BufRead.{ends_with_byte}
-use Rattle.std.proofs.lemmas.Bool.{lt-ltb, eqb-true}
+use Rattle.std.proofs.lemmas.Bool.{lt-ltb, eqb-true, false_from_ne_true}
 use Rattle.std.proofs.lemmas.Slice.Eq.{bytes_eq-Decides}
 use Rattle.std.proofs.lemmas.List.Folds.{list_any_at}
 use Rattle.ripemd.specs.Standard.Hashing.{ripemd}
@@ -26,10 +26,6 @@ use Rattle.ripemd_files.proofs.Written.{IsLine-line_of}
 use Rattle.ripemd_files.proofs.Ends.{no_end}
 use Rattle.ripemd_files.proofs.Sayings.{one_line}
 
-not_true : (b : Bool) → (b ≡ true → ⊥) → b ≡ false
-not_true true never = absurd (never refl)
-not_true false never = refl
-
 -- a line without the bytes that end lines has no carriage return at its end
 no_return : (line : List ℕ) → list_any is_end line ≡ false → ends_with_byte 13 line ≡ false
 no_return [] lacks = refl
@@ -37,17 +33,13 @@ no_return (x ∷ rest) lacks =
     let line : List ℕ = x ∷ rest in
     let last : ℕ = get_or line (length line - 1) 0 in
     ap (λ (b : Bool). b && (last == 13)) (lt-ltb 0 (length line) (omega arith))
-    ∙ not_true (last == 13) (λ is.
+    ∙ false_from_ne_true (last == 13) (λ is.
     let end : is_end last ≡ true = subst (λ b. is_end b ≡ true) (sym (eqb-true last 13 is)) refl in
     let found : list_any is_end line ≡ true = list_any_at is_end line (length line - 1) 0 (omega arith) end in
     absurd (search (rules, sym found ∙ lacks)))
 
 whole_line : (line : List ℕ) → list_any is_end line ≡ false → body_of_line line ≡ line
 whole_line line lacks = ap (λ (b : Bool). cond b (take (length line - 1) line) line) (no_return line lacks)
-
-chosen : (b : Bool) (x y z : Verdict) → cond b x y ≡ z → x ≢ z → b ≡ false
-chosen true x y z is other = absurd (other is)
-chosen false x y z is other = refl
 
 unchosen : (b : Bool) (x y z : Verdict) → z ≡ cond b x y → y ≢ z → b ≡ true
 unchosen true x y z is other = refl
@@ -60,8 +52,8 @@ module _ {File : Type 0} (place : Place File) (hash : List ℕ → List ℕ) (na
       → ((given : List ℕ) → Gives (place.opens name) place.left given → given ≡ message) → verdict_of ignore_missing digest outcome ≢ Differs
   not_different (Digest d) comes gave is =
       let equal : d.items ≡ digest = comes.2 ∙ ap hash (gave comes.0 comes.1) ∙ sym same in
-      let differ : bytes_eq d.items digest ≡ false = chosen (bytes_eq d.items digest) Matches Differs Differs is (λ e. cc) in
-      absurd (search (rules, sym differ ∙ (bytes_eq-Decides d.items digest).1 equal))
+      let matches : Matches ≡ Differs = rw ((bytes_eq-Decides d.items digest).1 equal) at is in
+      cc
   not_different (Refused e) comes gave is = elim (ignore_missing && is_missing e) as (λ b. cond b Missing (Unreadable e) ≢ Differs) [
     | true ↦ λ h. cc
     | false ↦ λ h. cc
@@ -106,12 +98,10 @@ module _ (kinds : Rules) (layout : Option Layout) (form : Form) (variant : Varia
 
     -- reading its file came to this
     came_to : ComesTo place (ripemd (parameters_of variant)) name event.2
-    came_to =
-        subst (λ n. ComesTo place (ripemd (parameters_of variant)) n event.2) same_line.2
-        (subst (λ v. ComesTo place (ripemd (parameters_of v)) found event.2) same_line.0 event.4)
+    came_to = rw (same_line.2, same_line.0) at event.4
 
     is_verdict : verdict ≡ verdict_of ignore_missing digest event.2
-    is_verdict = event.5 ∙ ap (λ d. verdict_of ignore_missing d event.2) same_line.1
+    is_verdict = rw same_line.1 at event.5
 
     pub no_difference : ((given : List ℕ) → Gives (place.opens name) place.left given → given ≡ message) → (found ≡ name) × (verdict ≢ Differs)
     no_difference gave = (

@@ -1,16 +1,16 @@
 -- The forms of a line: what is read of a body has one of them, and what has one of them is read.
-use Rattle.std.proofs.Common.{◌≡◌, ◌≢◌, ◌⊎◌, ℕ, ◌*◌, Bool, true, false, cond, ◌&&◌, ◌||◌, List, [], ◌∷◌, ◌++◌, length, take, drop, Option, Some, None, Result, Ok, Err, refl, sym, ap, subst, ◌∙◌, inl, inr, eqb, arith}
+use Rattle.std.proofs.Common.{◌≡◌, ◌≢◌, ◌⊎◌, ℕ, ◌*◌, Bool, true, false, cond, ◌||◌, List, [], ◌∷◌, ◌++◌, length, take, drop, Option, Some, None, Result, Ok, Err, refl, sym, ap, subst, ◌∙◌, inl, inr, eqb, arith}
 use Rattle.std.specs.Prelude.{option_map, codes, IsTrue}
 use Rattle.std.specs.List.{list_any, list_all}
 use Rattle.std.specs.Str.{bytes_eq}
 use Rattle.std.specs.Result.{result_ok}
-use Rattle.std.proofs.lemmas.Bool.{ne_eqb, eqb-true, eq-eqb}
+use Rattle.std.proofs.lemmas.Bool.{and_parts, ne_eqb, eqb-true, eq-eqb}
 use Rattle.std.proofs.lemmas.Bool.Decides.{eqb_tells}
 use Rattle.std.proofs.lemmas.List.{take-append-drop}
 use Rattle.std.proofs.lemmas.List.Folds.{list_any-append}
 use Rattle.std.proofs.lemmas.List.Sums.{list_all-from_AllPass}
 use Rattle.std.proofs.lemmas.Slice.Eq.{bytes_eq-Decides}
-use Rattle.std.proofs.lemmas.Option.{same_Some, some_pair_parts, option_and_then_some}
+use Rattle.std.proofs.lemmas.Option.{cond_some, same_Some, some_pair_parts, option_and_then_some}
 use Rattle.hex.specs.Hex.{decode_of, is_hex_digit}
 use Rattle.hex.proofs.HexLemmas.{decode_of-ok}
 use Rattle.ripemd_files.specs.declared.line.Variant.{Variant}
@@ -19,14 +19,14 @@ use Rattle.ripemd_files.specs.declared.line.Layout.{Layout}
 use Rattle.ripemd_files.specs.declared.line.Layout.TheVariants.{Standard, Reversed}
 use Rattle.ripemd_files.specs.Lines.{size_of, bits_of, tag_of, IsTag, is_blank, IsBlank, IsDigest, IsSeparator, IsUntagged, IsTagged}
 use Rattle.ripemd_files.specs.Reading.{first_of_two, strip, skip_blanks, split_blank, split_close, variant_of, strip_bits, strip_tag, Found, text_at, untagged_at, skip_space, tagged_at, either_at, found_at, digest_at}
-use Rattle.ripemd_files.proofs.Names.{bind_some, map_some, test_some}
+use Rattle.ripemd_files.proofs.Names.{bind_some, map_some}
 
 -- ---- prefixes
 
 -- what stands behind a prefix
 pub strip-sound : (prefix bytes rest : List ℕ) → strip prefix bytes ≡ Some rest → bytes ≡ prefix ++ rest
 strip-sound prefix bytes rest e =
-    let found = test_some (bytes_eq (take (length prefix) bytes) prefix) (drop (length prefix) bytes) rest e in
+    let found = cond_some (bytes_eq (take (length prefix) bytes) prefix) (drop (length prefix) bytes) rest e in
     let front : take (length prefix) bytes ≡ prefix = (bytes_eq-Decides (take (length prefix) bytes) prefix).0 found.0 in
     sym (take-append-drop (length prefix) bytes) ∙ rw (front, found.1) refl
 
@@ -43,18 +43,13 @@ skip_blanks-sound (x ∷ rest) =
     go true is tail = (x ∷ tail.0, rw is tail.1, ap (λ (t : List ℕ). x ∷ t) tail.2)
     go false is tail = ([], refl, refl)
 
-both : (a b : Bool) → (a && b) ≡ true → (a ≡ true) × (b ≡ true)
-both true true e = (refl, refl)
-both true false e = absurd cc
-both false b e = absurd cc
-
 -- blanks are skipped up to a byte that is none
 pub skip_blanks-front : (blanks : List ℕ) (x : ℕ) (rest : List ℕ) → IsBlank blanks → is_blank x ≡ false
     → skip_blanks (blanks ++ (x ∷ rest)) ≡ x ∷ rest
 unfolding skip_blanks
 skip_blanks-front [] x rest h other = rw other refl
 skip_blanks-front (b ∷ blanks) x rest h other =
-    let parts = both (is_blank b) (list_all is_blank blanks) h in
+    let parts = and_parts (is_blank b) (list_all is_blank blanks) h in
     rw parts.0 (skip_blanks-front blanks x rest parts.1 other)
 
 -- ---- parts of a body
@@ -97,7 +92,7 @@ split_close-sound (x ∷ bytes) before rest e = go (split_close-sound bytes) (sp
         let parts = some_pair_parts (x ∷ found.0) before found.1 rest e in
         rw (← parts.0, ← parts.1) (ap (λ (t : List ℕ). x ∷ t) (sound found.0 found.1 is))
     go sound None is e =
-        let here = test_some (eqb x 41) ([], bytes) (before, rest) e in
+        let here = cond_some (eqb x 41) ([], bytes) (before, rest) e in
         let parts = some_pair_parts [] before bytes rest (ap (λ (p : List ℕ × List ℕ). parts_of p.0 p.1) here.1) in
         rw (← parts.0, ← parts.1, eqb-true x 41 here.0) refl
 
@@ -109,7 +104,7 @@ pub record IsPlain (x : ℕ) : Type 0 where
   pub no_tag : eqb x 82 ≡ false
   pub no_comment : eqb x 35 ≡ false
 
-differs : (x y : ℕ) → is_hex_digit x ≡ true → is_hex_digit y ≡ false → eqb x y ≡ false
+pub differs : (x y : ℕ) → is_hex_digit x ≡ true → is_hex_digit y ≡ false → eqb x y ≡ false
 differs x y is other = ne_eqb x y (λ same. cc (sym other ∙ ap is_hex_digit (sym same) ∙ is))
 
 plain_digit : (x : ℕ) → is_hex_digit x ≡ true → IsPlain x
@@ -133,7 +128,7 @@ pub split_blank-front : (digits : List ℕ) (blank : ℕ) (rest : List ℕ) → 
 unfolding split_blank
 split_blank-front [] blank rest h is = rw is refl
 split_blank-front (x ∷ digits) blank rest h is =
-    let parts = both (is_hex_digit x) (list_all is_hex_digit digits) h in
+    let parts = and_parts (is_hex_digit x) (list_all is_hex_digit digits) h in
     rw ((plain_digit x parts.0).no_blank, split_blank-front digits blank rest parts.1 is) refl
 
 -- whether a parenthesis closes in a text
@@ -156,14 +151,14 @@ closes-append a b h k = list_any-append (λ x. eqb x 41) a b ∙ rw (h, k) refl
 closes-blanks : (blanks : List ℕ) → IsBlank blanks → closes blanks ≡ false
 closes-blanks [] h = refl
 closes-blanks (x ∷ blanks) h =
-    let parts = both (is_blank x) (list_all is_blank blanks) h in
+    let parts = and_parts (is_blank x) (list_all is_blank blanks) h in
     let other : eqb x 41 ≡ false = ne_eqb x 41 (λ same. let bad : false ≡ true = ap is_blank (sym same) ∙ parts.0 in cc) in
     rw (other, closes-blanks blanks parts.1) refl
 
 closes-digits : (digits : List ℕ) → AreDigits digits → closes digits ≡ false
 closes-digits [] h = refl
 closes-digits (x ∷ digits) h =
-    let parts = both (is_hex_digit x) (list_all is_hex_digit digits) h in
+    let parts = and_parts (is_hex_digit x) (list_all is_hex_digit digits) h in
     rw ((plain_digit x parts.0).no_close, closes-digits digits parts.1) refl
 
 -- the last parenthesis stands in front of what has none
@@ -278,7 +273,7 @@ text_at-sound Standard blank (kind ∷ first ∷ others) text is e =
           let same : first ∷ others ≡ text = same_Some _ _ (rw here.0 at e) in
           (blank ∷ kind ∷ [], (blank, kind, is, inl here.1, refl), rw (← same) (no_nil first others), ap (λ (t : List ℕ). blank ∷ kind ∷ t) same)
       | inr other ↦
-          let found = test_some (eqb kind 42) (first ∷ others) text (rw other.0 at e) in
+          let found = cond_some (eqb kind 42) (first ∷ others) text (rw other.0 at e) in
           (blank ∷ kind ∷ [], (blank, kind, is, inr (eqb-true kind 42 found.0), refl), rw (← found.1) (no_nil first others), ap (λ (t : List ℕ). blank ∷ kind ∷ t) found.1)
     ]
 text_at-sound Reversed blank [] text is e = absurd cc
@@ -307,7 +302,7 @@ untagged_at-sound layout body found e =
     option_and_then_some _ (text_at layout parts.1) found e3 (λ text named e4.
     subst (λ (f : Found). IsUntagged layout body f.digits f.text) (same_Some _ _ e4) (untagged_of layout body parts.0 parts.1 text split named))))
 
-variant_of-size : (variant : Variant) (count : ℕ) → count ≡ 2 * size_of variant → variant_of count ≡ Some variant
+pub variant_of-size : (variant : Variant) (count : ℕ) → count ≡ 2 * size_of variant → variant_of count ≡ Some variant
 variant_of-size R128 count e = rw e refl
 variant_of-size R160 count e = rw e refl
 variant_of-size R256 count e = rw e refl
@@ -403,7 +398,7 @@ starts variant [] digest is = absurd (go variant is.twice)
     go R256 e = omega (arith, e)
     go R320 e = omega (arith, e)
 starts variant (x ∷ others) digest is =
-    let parts = both (is_hex_digit x) (list_all is_hex_digit others) (digits_of variant (x ∷ others) digest is) in
+    let parts = and_parts (is_hex_digit x) (list_all is_hex_digit others) (digits_of variant (x ∷ others) digest is) in
     (x, others, refl, plain_digit x parts.0)
 
 skip_blanks-digits : (blanks : List ℕ) (variant : Variant) (digits digest : List ℕ) → IsBlank blanks → IsDigest variant digits digest

@@ -1,5 +1,5 @@
 -- What a check finds of the files of some lines.
-use Rattle.std.proofs.Common.{rules, ◌≡◌, ℕ, ◌+◌, ◌<◌, List, [], ◌∷◌, ◌++◌, map, flat_map, length, take, get_or, Option, Bool, true, false, All, refl, subst, sym, ap, ◌∙◌, arith, suc, append_assoc}
+use Rattle.std.proofs.Common.{rules, ◌≡◌, ℕ, ◌+◌, ◌<◌, List, [], ◌∷◌, ◌++◌, map, flat_map, length, take, get_or, Option, Bool, true, false, All, refl, subst, sym, ap, arith, suc, append_assoc}
 use Rattle.std.specs.List.{AllZip}
 use Rattle.ripemd.specs.Standard.Hashing.{ripemd}
 use Rattle.ripemd_files.specs.declared.line.Line.{Line}
@@ -20,12 +20,12 @@ use Rattle.ripemd_files.specs.Lists.{ChecksList, Reports}
 use Rattle.ripemd_files.specs.Splitting.{lines_of}
 use Rattle.std.specs.Prelude.{IsFalse}
 use Rattle.std.specs.Io.KnownBytes.{Consumes}
-use Rattle.ripemd_files.proofs.Pieces.{consumed_more}
 use Rattle.ripemd_files.proofs.Cutting.{ended_since}
 use Rattle.ripemd_files.specs.Groups.{ChecksGroup, ChecksMisformatted, ChecksSoFar, EndsAs, ReadsGroup, ReportsFrom, goes_on, misformatted_events}
-use Rattle.std.proofs.KnownBytes.{Consumes-nil}
+use Rattle.std.proofs.KnownBytes.{Consumes-nil, Consumes-trans}
 use Rattle.ripemd_files.specs.Checking.{ChecksLines, Event, closing_remarks, is_success, IsOutcomeOf, IsTally, checked, line_of_event, remarks_on_event, verdict_of}
-use Rattle.ripemd_files.proofs.Zips.{all_zip_at, all_zip_length, all_zip_next}
+use Rattle.ripemd_files.proofs.Zips.{all_zip_at, all_zip_next}
+use Rattle.std.proofs.lemmas.Slice.Zip.{AllZip-long}
 use Rattle.ripemd_files.proofs.Printed.{wrote_none, wrote_more}
 use Rattle.std.proofs.lemmas.List.{append-nil}
 use Rattle.std.proofs.lemmas.Grind.{flat_map-append}
@@ -39,7 +39,7 @@ outcomes_of_one place variant [] [] one zipped = tt
 outcomes_of_one place variant [] (o ∷ outcomes) one zipped = absurd zipped
 outcomes_of_one place variant (line ∷ lines) [] one zipped = absurd zipped
 outcomes_of_one place variant (line ∷ lines) (o ∷ outcomes) one zipped = (
-  subst (λ v. ComesTo place (ripemd (parameters_of v)) line.name.items o) (sym (one 0 line (omega arith))) zipped.0,
+  rw (one 0 line (omega arith)) zipped.0,
   outcomes_of_one place variant lines outcomes (λ k d within. one (suc k) d (omega (arith, within))) zipped.1,
 )
 
@@ -57,7 +57,7 @@ checks_none place options old before tally = record {
 module _ {File : Type 0} (place : Place File) (options : Options) (lines : List Line) (outcomes : List Outcome)
     (read : AllZip (IsOutcomeOf place) lines outcomes) where
   pub as_many_lines : length lines ≡ length outcomes
-  as_many_lines = all_zip_length _ _ _ read
+  as_many_lines = sym (AllZip-long _ _ _ read)
 
   pub checks_next : (k : ℕ) (line : Line) (outcome : Outcome) (verdict : Verdict) (a b c : Option (List ℕ)) (u v w : Option (List Remark))
       (first now next : Tally) → k < length outcomes → line ≡ get_or lines k line → outcome ≡ get_or outcomes k outcome
@@ -115,11 +115,8 @@ module _ {File : Type 0} (place : Place File) (options : Options) (kinds : Rules
 
   wrote_all : Wrote a c u w (flat_map (line_of_event options) (so_far.events ++ found)) (flat_map (remarks_on_event options) (so_far.events ++ found))
   wrote_all =
-      subst (λ t. Wrote a c u w t (flat_map (remarks_on_event options) (so_far.events ++ found)))
-      (sym (flat_map-append (line_of_event options) so_far.events found))
-      (subst (Wrote a c u w (flat_map (line_of_event options) so_far.events ++ flat_map (line_of_event options) found))
-      (sym (flat_map-append (remarks_on_event options) so_far.events found))
-      (wrote_more a b c u v w _ _ _ _ so_far.wrote checks.wrote))
+      rw (flat_map-append (line_of_event options) so_far.events, flat_map-append (remarks_on_event options) so_far.events)
+      (wrote_more a b c u v w _ _ _ _ so_far.wrote checks.wrote)
 
   counted_all : IsTally (so_far.events ++ found) counted
   counted_all = checks.counts so_far.events so_far.counts
@@ -129,30 +126,23 @@ module _ {File : Type 0} (place : Place File) (options : Options) (kinds : Rules
       → ReportsFrom place options.ignore_missing kinds after (lines_of behind) more last
       → ReportsFrom place options.ignore_missing kinds first (lines_of ((so_far.bytes ++ reads.reads.bytes) ++ behind)) ((so_far.events ++ found) ++ more) last
   told_all behind more last ends report =
-      subst (λ e. ReportsFrom place options.ignore_missing kinds first (lines_of ((so_far.bytes ++ reads.reads.bytes) ++ behind)) e last)
-      (ap (λ e. so_far.events ++ e) (sym (append_assoc checks.events (misformatted_events group.misformatted) more)) ∙ sym (append_assoc so_far.events found more))
-      (subst (λ t. ReportsFrom place options.ignore_missing kinds first (lines_of t) (so_far.events ++ (checks.events ++ (misformatted_events group.misformatted ++ more))) last)
-      (sym (append_assoc so_far.bytes reads.reads.bytes behind))
+      simp append_assoc
       (so_far.told (reads.reads.bytes ++ behind) (checks.events ++ (misformatted_events group.misformatted ++ more)) last
-      (reads.reads.told checks.events checks.each behind more last ends report)))
+      (reads.reads.told checks.events checks.each behind more last ends report))
 
   consumed_all : Consumes old next ((so_far.bytes ++ reads.reads.bytes) ++ reads.rest)
   consumed_all =
-      rw append_assoc (consumed_more old read next so_far.bytes (reads.reads.bytes ++ reads.rest) so_far.consumed reads.reads.consumed)
+      rw append_assoc (Consumes-trans old read next so_far.bytes (reads.reads.bytes ++ reads.rest) so_far.consumed reads.reads.consumed)
 
   whole : reads.rest ≡ [] → Consumes old next (so_far.bytes ++ reads.reads.bytes)
-  whole none =
-      subst (Consumes old next) (append-nil (so_far.bytes ++ reads.reads.bytes))
-      (subst (λ r. Consumes old next ((so_far.bytes ++ reads.reads.bytes) ++ r)) none consumed_all)
+  whole none = rw (none, append-nil) at consumed_all
 
   -- the list goes on
   pub checks_on : group.next ≡ nexts.More → ChecksSoFar place options kinds first after old next a c u w counted
   checks_on on = record {
     bytes = so_far.bytes ++ reads.reads.bytes;
     events = so_far.events ++ found;
-    consumed =
-        let none : reads.rest ≡ [] = subst (λ n. EndsAs n read next reads.rest) on reads.ended in
-        whole none;
+    consumed = whole (rw on at reads.ended);
     counts = counted_all;
     wrote = wrote_all;
     told = λ behind more last report. told_all behind more last (λ never. absurd (search (rules, rw on at never))) report;
@@ -162,16 +152,13 @@ module _ {File : Type 0} (place : Place File) (options : Options) (kinds : Rules
     reported_all : Reports place options.ignore_missing kinds first.layout 1 (lines_of (so_far.bytes ++ reads.reads.bytes)) (so_far.events ++ found) after.layout
     unfolding lines_of
     reported_all =
-        subst (λ n. Reports place options.ignore_missing kinds first.layout n (lines_of (so_far.bytes ++ reads.reads.bytes)) (so_far.events ++ found) after.layout) begins
-        (rw append-nil at (rw append-nil at (told_all [] [] after.layout (λ _. refl) (refl, refl))))
+        rw (begins, append-nil, append-nil) at (told_all [] [] after.layout (λ _. refl) (refl, refl))
 
     closed : (last : List Remark) → Wrote c d w x [] last
         → Wrote a d u x (flat_map (line_of_event options) (so_far.events ++ found))
         (flat_map (remarks_on_event options) (so_far.events ++ found) ++ last)
     closed last wrote =
-        subst (λ t. Wrote a d u x t (flat_map (remarks_on_event options) (so_far.events ++ found) ++ last))
-        (append-nil (flat_map (line_of_event options) (so_far.events ++ found)))
-        (wrote_more a c d u w x _ _ _ _ wrote_all wrote)
+        rw append-nil at (wrote_more a c d u w x _ _ _ _ wrote_all wrote)
 
     -- the list has ended
     pub checks_ended : (success : Bool) → group.next ≡ nexts.Ended → Wrote c d w x [] (closing_remarks options counted)
@@ -182,7 +169,7 @@ module _ {File : Type 0} (place : Place File) (options : Options) (kinds : Rules
       events = so_far.events ++ found;
       tally = counted;
       read =
-          let (none, at_end) : EndsAs nexts.Ended read next reads.rest = subst (λ n. EndsAs n read next reads.rest) ended reads.ended in
+          let (none, at_end) : EndsAs nexts.Ended read next reads.rest = rw ended at reads.ended in
           (whole none, ended_since old read next so_far.bytes so_far.consumed at_end);
       reports = reported_all;
       counts = counted_all;

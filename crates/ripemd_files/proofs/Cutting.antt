@@ -1,18 +1,14 @@
 -- Lists, split into lines.
-use Rattle.std.proofs.Common.{◌≡◌, ◌≢◌, ℕ, ◌+◌, ◌-◌, ◌==◌, ◌||◌, ◌&&◌, Bool, true, false, List, [], ◌∷◌, ◌++◌, length, take, get_or, subst, Option, Some, None, All, IfSome, refl, sym, ap, ◌∙◌, cond, arith}
+use Rattle.std.proofs.Common.{◌≡◌, ◌≢◌, ℕ, ◌+◌, ◌-◌, ◌==◌, ◌&&◌, Bool, true, false, List, [], ◌∷◌, ◌++◌, length, take, get_or, subst, Option, Some, None, All, IfSome, refl, sym, ap, ◌∙◌, cond, arith}
 use Rattle.std.specs.List.{list_any}
 use Rattle.std.specs.Io.{StopsAt, appended_bytes}
 use Rattle.std.specs.Io.KnownBytes.{Consumes, IsAtEnd}
 use Rattle.std.specs.Io.BufRead.{take_through, drop_through, ends_with_byte, strip_last, DropsThrough}
-use Rattle.std.proofs.lemmas.Bool.{lt-ltb, ne_eqb, eqb-true}
+use Rattle.std.proofs.lemmas.Bool.{lt-ltb, ne_eqb, eqb-true, or_parts}
 use Rattle.std.proofs.lemmas.List.{take_all, take_more}
 use Rattle.std.proofs.lemmas.List.Elements.{All-head, All-tail}
 use Rattle.std.proofs.lemmas.List.Folds.{list_any-append}
 use Rattle.ripemd_files.specs.Splitting.{lines_of, IsEnded, IsOneLine}
-
-either : (a b : Bool) → (a || b) ≡ false → (a ≡ false) × (b ≡ false)
-either false b e = (refl, e)
-either true b e = absurd cc
 
 -- ---- the lines of a list
 
@@ -20,17 +16,17 @@ pub lines_first : (line rest : List ℕ) → list_any (λ x. x == 10) line ≡ f
 unfolding lines_of
 lines_first [] rest none = refl
 lines_first (x ∷ line) rest none =
-    let parts = either (x == 10) (list_any (λ x. x == 10) line) none in
+    let parts = or_parts (x == 10) (list_any (λ x. x == 10) line) none in
     rw (parts.0, lines_first line rest parts.1) refl
 
 pub lines_last : (line : List ℕ) → list_any (λ x. x == 10) line ≡ false → line ≢ [] → lines_of line ≡ line ∷ []
 unfolding lines_of
 lines_last [] none some = absurd (some refl)
 lines_last (x ∷ []) none some =
-    let parts = either (x == 10) false none in
+    let parts = or_parts (x == 10) false none in
     rw parts.0 refl
 lines_last (x ∷ y ∷ line) none some =
-    let parts = either (x == 10) (list_any (λ x. x == 10) (y ∷ line)) none in
+    let parts = or_parts (x == 10) (list_any (λ x. x == 10) (y ∷ line)) none in
     rw (parts.0, lines_last (y ∷ line) parts.1 (λ same. cc)) refl
 
 -- ---- what a read through a newline took
@@ -74,8 +70,8 @@ none_left (x ∷ xs) none = at (x == 10) refl none (none_left xs)
   where
     at : (b : Bool) → (x == 10) ≡ b → IsOneLine (cond b (x ∷ []) (x ∷ take_through 10 xs))
         → (IsOneLine (take_through 10 xs) → drop_through 10 xs ≡ []) → cond b xs (drop_through 10 xs) ≡ []
-    at true is none later = let bad : (x == 10) ≡ false = (either (x == 10) false none).0 in absurd cc
-    at false is none later = later (either (x == 10) (list_any (λ y. y == 10) (take_through 10 xs)) none).1
+    at true is none later = let bad : (x == 10) ≡ false = (or_parts (x == 10) false none).0 in absurd cc
+    at false is none later = later (or_parts (x == 10) (list_any (λ y. y == 10) (take_through 10 xs)) none).1
 
 -- a line was read to an empty text, and the newline popped
 pub read_line : (old new : Option (List ℕ)) (start read text : List ℕ) → start ≡ [] → StopsAt (appended_bytes start read) 10

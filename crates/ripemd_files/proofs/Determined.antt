@@ -1,5 +1,5 @@
 -- Where all is known of a folder, one thing is right.
-use Rattle.std.proofs.Common.{◌≡◌, ℕ, ◌+◌, ◌<◌, ◌++◌, List, [], ◌∷◌, length, take, map, flat_map, Option, Some, None, Bool, true, false, ◌&&◌, All, refl, sym, ap, subst, ◌∙◌, arith, inl, inr, append_assoc}
+use Rattle.std.proofs.Common.{◌≡◌, ℕ, ◌+◌, ◌<◌, ◌++◌, List, [], ◌∷◌, length, take, map, flat_map, Option, Some, None, Bool, true, false, All, refl, sym, ap, subst, ◌∙◌, arith, inl, inr, append_assoc}
 use Rattle.std.specs.Prelude.{Result, Ok, MatchBool, IsTrue, unwrap_or}
 use Rattle.std.specs.List.{list_all}
 use Rattle.std.specs.Io.KnownBytes.{Consumes, IsAtEnd, Appends}
@@ -10,7 +10,6 @@ use Rattle.std.proofs.Math.Seq.{take-append_seam}
 use Rattle.ripemd.specs.Standard.Hashing.{ripemd}
 use Rattle.ripemd_files.specs.declared.line.Layout.{Layout}
 use Rattle.ripemd_files.specs.declared.line.Layout.TheVariants.{Standard}
-use Rattle.ripemd_files.specs.declared.line.Variant.{Variant}
 use Rattle.ripemd_files.specs.declared.list.Rules.{Rules}
 use Rattle.ripemd_files.specs.declared.outcome.Outcome.{Outcome}
 use Rattle.ripemd_files.specs.declared.outcome.Outcome.TheVariants.{Digest, Refused, Broken}
@@ -18,9 +17,9 @@ use Rattle.ripemd_files.specs.declared.printing.Style.{Style}
 use Rattle.ripemd_files.specs.declared.verdict.Options.{Options}
 use Rattle.ripemd_files.specs.declared.verdict.Tally.{Tally}
 use Rattle.ripemd_files.specs.declared.verdict.Verdict.{Verdict}
-use Rattle.ripemd_files.specs.Checking.{Event, IsTally, checked, is_success, line_of_event, misformatted, remarks_on_event, verdict_of, verdict_of_digest}
+use Rattle.ripemd_files.specs.Checking.{Event, IsTally, checked, line_of_event, misformatted, verdict_of, verdict_of_digest}
 use Rattle.ripemd_files.specs.Determined.{After, Before, IsKnown, Print, Report}
-use Rattle.ripemd_files.specs.Lists.{ChecksList, IsEventOn, Reports, WasRead, body_of_line, is_passed_over, last_remarks, layout_after}
+use Rattle.ripemd_files.specs.Lists.{ChecksList, IsEventOn, Reports, WasRead, body_of_line, is_passed_over, layout_after}
 use Rattle.ripemd_files.specs.Printing.{Reading, line_for, remarks_on, was_read}
 use Rattle.ripemd_files.specs.Readings.{Breaks, ComesTo, Gives, Place, parameters_of}
 use Rattle.ripemd_files.specs.Said.{Adds, Remark}
@@ -49,15 +48,13 @@ module _ {File : Type 0} (place : Place File) (contents : List ℕ → Result (L
   given_all : (name message : List ℕ) → Gives (place.opens name) place.left message → contents name ≡ Ok message
   given_all name message gives =
       let (bytes, named, left, short) = known.opened name gives.gave.opened gives.gave.is_opened in
-      let taken : Consumes (Some bytes) (place.left gives.ended) message =
-      subst (λ (l : Option (List ℕ)). Consumes l (place.left gives.ended) message) left gives.gave.given in
+      let taken : Consumes (Some bytes) (place.left gives.ended) message = rw left at gives.gave.given in
       named ∙ ap (λ (b : List ℕ). Ok b) (taken_all bytes message (place.left gives.ended) taken gives.at_end)
 
   not_broken : (name : List ℕ) → ¬ Breaks (place.opens name) place.left place.may_fail
   not_broken name breaks =
       let (bytes, named, left, short) = known.opened name breaks.gave.opened breaks.gave.is_opened in
-      let taken : Consumes (Some bytes) (place.left breaks.now) breaks.bytes =
-      subst (λ (l : Option (List ℕ)). Consumes l (place.left breaks.now) breaks.bytes) left breaks.gave.given in
+      let taken : Consumes (Some bytes) (place.left breaks.now) breaks.bytes = rw left at breaks.gave.given in
       elim breaks.fails [
         | inl fails ↦ known.sound breaks.now fails
         | inr long ↦ omega (arith, short, long, taken_some bytes breaks.bytes (place.left breaks.now) taken)
@@ -74,9 +71,7 @@ module _ {File : Type 0} (place : Place File) (contents : List ℕ → Result (L
   one_outcome hash name (Refused e) (Digest d) a (n, gave, was) = cc (sym (given_all name n gave) ∙ known.refused name e a)
   one_outcome hash name (Refused e) (Refused f) a b = cc (sym (known.refused name e a) ∙ known.refused name f b)
   one_outcome hash name (Refused e) (Broken f) a b = not_broken name b
-  one_outcome hash name (Broken e) (Digest d) a b = not_broken name a
-  one_outcome hash name (Broken e) (Refused f) a b = not_broken name a
-  one_outcome hash name (Broken e) (Broken f) a b = not_broken name a
+  one_outcome hash name (Broken e) other a b = absurd (not_broken name a)
 
 -- ---- lines of a list
 
@@ -107,9 +102,7 @@ module _ {File : Type 0} (place : Place File) (contents : List ℕ → Result (L
   one_event layout number text (checked name verdict) (misformatted n) a b = absurd (b.1 a.0 a.1 name a.3)
   one_event layout number text (checked name verdict) (checked other_name other_verdict) a b =
       let one = one_line (unwrap_or layout Standard) (body_of_line text) a.0 b.0 a.1 b.1 name other_name a.3.is_line b.3.is_line in
-      let comes : ComesTo place (ripemd (parameters_of a.0)) name b.2 =
-      subst (λ (n : List ℕ). ComesTo place (ripemd (parameters_of a.0)) n b.2) (sym one.2)
-      (subst (λ (v : Variant). ComesTo place (ripemd (parameters_of v)) other_name b.2) (sym one.0) b.4) in
+      let comes : ComesTo place (ripemd (parameters_of a.0)) name b.2 = rw (one.2, one.0) b.4 in
       let same : verdict ≡ other_verdict =
       a.5 ∙ one_verdict ignore_missing a.1 a.2 b.2 (one_outcome place contents known _ name a.2 b.2 a.4 comes)
       ∙ ap (λ (d : List ℕ). verdict_of ignore_missing d b.2) one.1 ∙ sym b.5 in
@@ -142,15 +135,17 @@ one_after a b text remarks answer =
     ap (λ (t : Option (List ℕ)). record a { text = t }) text ∙ ap (λ (r : Option (List Remark)). record b { remarks = r; answer = a.answer }) remarks
     ∙ ap (λ (x : Bool). record b { answer = x }) answer
 
-one_text : (old text : List ℕ) (new other : Option (List ℕ)) → Appends (Some old) new text → Appends (Some old) other text → new ≡ other
-one_text old text None other a b = absurd a
-one_text old text (Some xs) None a b = absurd b
-one_text old text (Some xs) (Some ys) a b = ap (λ (l : List ℕ). Some l) (a ∙ sym b)
+one_text : (old text more : List ℕ) (new other : Option (List ℕ)) → text ≡ more → Appends (Some old) new text → Appends (Some old) other more
+    → new ≡ other
+one_text old text more None other same a b = absurd a
+one_text old text more (Some xs) None same a b = absurd b
+one_text old text more (Some xs) (Some ys) same a b = cc
 
-one_growth : {A : Type 0} (old more : List A) (new other : Option (List A)) → Adds (Some old) new more → Adds (Some old) other more → new ≡ other
-one_growth old more None other a b = absurd a
-one_growth old more (Some xs) None a b = absurd b
-one_growth {A} old more (Some xs) (Some ys) a b = ap (λ (l : List A). Some l) (a ∙ sym b)
+one_growth : {A : Type 0} (old some more : List A) (new other : Option (List A)) → some ≡ more → Adds (Some old) new some → Adds (Some old) other more
+    → new ≡ other
+one_growth old some more None other same a b = absurd a
+one_growth old some more (Some xs) None same a b = absurd b
+one_growth old some more (Some xs) (Some ys) same a b = cc
 
 -- ---- lists
 
@@ -184,27 +179,11 @@ module _ {File : Type 0} (place : Place File) (contents : List ℕ → Result (L
   -- of the same bytes one thing is said
   same_bytes : a.whole ≡ b.whole → a.bytes ≡ b.bytes → (one.last ≡ other.last) × (one.after ≡ other.after)
   same_bytes whole bytes =
-      let reports : Reports place options.ignore_missing rules first 1 (lines_of a.bytes) b.events other.last =
-      subst (λ (l : List ℕ). Reports place options.ignore_missing rules first 1 (lines_of l) b.events other.last) (sym bytes) b.reports in
-      let come = one_list place contents known options.ignore_missing rules first 1 (lines_of a.bytes) a.events b.events one.last other.last a.reports reports in
-      let tally : a.tally ≡ b.tally =
-      one_tally b.events a.tally b.tally (subst (λ (es : List Event). IsTally es a.tally) come.0 a.counts) b.counts in
-      let text : one.after.text ≡ other.after.text =
-      one_text before.text (flat_map (line_of_event options) b.events) one.after.text other.after.text
-      (subst (λ (es : List Event). Appends (Some before.text) one.after.text (flat_map (line_of_event options) es)) come.0 a.wrote.written)
-      b.wrote.written in
-      let said : flat_map (remarks_on_event options) a.events ++ last_remarks a.whole options a.tally
-      ≡ flat_map (remarks_on_event options) b.events ++ last_remarks b.whole options b.tally =
-      ap (λ (es : List Event). flat_map (remarks_on_event options) es ++ last_remarks a.whole options a.tally) come.0
-      ∙ ap (λ (w : Bool). flat_map (remarks_on_event options) b.events ++ last_remarks w options a.tally) whole
-      ∙ ap (λ (t : Tally). flat_map (remarks_on_event options) b.events ++ last_remarks b.whole options t) tally in
-      let remarks : one.after.remarks ≡ other.after.remarks =
-      one_growth before.remarks (flat_map (remarks_on_event options) b.events ++ last_remarks b.whole options b.tally)
-      one.after.remarks other.after.remarks
-      (subst (λ (rs : List Remark). Adds (Some before.remarks) one.after.remarks rs) said a.wrote.said) b.wrote.said in
-      let answer : one.after.answer ≡ other.after.answer =
-      a.answer ∙ ap (λ (w : Bool). w && is_success options a.tally) whole ∙ ap (λ (t : Tally). b.whole && is_success options t) tally ∙ sym b.answer in
-      (come.1, one_after one.after other.after text remarks answer)
+      let come = one_list place contents known options.ignore_missing rules first 1 (lines_of a.bytes) a.events b.events one.last other.last a.reports (rw bytes b.reports) in
+      let tally : a.tally ≡ b.tally = one_tally b.events a.tally b.tally (subst (λ es. IsTally es a.tally) come.0 a.counts) b.counts in
+      let text = one_text before.text _ _ one.after.text other.after.text (ap (flat_map (line_of_event options)) come.0) a.wrote.written b.wrote.written in
+      let remarks = one_growth before.remarks _ _ one.after.remarks other.after.remarks (cc (come.0, whole, tally)) a.wrote.said b.wrote.said in
+      (come.1, one_after one.after other.after text remarks (cc (a.answer, b.answer, whole, tally)))
 
   pub one_report_as_far : a.whole ≡ b.whole → length a.bytes ≡ length b.bytes → (one.last ≡ other.last) × (one.after ≡ other.after)
   one_report_as_far whole far =
@@ -252,27 +231,16 @@ module _ {File : Type 0} (place : Place File) (contents : List ℕ → Result (L
   one_print_of (r ∷ rs) (s ∷ ss) named a b =
       let name : r.name ≡ s.name = cc named in
       let others : names rs ≡ names ss = cc named in
-      let comes : ComesTo place (ripemd (parameters_of style.variant)) r.name s.outcome =
-      subst (λ (n : List ℕ). ComesTo place (ripemd (parameters_of style.variant)) n s.outcome) (sym name) (b 0 s (omega arith)) in
+      let comes : ComesTo place (ripemd (parameters_of style.variant)) r.name s.outcome = rw name (b 0 s (omega arith)) in
       let same = one_line_for style r.name r.outcome s.outcome (one_outcome place contents known _ r.name r.outcome s.outcome (a 0 r (omega arith)) comes) in
-      let more = one_print_of rs ss others (All-tail IsRead r rs a) (All-tail IsRead s ss b) in (
-        ap (λ (l : List ℕ). l ++ lines rs) same.0 ∙ ap (λ (n : List ℕ). line_for style n s.outcome ++ lines rs) name
-            ∙ ap (λ (l : List ℕ). line_for style s.name s.outcome ++ l) more.0,
-        ap (λ (l : List Remark). l ++ errors rs) same.1 ∙ ap (λ (n : List ℕ). remarks_on n s.outcome ++ errors rs) name
-            ∙ ap (λ (l : List Remark). remarks_on s.name s.outcome ++ l) more.1,
-        ap (λ (x : Bool). x && all_read rs) same.2 ∙ ap (λ (x : Bool). was_read s.outcome && x) more.2,
-      )
+      let more = one_print_of rs ss others (All-tail IsRead r rs a) (All-tail IsRead s ss b) in
+      (rw (same.0, name, more.0) refl, rw (same.1, name, more.1) refl, rw (same.2, more.2) refl)
 
   pub one_print : (files : List (List ℕ)) (before : Before) (one other : Print place style files before) → one.after ≡ other.after
   one_print files before one other =
       let a = one.prints in
       let b = other.prints in
       let come = one_print_of a.readings b.readings (a.named ∙ sym b.named) a.each b.each in
-      let text : one.after.text ≡ other.after.text =
-      one_text before.text (lines b.readings) one.after.text other.after.text
-      (subst (λ (l : List ℕ). Appends (Some before.text) one.after.text l) come.0 a.wrote.written) b.wrote.written in
-      let remarks : one.after.remarks ≡ other.after.remarks =
-      one_growth before.remarks (errors b.readings) one.after.remarks other.after.remarks
-      (subst (λ (rs : List Remark). Adds (Some before.remarks) one.after.remarks rs) come.1 a.wrote.said) b.wrote.said in
-      let answer : one.after.answer ≡ other.after.answer = a.answer ∙ come.2 ∙ sym b.answer in
-      one_after one.after other.after text remarks answer
+      let text = one_text before.text _ _ one.after.text other.after.text come.0 a.wrote.written b.wrote.written in
+      let remarks = one_growth before.remarks _ _ one.after.remarks other.after.remarks come.1 a.wrote.said b.wrote.said in
+      one_after one.after other.after text remarks (a.answer ∙ come.2 ∙ sym b.answer)

@@ -1,8 +1,8 @@
 -- What stands in no line: an end, in a line that is written, and the sign of a comment at the front of any line.
-use Rattle.std.proofs.Common.{◌≡◌, ◌≢◌, ℕ, Bool, true, false, ◌&&◌, ◌||◌, List, [], ◌∷◌, ◌++◌, refl, sym, ap, ◌∙◌, eqb, inl, inr}
+use Rattle.std.proofs.Common.{◌≡◌, ◌≢◌, ℕ, Bool, true, false, ◌||◌, List, [], ◌∷◌, ◌++◌, refl, sym, ap, ◌∙◌, eqb, inl, inr}
 use Rattle.std.specs.Prelude.{codes}
 use Rattle.std.specs.List.{list_any, list_all}
-use Rattle.std.proofs.lemmas.Bool.{eq-eqb, ne_eqb}
+use Rattle.std.proofs.lemmas.Bool.{and_parts, eq-eqb, ne_eqb, or_parts}
 use Rattle.std.proofs.lemmas.Bool.Decides.{eqb_tells}
 use Rattle.std.proofs.lemmas.List.Folds.{list_any-append}
 use Rattle.hex.specs.Hex.{encode_lower, is_hex_digit}
@@ -13,7 +13,7 @@ use Rattle.ripemd_files.specs.declared.line.Form.TheVariants.{Text, Binary, Tagg
 use Rattle.ripemd_files.specs.declared.line.Layout.{Layout}
 use Rattle.ripemd_files.specs.declared.line.Ending.TheVariants.{Newline, Zero}
 use Rattle.ripemd_files.specs.Lines.{is_special, is_blank, is_end, IsBlank, escape_of, escaped, mark_of, tag_of, text_of, body_of, line_of, IsLine, RoundTrips}
-use Rattle.ripemd_files.proofs.Bodies.{AreDigits, digits_of, starts-form}
+use Rattle.ripemd_files.proofs.Bodies.{AreDigits, differs, digits_of, starts-form}
 use Rattle.ripemd_files.proofs.Written.{IsDigest-written}
 
 -- no byte of a text passes a test
@@ -33,15 +33,10 @@ record IsForeign (test : ℕ → Bool) : Type 0 where
   in_front : Lacks test (codes " (")
   behind : Lacks test (codes ") = ")
 
-both : (a b : Bool) → (a && b) ≡ true → (a ≡ true) × (b ≡ true)
-both true true e = (refl, refl)
-both true false e = absurd cc
-both false b e = absurd cc
-
 Lacks-digits : (test : ℕ → Bool) → IsForeign test → (digits : List ℕ) → AreDigits digits → Lacks test digits
 Lacks-digits test foreign [] h = refl
 Lacks-digits test foreign (x ∷ digits) h =
-    let parts = both (is_hex_digit x) (list_all is_hex_digit digits) h in
+    let parts = and_parts (is_hex_digit x) (list_all is_hex_digit digits) h in
     rw (foreign.no_digit x parts.0, Lacks-digits test foreign digits parts.1) refl
 
 Lacks-body : (test : ℕ → Bool) → IsForeign test → (form : Form) (variant : Variant) (digits text : List ℕ) → AreDigits digits → Lacks test text
@@ -55,9 +50,6 @@ Lacks-body test foreign Tagged variant digits text are lacks =
     (Lacks-append test (codes " (") (text ++ (codes ") = " ++ digits)) foreign.in_front
     (Lacks-append test text (codes ") = " ++ digits) lacks
     (Lacks-append test (codes ") = ") digits foreign.behind (Lacks-digits test foreign digits are))))
-
-differs : (x y : ℕ) → is_hex_digit x ≡ true → is_hex_digit y ≡ false → eqb x y ≡ false
-differs x y is other = ne_eqb x y (λ same. cc (sym other ∙ ap is_hex_digit (sym same) ∙ is))
 
 foreign_end : IsForeign is_end
 foreign_end = record {
@@ -86,38 +78,31 @@ is_zero byte = eqb byte 0
 foreign_zero : IsForeign is_zero
 foreign_zero = record {
   no_digit = λ x is. differs x 0 is refl;
-  in_mark = in_mark;
-  in_tag = in_tag;
+  in_mark = λ marked. no_zero_in (mark_of marked) (foreign_end.in_mark marked);
+  in_tag = λ variant. no_zero_in (tag_of variant) (foreign_end.in_tag variant);
   in_text = refl;
   in_binary = refl;
   in_front = refl;
   behind = refl;
 }
   where
-    in_mark : (marked : Bool) → Lacks is_zero (mark_of marked)
-    in_mark true = refl
-    in_mark false = refl
-
-    in_tag : (variant : Variant) → Lacks is_zero (tag_of variant)
-    in_tag R128 = refl
-    in_tag R160 = refl
-    in_tag R256 = refl
-    in_tag R320 = refl
+    no_zero_in : (text : List ℕ) → Lacks is_end text → Lacks is_zero text
+    no_zero_in [] lacks = refl
+    no_zero_in (x ∷ text) lacks =
+        let parts = or_parts (is_end x) (list_any is_end text) lacks in
+        let others = or_parts (eqb x 0 || eqb x 10) (eqb x 13) parts.0 in
+        rw ((or_parts (eqb x 0) (eqb x 10) others.0).0, no_zero_in text parts.1) refl
 
 -- ---- names
-
-either : (a b : Bool) → (a || b) ≡ false → (a ≡ false) × (b ≡ false)
-either false b e = (refl, e)
-either true b e = absurd cc
 
 -- a name in which nothing is escaped has no end
 Lacks-plain : (name : List ℕ) → Lacks is_special name → Lacks is_zero name → Lacks is_end name
 Lacks-plain [] special zero = refl
 Lacks-plain (x ∷ name) special zero =
-    let s = either (is_special x) (list_any is_special name) special in
-    let z = either (eqb x 0) (list_any is_zero name) zero in
-    let first = either (eqb x 92 || eqb x 10) (eqb x 13) s.0 in
-    let second = either (eqb x 92) (eqb x 10) first.0 in
+    let s = or_parts (is_special x) (list_any is_special name) special in
+    let z = or_parts (eqb x 0) (list_any is_zero name) zero in
+    let first = or_parts (eqb x 92 || eqb x 10) (eqb x 13) s.0 in
+    let second = or_parts (eqb x 92) (eqb x 10) first.0 in
     rw (z.0, second.1, first.1, Lacks-plain name s.1 z.1) refl
 
 Lacks-escape : (x : ℕ) → eqb x 0 ≡ false → Lacks is_end (escape_of x)
@@ -137,7 +122,7 @@ Lacks-escape x zero =
 Lacks-escaped : (name : List ℕ) → Lacks is_zero name → Lacks is_end (escaped name)
 Lacks-escaped [] zero = refl
 Lacks-escaped (x ∷ name) zero =
-    let z = either (eqb x 0) (list_any is_zero name) zero in
+    let z = or_parts (eqb x 0) (list_any is_zero name) zero in
     Lacks-append is_end (escape_of x) (escaped name) (Lacks-escape x z.0) (Lacks-escaped name z.1)
 
 Lacks-text : (marked : Bool) (name : List ℕ) → list_any is_special name ≡ marked → Lacks is_zero name → Lacks is_end (text_of marked name)
@@ -167,7 +152,7 @@ first_of : (indent : List ℕ) (marked : Bool) (x : ℕ) (rest : List ℕ) → I
 first_of [] true x rest blank other = (92, x ∷ rest, refl, refl)
 first_of [] false x rest blank other = (x, rest, refl, other)
 first_of (b ∷ indent) marked x rest blank other =
-    let parts = both (is_blank b) (list_all is_blank indent) blank in
+    let parts = and_parts (is_blank b) (list_all is_blank indent) blank in
     let differs : eqb b 35 ≡ false = ne_eqb b 35 (λ same. let bad : false ≡ true = ap is_blank (sym same) ∙ parts.0 in cc) in
     (b, indent ++ (mark_of marked ++ (x ∷ rest)), refl, differs)
 

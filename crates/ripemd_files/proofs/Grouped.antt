@@ -1,8 +1,8 @@
 -- Lines of a list, read one after another.
-use Rattle.std.proofs.Common.{rules, ◌≡◌, ℕ, List, [], ◌∷◌, ◌++◌, Option, Bool, true, false, refl, sym, ap, subst, ◌∙◌, append_assoc}
+use Rattle.std.proofs.Common.{rules, ◌≡◌, ℕ, List, [], ◌∷◌, ◌++◌, Option, Bool, true, false, append_assoc}
 use Rattle.std.specs.List.{AllZip}
 use Rattle.std.specs.Io.KnownBytes.{Consumes}
-use Rattle.std.proofs.KnownBytes.{Consumes-nil}
+use Rattle.std.proofs.KnownBytes.{Consumes-trans}
 use Rattle.std.proofs.lemmas.List.{append-nil}
 use Rattle.ripemd_files.specs.declared.line.Layout.{Layout}
 use Rattle.ripemd_files.specs.declared.line.Line.{Line}
@@ -14,43 +14,12 @@ use Rattle.ripemd_files.specs.Splitting.{IsPiece, lines_of}
 use Rattle.ripemd_files.specs.Checking.{Event, IsEventOf}
 use Rattle.ripemd_files.specs.Groups.{ReadsLines, ReportsFrom, Takes, misformatted_events}
 use Rattle.ripemd_files.proofs.Cutting.{lines_first, lines_last}
-use Rattle.ripemd_files.proofs.Pieces.{consumed_more, consumed_no_more}
-
--- where nothing is, nothing belongs to it
-no_events : {A B : Type 0} (R : A → B → Type 0) (ys : List B) → AllZip R [] ys → ys ≡ []
-no_events R [] zipped = refl
-no_events R (y ∷ ys) zipped = absurd zipped
 
 module _ {File : Type 0} (place : Place File) (ignore_missing : Bool) (kinds : Rules) where
-  -- no line yet
-  pub reads_none : (old : Option (List ℕ)) (cursor : Cursor) → ReadsLines place ignore_missing kinds old old cursor cursor [] [] true []
-  reads_none old cursor = record {
-    bytes = [];
-    consumed = Consumes-nil old;
-    told = λ events zipped behind more last on report.
-        subst (λ e. ReportsFrom place ignore_missing kinds cursor (lines_of behind) (e ++ more) last) (sym (no_events (IsEventOf place ignore_missing) events zipped)) report;
-  }
-
   module _ (old now next : Option (List ℕ)) (before cursor : Cursor) (lines : List Line)
       (so_far : ReadsLines place ignore_missing kinds old now before cursor lines [] true []) where
     pub taken : Consumes old now so_far.bytes
     taken = rw append-nil at so_far.consumed
-
-    -- the list has ended
-    pub reads_nothing : Consumes now next [] → ReadsLines place ignore_missing kinds old next before cursor lines [] false []
-    reads_nothing none = record {
-      bytes = so_far.bytes;
-      consumed = rw append-nil (consumed_no_more old now next so_far.bytes taken none);
-      told = λ events zipped behind more last on report. so_far.told events zipped behind more last (λ never. absurd (search (rules, never))) report;
-    }
-
-    -- a read failed
-    pub reads_failed : (rest : List ℕ) → Consumes now next rest → ReadsLines place ignore_missing kinds old next before cursor lines [] false rest
-    reads_failed rest some = record {
-      bytes = so_far.bytes;
-      consumed = consumed_more old now next so_far.bytes rest taken some;
-      told = λ events zipped behind more last on report. so_far.told events zipped behind more last (λ never. absurd (search (rules, never))) report;
-    }
 
     module _ (after : Cursor) (text : List ℕ) (others : List Line) (bad : Option ℕ)
         (takes : Takes place ignore_missing kinds cursor after text lines others bad) where
@@ -60,20 +29,18 @@ module _ {File : Type 0} (place : Place File) (ignore_missing : Bool) (kinds : R
           → ReportsFrom place ignore_missing kinds before (lines_of (so_far.bytes ++ tail)) (events ++ (misformatted_events bad ++ more)) last
       on events zipped tail rest more last is_line report =
           let (earlier, own, same, first, go) = takes events zipped in
-          subst (λ e. ReportsFrom place ignore_missing kinds before (lines_of (so_far.bytes ++ tail)) e last)
-          (sym (append_assoc earlier own (misformatted_events bad ++ more)) ∙ ap (λ e. e ++ (misformatted_events bad ++ more)) (sym same))
+          rw (same, append_assoc)
           (so_far.told earlier first tail (own ++ (misformatted_events bad ++ more)) last (λ never. absurd (search (rules, never)))
-          (subst (λ l. ReportsFrom place ignore_missing kinds cursor l (own ++ (misformatted_events bad ++ more)) last) (sym is_line) (go rest more last report)))
+          (rw is_line (go rest more last report)))
 
       -- a line that ends with a newline
       pub reads_line : IsPiece now next text pieces.Line
           → ReadsLines place ignore_missing kinds old next before after others (misformatted_events bad) true []
       reads_line piece = record {
         bytes = so_far.bytes ++ (text ++ 10 ∷ []);
-        consumed = rw append-nil (consumed_more old now next so_far.bytes (text ++ 10 ∷ []) taken piece.0);
+        consumed = rw append-nil (Consumes-trans old now next so_far.bytes (text ++ 10 ∷ []) taken piece.0);
         told = λ events zipped behind more last going report.
-            subst (λ b. ReportsFrom place ignore_missing kinds before (lines_of b) (events ++ (misformatted_events bad ++ more)) last)
-            (sym (append_assoc so_far.bytes (text ++ 10 ∷ []) behind ∙ ap (λ t. so_far.bytes ++ t) (append_assoc text (10 ∷ []) behind)))
+            rw (append_assoc so_far.bytes, append_assoc text)
             (on events zipped (text ++ 10 ∷ behind) (lines_of behind) more last (lines_first text behind piece.1) report);
       }
 
@@ -83,11 +50,8 @@ module _ {File : Type 0} (place : Place File) (ignore_missing : Bool) (kinds : R
       unfolding lines_of
       reads_last (some, ended, filled, one) = record {
         bytes = so_far.bytes ++ text;
-        consumed = rw append-nil (consumed_more old now next so_far.bytes text taken some);
+        consumed = rw append-nil (Consumes-trans old now next so_far.bytes text taken some);
         told = λ events zipped behind more last going report.
-            subst (λ b. ReportsFrom place ignore_missing kinds before (lines_of ((so_far.bytes ++ text) ++ b)) (events ++ (misformatted_events bad ++ more)) last)
-            (sym (going (search rules)))
-            (rw append-nil
-            (on events zipped text [] more last (lines_last text one filled)
-            (subst (λ b. ReportsFrom place ignore_missing kinds after (lines_of b) more last) (going (search rules)) report)));
+            let none : behind ≡ [] = going (search rules) in
+            rw (none, append-nil) (on events zipped text [] more last (lines_last text one filled) (rw none at report));
       }

@@ -1,5 +1,5 @@
 -- The layout that is found is the one that a line has.
-use Rattle.std.proofs.Common.{◌≡◌, ℕ, ◌*◌, Bool, true, false, List, [], ◌∷◌, ◌++◌, length, Option, Some, None, refl, sym, ap, subst, ◌∙◌, cond, eqb, inl, inr, arith}
+use Rattle.std.proofs.Common.{◌≡◌, ℕ, ◌*◌, Bool, true, false, List, ◌∷◌, ◌++◌, length, Option, Some, None, refl, sym, ap, subst, ◌∙◌, cond, inl, inr, arith}
 use Rattle.std.specs.Prelude.{is_some, IfSome}
 use Rattle.std.specs.List.{list_all}
 use Rattle.std.proofs.lemmas.Bool.{and_parts, eq-eqb, eqb-true}
@@ -9,21 +9,15 @@ use Rattle.std.proofs.lemmas.Option.{same_Some, option_and_then_some}
 use Rattle.hex.specs.Hex.{is_hex_digit}
 use Rattle.hex.proofs.HexLemmas.{decode_of-digits}
 use Rattle.ripemd_files.specs.declared.line.Variant.{Variant}
-use Rattle.ripemd_files.specs.declared.line.Variant.TheVariants.{R128, R160, R256, R320}
 use Rattle.ripemd_files.specs.declared.line.Layout.{Layout}
 use Rattle.ripemd_files.specs.declared.line.Layout.TheVariants.{Standard, Reversed}
-use Rattle.ripemd_files.specs.Lines.{size_of, is_blank, IsBlank, IsDigest, mark_of}
+use Rattle.ripemd_files.specs.Lines.{size_of, IsDigest, mark_of}
 use Rattle.ripemd_files.specs.Reading.{Found, skip_blanks, split_blank, strip_mark, strip_tag, variant_of, text_at, untagged_at}
-use Rattle.ripemd_files.specs.Layouts.{counts, has_digits, layout_at, layout_of, HasLayout}
-use Rattle.ripemd_files.proofs.Bodies.{skip_blanks-sound, skip_blanks-front, digits_of, starts, starts-form, strip_tag-none, untagged_at-sound, untagged_at-form}
+use Rattle.ripemd_files.specs.Layouts.{has_digits, is_wanted_length, layout_at, layout_of, HasLayout}
+use Rattle.ripemd_files.proofs.Bodies.{skip_blanks-sound, digits_of, starts, starts-form, strip_tag-none, untagged_at-sound, untagged_at-form, variant_of-size}
+use Rattle.ripemd_files.proofs.Sayings.{marked-front, strip_mark-sound}
 
 -- ---- the number of digits
-
-variant_of-size : (variant : Variant) (count : ℕ) → count ≡ 2 * size_of variant → variant_of count ≡ Some variant
-variant_of-size R128 count e = rw e refl
-variant_of-size R160 count e = rw e refl
-variant_of-size R256 count e = rw e refl
-variant_of-size R320 count e = rw e refl
 
 variant_of-count : (count : ℕ) (variant : Variant) → variant_of count ≡ Some variant → count ≡ 2 * size_of variant
 variant_of-count count variant e =
@@ -51,15 +45,15 @@ untagged_at-variant layout body found e =
     subst (λ (f : Found). variant_of (length f.digits) ≡ Some f.variant) (same_Some _ _ e4) is)))
 
 -- the number that counts is that of the variant
-counted_of : (only : Option Variant) (variant : Variant) (count : ℕ) → counts only count ≡ true → variant_of count ≡ Some variant
+wanted_of : (only : Option Variant) (variant : Variant) (count : ℕ) → is_wanted_length only count ≡ true → variant_of count ≡ Some variant
     → IfSome only (λ one. one ≡ variant)
-counted_of None variant count counted is = tt
-counted_of (Some one) variant count counted is = same_Some _ _ (sym (variant_of-size one count (eqb-true count (2 * size_of one) counted)) ∙ is)
+wanted_of None variant count counted is = tt
+wanted_of (Some one) variant count counted is = same_Some _ _ (sym (variant_of-size one count (eqb-true count (2 * size_of one) counted)) ∙ is)
 
-counts_of : (only : Option Variant) (variant : Variant) (count : ℕ) → IfSome only (λ one. one ≡ variant) → count ≡ 2 * size_of variant
-    → counts only count ≡ true
-counts_of None variant count same twice = refl
-counts_of (Some one) variant count same twice = eq-eqb count (2 * size_of one) (twice ∙ ap (λ (v : Variant). 2 * size_of v) (sym same))
+is_wanted_length-of : (only : Option Variant) (variant : Variant) (count : ℕ) → IfSome only (λ one. one ≡ variant) → count ≡ 2 * size_of variant
+    → is_wanted_length only count ≡ true
+is_wanted_length-of None variant count same twice = refl
+is_wanted_length-of (Some one) variant count same twice = eq-eqb count (2 * size_of one) (twice ∙ ap (λ (v : Variant). 2 * size_of v) (sym same))
 
 -- digits of the right number are those of a digest
 digest_of : (variant : Variant) (digits : List ℕ) → length digits ≡ 2 * size_of variant → list_all is_hex_digit digits ≡ true
@@ -69,14 +63,6 @@ digest_of variant digits twice are =
     (decoded.0, record { twice = twice; bytes = decoded.1 })
 
 -- ---- what is found is there
-
-strip_mark-sound : (bytes : List ℕ) → bytes ≡ mark_of (strip_mark bytes).0 ++ (strip_mark bytes).1
-strip_mark-sound [] = refl
-strip_mark-sound (x ∷ rest) =
-    elim (eqb_tells x 92) [
-      | inl is ↦ rw is.1 refl
-      | inr other ↦ rw other.0 refl
-    ]
 
 -- a body that is untagged has the layout
 has_layout : (only : Option Variant) (layout : Layout) (line : List ℕ)
@@ -89,7 +75,7 @@ has_layout only layout line = go (untagged_at layout (strip_mark (skip_blanks li
     go (Some found) is has =
         let marked = strip_mark (skip_blanks line) in
         let indent = skip_blanks-sound line in
-        let parts = and_parts (counts only (length found.digits)) (list_all is_hex_digit found.digits) has in
+        let parts = and_parts (is_wanted_length only (length found.digits)) (list_all is_hex_digit found.digits) has in
         let variant = untagged_at-variant layout marked.1 found is in
         let digest = digest_of found.variant found.digits (variant_of-count _ _ variant) parts.1 in
         record {
@@ -104,7 +90,7 @@ has_layout only layout line = go (untagged_at layout (strip_mark (skip_blanks li
           whole = indent.2 ∙ ap (λ (back : List ℕ). indent.0 ++ back) (strip_mark-sound (skip_blanks line));
           form = untagged_at-sound layout marked.1 found is;
           is_digest = digest.1;
-          counted = counted_of only found.variant (length found.digits) parts.0 variant;
+          counted = wanted_of only found.variant (length found.digits) parts.0 variant;
         }
 
 pub layout_of-found : (only : Option Variant) (layout : Layout) (line : List ℕ) → layout_of only line ≡ Some layout → HasLayout only layout line
@@ -122,12 +108,6 @@ layout_of-found only layout line e =
     go false false false s r e = absurd cc
 
 -- ---- what is there is found
-
--- behind the blanks stand the mark and the body
-marked-front : (indent : List ℕ) (marked : Bool) (x : ℕ) (rest : List ℕ) → IsBlank indent → is_blank x ≡ false → eqb x 92 ≡ false
-    → strip_mark (skip_blanks (indent ++ (mark_of marked ++ (x ∷ rest)))) ≡ (marked, x ∷ rest)
-marked-front indent true x rest blank other no_mark = rw (skip_blanks-front indent 92 (x ∷ rest) blank refl) refl
-marked-front indent false x rest blank other no_mark = rw (skip_blanks-front indent x rest blank other, no_mark) refl
 
 body_found : (only : Option Variant) (layout : Layout) (line : List ℕ) → (h : HasLayout only layout line)
     → (strip_mark (skip_blanks line)).1 ≡ h.body
@@ -151,7 +131,7 @@ digits_found only layout line h =
     rw (
       body_found only layout line h,
       untagged_at-form layout h.body h.variant h.digits h.digest h.text h.form h.is_digest,
-      counts_of only h.variant (length h.digits) h.counted h.is_digest.twice,
+      is_wanted_length-of only h.variant (length h.digits) h.counted h.is_digest.twice,
       digits_of h.variant h.digits h.digest h.is_digest,
     ) refl
 

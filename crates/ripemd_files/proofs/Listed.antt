@@ -1,6 +1,6 @@
 -- What comes of the lines of a list, one after another.
-use Rattle.std.proofs.Common.{rules, ◌≡◌, ◌≢◌, ℕ, ◌+◌, List, [], ◌∷◌, ◌++◌, codes, Option, Some, None, unwrap_or, Bool, true, false, IsTrue, MatchBool, refl, sym, subst}
-use Rattle.std.specs.Prelude.{IsFalse}
+use Rattle.std.proofs.Common.{rules, ◌≡◌, ◌≢◌, ℕ, ◌+◌, List, [], ◌∷◌, ◌++◌, codes, Option, Some, None, unwrap_or, Bool, true, false, IsTrue, MatchBool, refl, sym}
+use Rattle.std.specs.Prelude.{IsFalse, option_map}
 use Rattle.std.proofs.lemmas.List.{append-nil}
 use Rattle.ripemd_files.specs.declared.line.Variant.{Variant}
 use Rattle.ripemd_files.specs.declared.line.Layout.{Layout}
@@ -8,38 +8,42 @@ use Rattle.ripemd_files.specs.declared.line.Layout.TheVariants.{Standard}
 use Rattle.ripemd_files.specs.declared.line.Line.{Line}
 use Rattle.ripemd_files.specs.declared.list.Rules.{Rules}
 use Rattle.ripemd_files.specs.declared.list.Cursor.{Cursor}
-use Rattle.ripemd_files.specs.Lines.{IsLine, Says}
+use Rattle.ripemd_files.specs.Lines.{Says}
 use Rattle.ripemd_files.specs.Readings.{Place}
 use Rattle.ripemd_files.specs.Checking.{Event, IsEventOf, misformatted}
-use Rattle.ripemd_files.specs.Lists.{AreEventsOn, IsEventOn, IsTaken, IsWanted, Reports, body_of_line, is_passed_over, layout_after}
+use Rattle.ripemd_files.specs.Lists.{AreEventsOn, IsTaken, IsWanted, body_of_line, is_passed_over, layout_after}
+use Rattle.ripemd_files.specs.Reading.{said_by, said_of}
+use Rattle.ripemd_files.proofs.Sayings.{found_is_line, line_is_found}
 use Rattle.ripemd_files.proofs.Zips.{all_zip_last}
 use Rattle.ripemd_files.specs.Groups.{IsEntry, ReportsFrom, Takes}
 
 -- ---- what a line says
 
-module _ (kinds : Rules) (layout : Option Layout) (text : List ℕ) (given : Layout) (body : List ℕ) (found : Option Line)
-    (is_layout : given ≡ unwrap_or layout Standard) (is_body : body ≡ body_of_line text)
-    (only : (variant : Variant) (digest name : List ℕ) → IsLine given body variant digest name → Says found variant digest name) where
+module _ (kinds : Rules) (layout : Option Layout) (text : List ℕ) (found : Option Line)
+    (reads : option_map said_of found ≡ said_by (unwrap_or layout Standard) (body_of_line text)) where
   said : (variant : Variant) (digest name : List ℕ) → IsTaken kinds layout text variant digest name → Says found variant digest name
-  said variant digest name taken =
-      only variant digest name
-      (subst (λ b. IsLine given b variant digest name) (sym is_body)
-      (subst (λ l. IsLine l (body_of_line text) variant digest name) (sym is_layout) taken.is_line))
+  said variant digest name taken = line_is_found (unwrap_or layout Standard) (body_of_line text) found variant digest name reads taken.is_line
+
+  -- what was found counts
+  pub is_taken : (line : Line) → found ≡ Some line → IsWanted kinds.only line.variant × (IsTrue kinds.from_input → line.name.items ≢ codes "-")
+      → IsTaken kinds layout text line.variant line.digest.items line.name.items
+  is_taken line some counts = record {
+    is_line = rw some at (found_is_line (unwrap_or layout Standard) (body_of_line text) found reads);
+    wanted = counts.0;
+    other = counts.1;
+  }
 
   -- nothing was found
   pub not_taken : found ≡ None → (variant : Variant) (digest name : List ℕ) → ¬ IsTaken kinds layout text variant digest name
-  not_taken none variant digest name taken = subst (λ f. Says f variant digest name) none (said variant digest name taken)
+  not_taken none variant digest name taken = rw none at (said variant digest name taken)
 
   -- what was found does not count
   pub not_counted : (line : Line) → found ≡ Some line
       → ¬ (IsWanted kinds.only line.variant × (IsTrue kinds.from_input → line.name.items ≢ codes "-"))
       → (variant : Variant) (digest name : List ℕ) → ¬ IsTaken kinds layout text variant digest name
   not_counted line some other variant digest name taken =
-      let says : Says (Some line) variant digest name = subst (λ f. Says f variant digest name) some (said variant digest name taken) in
-      other (
-        subst (IsWanted kinds.only) (sym says.0) taken.wanted,
-        λ input. subst (λ n. n ≢ codes "-") (sym says.2) (taken.other input),
-      )
+      let says : Says (Some line) variant digest name = rw some at (said variant digest name taken) in
+      other (rw says.0 taken.wanted, rw says.2 taken.other)
 
 -- ---- what comes of it
 
@@ -57,9 +61,8 @@ module _ {File : Type 0} (place : Place File) (ignore_missing : Bool) (kinds : R
     own,
     more,
     refl,
-    subst (λ l. AreEventsOn place ignore_missing kinds l before.number text own) next are,
-    subst (λ l. Reports place ignore_missing kinds l (before.number + 1) rest more last) next
-        (subst (λ n. Reports place ignore_missing kinds after.layout n rest more last) step report),
+    rw next at are,
+    rw (next, step) at report,
   )
 
   pub takes_misformatted : IsFalse (is_passed_over text) → IsEntry kinds after.layout text None → (lines : List Line)
@@ -85,7 +88,6 @@ module _ {File : Type 0} (place : Place File) (ignore_missing : Bool) (kinds : R
             (match_false _ _ (is_passed_over text) counts (
               event,
               refl,
-              subst (IsEventOn place ignore_missing kinds after.layout before.number text) (sym both.2)
-                  (line.variant, line.digest.items, both.0, entry, both.1, refl),
+              rw both.2 (line.variant, line.digest.items, both.0, entry, both.1, refl),
             )),
       )

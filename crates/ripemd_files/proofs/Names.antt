@@ -18,11 +18,6 @@ pub map_some : {A B : Type 0} (o : Option A) (f : A → B) (y : B) → option_ma
 map_some (Some x) f y e = (x, refl, same_Some _ _ e)
 map_some None f y e = absurd cc
 
--- a test that did not fail
-pub test_some : {A : Type 0} (b : Bool) (x y : A) → cond b (Some x) None ≡ Some y → (b ≡ true) × (x ≡ y)
-test_some true x y e = (refl, same_Some _ _ e)
-test_some false x y e = absurd cc
-
 -- ---- escapes
 
 -- a letter with a meaning escapes it

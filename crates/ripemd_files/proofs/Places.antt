@@ -1,9 +1,10 @@
 -- What loops over the places of a text find.
-use Rattle.std.proofs.Common.{◌≡◌, ◌≢◌, ℕ, ◌+◌, ◌-◌, ◌<◌, true, false, List, [], ◌∷◌, ◌++◌, length, get_or, take, drop, Option, Some, None, refl, sym, ap, ◌∙◌, append_assoc}
+use Rattle.std.proofs.Common.{◌≡◌, ◌≢◌, ℕ, ◌+◌, ◌-◌, ◌<◌, ◌≤◌, true, false, List, [], ◌∷◌, ◌++◌, length, get_or, take, drop, Option, Some, None, refl, sym, ap, ◌∙◌, append_assoc}
 use Rattle.std.specs.Prelude.{option_map}
 use Rattle.std.proofs.lemmas.List.{drop_more, take_more, append-nil, length-drop, take-append-drop}
 use Rattle.std.proofs.lemmas.Bool.{ne_eqb}
-use Rattle.std.proofs.Math.Seq.{take-length}
+use Rattle.std.proofs.Math.Seq.{take-length, drop-length}
+use Rattle.std.proofs.Math.ListN.{drop_of_length-le}
 use Rattle.ripemd_files.specs.Lines.{is_blank}
 use Rattle.ripemd_files.specs.Reading.{skip_blanks, split_blank, split_close, unescaped, meant_by}
 
@@ -23,13 +24,15 @@ pub skip_blanks-other : (text : List ℕ) (i : ℕ) → i < length text → is_b
 unfolding skip_blanks
 skip_blanks-other text i within other = rw (drop_more text i 0 within, other) refl
 
+pub skip_blanks-end : (text : List ℕ) (i : ℕ) → length text ≤ i → skip_blanks (drop i text) ≡ []
+unfolding skip_blanks
+skip_blanks-end text i past = rw (drop_of_length-le text past) refl
+
+pub ruleset skipping = (skip_blanks-blank, skip_blanks-other, skip_blanks-end, take-rest)
+
 -- parts, with more in front of the first
 abbrev pub onto : List ℕ → Option (List ℕ × List ℕ) → Option (List ℕ × List ℕ)
 onto front parts = option_map (λ parts. (front ++ parts.0, parts.1)) parts
-
-pub onto-nothing : (parts : Option (List ℕ × List ℕ)) → onto [] parts ≡ parts
-onto-nothing None = refl
-onto-nothing (Some parts) = refl
 
 onto-step : (front : List ℕ) (x : ℕ) (parts : Option (List ℕ × List ℕ))
     → onto front (option_map (λ parts. (x ∷ parts.0, parts.1)) parts) ≡ onto (front ++ x ∷ []) parts
@@ -50,16 +53,22 @@ split_blank-blank text i within blank =
     rw (drop_more text i 0 within, blank)
     (ap (λ (before : List ℕ). Some (before, drop (i + 1) text)) (append-nil (take i text)))
 
+pub split_blank-end : (text : List ℕ) (i : ℕ) → length text ≤ i → split_blank (drop i text) ≡ None
+unfolding split_blank
+split_blank-end text i past = rw (drop_of_length-le text past) refl
+
+pub ruleset splitting = (split_blank-blank, split_blank-other, split_blank-end, take-rest)
+
 -- ---- the last closing parenthesis
 
 -- what is found is found behind anything
-pub split_close-front : (front text before rest : List ℕ) → split_close text ≡ Some (before, rest)
+split_close-front : (front text before rest : List ℕ) → split_close text ≡ Some (before, rest)
     → split_close (front ++ text) ≡ Some (front ++ before, rest)
 unfolding split_close
 split_close-front [] text before rest found = found
 split_close-front (x ∷ front) text before rest found = rw (split_close-front front text before rest found) refl
 
-pub split_close-here : (text : List ℕ) (i : ℕ) → i < length text → get_or text i 0 ≡ 41 → split_close (drop (i + 1) text) ≡ None
+split_close-here : (text : List ℕ) (i : ℕ) → i < length text → get_or text i 0 ≡ 41 → split_close (drop (i + 1) text) ≡ None
     → split_close text ≡ Some (take i text, drop (i + 1) text)
 unfolding split_close
 split_close-here text i within is none =
@@ -78,17 +87,19 @@ pub split_close-other : (text : List ℕ) (i : ℕ) → i < length text → get_
 unfolding split_close
 split_close-other text i within other none = rw (drop_more text i 0 within, none, ne_eqb _ _ other) refl
 
+pub split_close-end : (text : List ℕ) → split_close (drop (length text) text) ≡ None
+unfolding split_close
+split_close-end text = rw (drop-length text) refl
+
+pub ruleset closing = (split_close-found, split_close-other, split_close-end)
+
 -- ---- escapes
 
 -- a name, with more in front
 abbrev pub with_front : List ℕ → Option (List ℕ) → Option (List ℕ)
 with_front front name = option_map (λ rest. front ++ rest) name
 
-pub with_front-nothing : (name : Option (List ℕ)) → with_front [] name ≡ name
-with_front-nothing None = refl
-with_front-nothing (Some name) = refl
-
-pub with_front-step : (front : List ℕ) (x : ℕ) (name : Option (List ℕ))
+with_front-step : (front : List ℕ) (x : ℕ) (name : Option (List ℕ))
     → with_front front (option_map (λ rest. x ∷ rest) name) ≡ with_front (front ++ x ∷ []) name
 with_front-step front x None = refl
 with_front-step front x (Some name) = ap (λ (text : List ℕ). Some text) (sym (append_assoc front (x ∷ []) name))
@@ -100,11 +111,6 @@ unfolding unescaped
 unescaped-letter front text i byte within meant =
     rw (drop_more text i 0 within, meant) (with_front-step front byte (unescaped false (drop (i + 1) text)))
 
-pub unescaped-other_letter : (front text : List ℕ) (i : ℕ) → i < length text → meant_by (get_or text i 0) ≡ None
-    → with_front front (unescaped true (drop i text)) ≡ None
-unfolding unescaped
-unescaped-other_letter front text i within none = rw (drop_more text i 0 within, none) refl
-
 pub unescaped-backslash : (text : List ℕ) (i : ℕ) → i < length text → get_or text i 0 ≡ 92
     → unescaped false (drop i text) ≡ unescaped true (drop (i + 1) text)
 unfolding unescaped
@@ -115,3 +121,5 @@ pub unescaped-plain : (front text : List ℕ) (i : ℕ) → i < length text → 
 unfolding unescaped
 unescaped-plain front text i within other =
     rw (drop_more text i 0 within, ne_eqb _ _ other) (with_front-step front (get_or text i 0) (unescaped false (drop (i + 1) text)))
+
+pub ruleset unescaping = (unescaped-letter, unescaped-backslash, unescaped-plain)

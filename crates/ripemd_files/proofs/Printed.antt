@@ -1,9 +1,10 @@
 -- What is printed of files, one after another.
-use Rattle.std.proofs.Common.{◌≡◌, ℕ, List, [], ◌∷◌, ◌++◌, map, Option, Some, None, Bool, true, false, ◌&&◌, refl, sym, ap, ◌∙◌, rules, append_assoc, arith, length, take, get_or, subst, ◌+◌, ◌-◌, ◌<◌, ◌≤◌, drop}
+use Rattle.std.proofs.Common.{◌≡◌, ℕ, List, [], ◌∷◌, ◌++◌, map, Option, Some, None, Bool, true, ◌&&◌, refl, sym, ap, ◌∙◌, rules, append_assoc, arith, length, take, get_or, subst, ◌+◌, ◌-◌, ◌<◌, ◌≤◌, drop}
 use Rattle.std.proofs.lemmas.List.{map-append, append-nil, length-map, get_or-map, take_more}
 use Rattle.std.proofs.lemmas.List.Elements.{All-append, All-cons}
 use Rattle.std.proofs.lemmas.List.Folds.{list_all-append}
 use Rattle.std.proofs.lemmas.Grind.{flat_map-append}
+use Rattle.std.proofs.Math.Bool.{and-true}
 use Rattle.std.proofs.Math.Seq.{take-add}
 use Rattle.std.proofs.KnownBytes.{Appends-nil, Appends-trans}
 use Rattle.std.specs.List.{list_all, AllZip}
@@ -12,7 +13,8 @@ use Rattle.ripemd_files.specs.declared.printing.Style.{Style}
 use Rattle.ripemd_files.specs.declared.outcome.Outcome.{Outcome}
 use Rattle.ripemd_files.specs.Readings.{Place, ComesTo, parameters_of}
 use Rattle.ripemd_files.specs.Said.{Adds, Remark, Wrote}
-use Rattle.ripemd_files.proofs.Zips.{all_zip_at, all_zip_length}
+use Rattle.ripemd_files.proofs.Zips.{all_zip_at}
+use Rattle.std.proofs.lemmas.Slice.Zip.{AllZip-long}
 use Rattle.ripemd_files.specs.Printing.{PrintsAll, Reading, line_for, remarks_on, was_read}
 
 pub adds_none : {A : Type 0} (old : Option (List A)) → Adds old old []
@@ -48,10 +50,6 @@ prints_none place style old before = record {
   answer = refl;
 }
 
-and_true : (b : Bool) → (b && true) ≡ b
-and_true true = refl
-and_true false = refl
-
 -- one file
 pub prints_one : {File : Type 0} (place : Place File) (style : Style) (name : List ℕ) (outcome : Outcome) (old new : Option (List ℕ))
     (before after : Option (List Remark)) (read : Bool) → ComesTo place (ripemd (parameters_of style.variant)) name outcome
@@ -62,7 +60,7 @@ prints_one place style name outcome old new before after read comes wrote answer
   named = refl;
   each = All-cons (λ (r : Reading). ComesTo place (ripemd (parameters_of style.variant)) r.name r.outcome) _ [] comes (λ k d lt. absurd (omega (arith, lt)));
   wrote = rw append-nil (rw append-nil wrote);
-  answer = answer ∙ sym (and_true (was_read outcome));
+  answer = answer ∙ sym (and-true (was_read outcome));
 }
 
 -- files, and then others
@@ -82,7 +80,7 @@ prints_more place style names others a b c u v w all more first second = record 
 module _ {File N : Type 0} (place : Place File) (style : Style) (view : N → List ℕ) (names : List N) (outcomes : List Outcome)
     (read : AllZip (ComesTo place (ripemd (parameters_of style.variant))) (map view names) outcomes) where
   pub as_many : length outcomes ≡ length names
-  as_many = sym (all_zip_length _ _ _ read) ∙ length-map names view
+  as_many = AllZip-long _ _ _ read ∙ length-map names view
 
   pub prints_next : (k : ℕ) (name : N) (outcome : Outcome) (a b c : Option (List ℕ)) (u v w : Option (List Remark)) (all was : Bool)
       → k < length outcomes → name ≡ get_or names k name → outcome ≡ get_or outcomes k outcome

@@ -11,7 +11,7 @@ use Rattle.ripemd_files.specs.Reading.{skip_blanks, strip_mark, found_at, digest
 use Rattle.ripemd_files.proofs.Names.{name_at-said, name_at-spelled}
 use Rattle.ripemd_files.proofs.Bodies.{skip_blanks-sound, skip_blanks-front, starts-form, found_at-sound, found_at-form, digest_at-sound, digest_at-digest}
 
-strip_mark-sound : (bytes : List ℕ) → bytes ≡ mark_of (strip_mark bytes).0 ++ (strip_mark bytes).1
+pub strip_mark-sound : (bytes : List ℕ) → bytes ≡ mark_of (strip_mark bytes).0 ++ (strip_mark bytes).1
 strip_mark-sound [] = refl
 strip_mark-sound (x ∷ rest) =
     elim (eqb_tells x 92) [
@@ -20,9 +20,11 @@ strip_mark-sound (x ∷ rest) =
     ]
 
 -- what a line says, it is a line of
-pub IsLine-said : (layout : Layout) (line : List ℕ) (said : Said) → said_by layout line ≡ Some said → IsLine layout line said.variant said.digest said.name
+pub IsLine-said : (layout : Layout) (line : List ℕ) (variant : Variant) (digest name : List ℕ)
+    → said_by layout line ≡ Some (record { variant = variant; digest = digest; name = name }) → IsLine layout line variant digest name
 unfolding said_by
-IsLine-said layout line said e =
+IsLine-said layout line variant digest name e =
+    let said : Said = record { variant = variant; digest = digest; name = name } in
     let marked = strip_mark (skip_blanks line) in
     let indent = skip_blanks-sound line in
     option_and_then_some _ (found_at layout marked.1) said e (λ found is_found e2.
@@ -45,7 +47,7 @@ IsLine-said layout line said e =
     })))
 
 -- behind the blanks stand the mark and the body
-marked-front : (indent : List ℕ) (marked : Bool) (x : ℕ) (rest : List ℕ) → IsBlank indent → is_blank x ≡ false → eqb x 92 ≡ false
+pub marked-front : (indent : List ℕ) (marked : Bool) (x : ℕ) (rest : List ℕ) → IsBlank indent → is_blank x ≡ false → eqb x 92 ≡ false
     → strip_mark (skip_blanks (indent ++ (mark_of marked ++ (x ∷ rest)))) ≡ (marked, x ∷ rest)
 marked-front indent true x rest blank other no_mark = rw (skip_blanks-front indent 92 (x ∷ rest) blank refl) refl
 marked-front indent false x rest blank other no_mark = rw (skip_blanks-front indent x rest blank other, no_mark) refl
@@ -79,7 +81,7 @@ one_line layout line variant other digest other_digest name other_name h k =
 -- if what was found is what the line says, the line is one of it
 pub found_is_line : (layout : Layout) (line : List ℕ) (found : Option Line) → option_map said_of found ≡ said_by layout line
     → IfSome found (λ l. IsLine layout line l.variant l.digest.items l.name.items)
-found_is_line layout line (Some l) e = IsLine-said layout line (said_of l) (sym e)
+found_is_line layout line (Some l) e = IsLine-said layout line l.variant l.digest.items l.name.items (sym e)
 found_is_line layout line None e = tt
 
 -- and what it is a line of was found

@@ -1,22 +1,14 @@
 -- Two lists whose items belong together.
-use Rattle.std.proofs.Common.{◌≡◌, ℕ, ◌+◌, ◌<◌, List, [], ◌∷◌, ◌++◌, length, take, get_or, map, sym, ap, subst, ◌∙◌, arith, refl, zero, suc}
+use Rattle.std.proofs.Common.{◌≡◌, ℕ, ◌+◌, ◌<◌, List, [], ◌∷◌, ◌++◌, length, take, get_or, map, sym, ap, ◌∙◌, arith, refl, zero, suc}
 use Rattle.std.proofs.lemmas.List.{take_more, length-map, get_or-map}
+use Rattle.std.proofs.lemmas.Slice.Zip.{all_zipped_more}
 use Rattle.std.specs.List.{AllZip}
-
--- one more of each
-pub all_zip_push : {A B : Type 0} (R : A → B → Type 0) (xs : List A) (ys : List B) (x : A) (y : B) → AllZip R xs ys → R x y
-    → AllZip R (xs ++ x ∷ []) (ys ++ y ∷ [])
-all_zip_push R [] [] x y before both = (both, tt)
-all_zip_push R [] (b ∷ ys) x y before both = absurd before
-all_zip_push R (a ∷ xs) [] x y before both = absurd before
-all_zip_push R (a ∷ xs) (b ∷ ys) x y before both = (before.0, all_zip_push R xs ys x y before.1 both)
 
 -- the item of the first list at the next place
 pub all_zip_next : {A B : Type 0} (R : A → B → Type 0) (xs : List A) (ys : List B) (i : ℕ) (x : A) (y : B) → i < length xs
     → get_or xs i x ≡ x → AllZip R (take i xs) ys → R x y → AllZip R (take (i + 1) xs) (ys ++ y ∷ [])
 all_zip_next R xs ys i x y within is before both =
-    subst (λ l. AllZip R l (ys ++ y ∷ [])) (ap (λ z. take i xs ++ z ∷ []) (sym is) ∙ sym (take_more xs i x within))
-    (all_zip_push R (take i xs) ys x y before both)
+    rw (take_more xs i x within, is) (all_zipped_more R (take i xs) ys x y before both)
 
 -- the same of what is seen of the items
 pub all_zip_map_next : {A B C : Type 0} (f : C → A) (R : A → B → Type 0) (cs : List C) (ys : List B) (i : ℕ) (d : C) (y : B) → i < length cs
@@ -49,13 +41,6 @@ module _ {A B C D : Type 0} (f : A → D) (g : B → C) (h : C → D) (xs : List
       ∙ get_or-map h (map g ys) i (g y) (f x) (rw length-map within)
       ∙ ap h (get_or-map g ys i y (g y) within)
       ∙ ap (λ z. h (g z)) (sym is_y)
-
--- both lists are as long
-pub all_zip_length : {A B : Type 0} (R : A → B → Type 0) (xs : List A) (ys : List B) → AllZip R xs ys → length xs ≡ length ys
-all_zip_length R [] [] zipped = refl
-all_zip_length R [] (y ∷ ys) zipped = absurd zipped
-all_zip_length R (x ∷ xs) [] zipped = absurd zipped
-all_zip_length R (x ∷ xs) (y ∷ ys) zipped = ap suc (all_zip_length R xs ys zipped.1)
 
 -- the items at a place
 pub all_zip_at : {A B : Type 0} (R : A → B → Type 0) (xs : List A) (ys : List B) (i : ℕ) (x : A) (y : B) → AllZip R xs ys → i < length xs

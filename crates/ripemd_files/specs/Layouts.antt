@@ -9,22 +9,24 @@ use Rattle.ripemd_files.specs.Lines.{size_of, mark_of, IsBlank, IsDigest, IsUnta
 use Rattle.ripemd_files.specs.Reading.{Found, skip_blanks, strip_mark, strip_tag, untagged_at}
 
 -- whether so many digits count: all that a variant has, or those of one variant alone
-abbrev pub counts : Option Variant → ℕ → Bool
-counts None count = true
-counts (Some variant) count = count == 2 * size_of variant
+abbrev pub is_wanted_length : Option Variant → ℕ → Bool
+is_wanted_length None count = true
+is_wanted_length (Some variant) count = count == 2 * size_of variant
 
 -- what was found of a digest and a name has the digits of a digest that counts
 abbrev pub has_digits : Option Variant → Option Found → Bool
 has_digits only None = false
-has_digits only (Some found) = counts only (length found.digits) && list_all is_hex_digit found.digits
+has_digits only (Some found) = is_wanted_length only (length found.digits) && list_all is_hex_digit found.digits
 
--- the standard layout if a body is untagged and has it, or else the reversed one
-unfoldable pub layout_at : Option Variant → List ℕ → Option Layout
-layout_at only body =
-    if is_some (strip_tag body) then None
-    else if has_digits only (untagged_at Standard body) then Some Standard
+-- the standard layout if an untagged body has it, or else the reversed one
+abbrev pub untagged_layout : Option Variant → List ℕ → Option Layout
+untagged_layout only body =
+    if has_digits only (untagged_at Standard body) then Some Standard
     else if has_digits only (untagged_at Reversed body) then Some Reversed
     else None
+
+unfoldable pub layout_at : Option Variant → List ℕ → Option Layout
+layout_at only body = if is_some (strip_tag body) then None else untagged_layout only body
 
 abbrev pub layout_of : Option Variant → List ℕ → Option Layout
 layout_of only line = layout_at only (strip_mark (skip_blanks line)).1

@@ -56,6 +56,7 @@ pub fn worked_counts()
 {}
 
 /// Which lines of a list are passed over, what the others say, and the layout of a list.
+#[tactic(auto, unfolding(crate::specs::Reading::skip_blanks, crate::specs::Reading::split_blank, crate::specs::Reading::strip_tag, crate::specs::Reading::untagged_at, crate::specs::Layouts::layout_at))]
 pub fn worked_lists()
     ensures passed { PassedOver }
     ensures bodies { Bodies }
@@ -64,6 +65,7 @@ pub fn worked_lists()
 {}
 
 /// What is printed of files.
+#[tactic(auto, unfolding(hex::specs::Hex::encode_with))]
 pub fn worked_prints()
     ensures lines { (outcome : Outcome) → IsDigest outcome (0x01 ∷ 0xab ∷ []) → PrintedLines outcome }
     ensures errors { (style : Style) (error : Error) → PrintedErrors style error }

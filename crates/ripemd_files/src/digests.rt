@@ -52,7 +52,7 @@ fn fill<F: Folder>(folder: &F, file: &mut F::File, buffer: &mut [u8]) -> Result<
 }
 
 // The digest of a file that gives more bytes than the buffer has room for: of those that fill it, and of the rest.
-#[tactic(auto, using(crate::proofs::Pieces::consumed_more, crate::proofs::Pieces::consumed_none))]
+#[tactic(auto, using(crate::proofs::Pieces::consumed))]
 fn hash_rest<D: Digest, F: Folder>(
     folder: &F,
     file: &mut F::File,

@@ -11,6 +11,7 @@ ghost use Rattle.ripemd_files.specs.Lines.{IsLine, RoundTrips, line_of, is_end};
 ghost use Rattle.ripemd_files.specs.Worked.{WrittenLines, EscapedLines, UntaggedLines, MarkedLines, TaggedLines, ReversedLines, RefusedLines, RefusedTags, Zeros};
 
 /// Lines as coreutils writes them.
+#[tactic(auto, unfolding(hex::specs::Hex::encode_with))]
 pub fn written_lines()
     ensures forms { WrittenLines }
     ensures escapes { EscapedLines }

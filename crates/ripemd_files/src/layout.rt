@@ -4,10 +4,10 @@ ghost use Rattle.std.specs.Prelude.{◌≡◌};
 ghost use Rattle.std.specs.List.{list_all};
 ghost use Rattle.hex.specs.Hex.{is_hex_digit};
 ghost use Rattle.ripemd_files.specs.Reading.{untagged_at};
-ghost use Rattle.ripemd_files.specs.Layouts.{counts, has_digits, layout_at, layout_of};
+ghost use Rattle.ripemd_files.specs.Layouts.{has_digits, is_wanted_length, untagged_layout};
 
 use crate::line::{Layout, Variant};
-use crate::reading::{behind_tag, untagged_parts, without_blanks, without_mark};
+use crate::reading::untagged_parts;
 
 // Whether a byte is a hexadecimal digit.
 fn is_digit(byte: u8) -> bool
@@ -24,8 +24,8 @@ fn are_digits(text: &[u8]) -> bool
 }
 
 // Whether so many digits count.
-fn is_wanted(only: Option<Variant>, count: usize) -> bool
-    ensures { result ≡ counts only count }
+fn has_wanted_length(only: Option<Variant>, count: usize) -> bool
+    ensures { result ≡ is_wanted_length only count }
 {
     match only {
         None => true,
@@ -39,34 +39,21 @@ fn is_untagged(only: Option<Variant>, layout: Layout, body: &[u8]) -> bool
 {
     match untagged_parts(layout, body) {
         None => false,
-        Some(parts) => is_wanted(only, parts.digits.len()) && are_digits(parts.digits),
+        Some(parts) => has_wanted_length(only, parts.digits.len()) && are_digits(parts.digits),
     }
 }
 
-// The layout of a body.
-#[tactic(auto, unfolding(crate::specs::Layouts::layout_at))]
-fn body_layout(only: Option<Variant>, body: &[u8]) -> Option<Layout>
-    ensures { result ≡ layout_at only body.now }
+// The layout of a body that has no tag. It is reversed if no standard line stands there: `sha256sum --check` takes
+// the layout of a list from its first untagged line. If one variant alone counts, only a digest of its length does.
+// The digits and a name have to stand there, but what the name spells does not count.
+pub(crate) fn layout_of_untagged(only: Option<Variant>, body: &[u8]) -> Option<Layout>
+    ensures { result ≡ untagged_layout only body.now }
 {
-    if behind_tag(body).is_some() {
-        None
-    } else if is_untagged(only, Layout::Standard, body) {
+    if is_untagged(only, Layout::Standard, body) {
         Some(Layout::Standard)
     } else if is_untagged(only, Layout::Reversed, body) {
         Some(Layout::Reversed)
     } else {
         None
     }
-}
-
-/// The layout of an untagged line, given without its end; `None` if it is no such line.
-///
-/// It is reversed if no standard line stands there: `sha256sum --check` takes the layout of a list
-/// from its first untagged line. If one variant alone counts, only a digest of its length does. The
-/// digits and a name have to stand there, but what the name spells does not count.
-pub fn line_layout(only: Option<Variant>, line: &[u8]) -> Option<Layout>
-    ensures { result ≡ layout_of only line.now }
-{
-    let (_, body) = without_mark(without_blanks(line));
-    body_layout(only, body)
 }

@@ -9,7 +9,7 @@ pub mod digests;
 pub mod facts;
 pub mod fault;
 pub mod folder;
-pub mod layout;
+mod layout;
 pub mod line;
 pub mod list;
 pub mod list_facts;
@@ -21,7 +21,6 @@ pub mod reading;
 pub mod verdict;
 pub mod writing;
 
-pub use layout::line_layout;
 pub use line::{Ending, Form, Layout, Line, Variant};
 pub use reading::parse_line;
 pub use writing::write_line;

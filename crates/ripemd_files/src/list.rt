@@ -6,11 +6,10 @@ ghost use Rattle.ripemd_files.specs.Groups.{IsEntry, ReadsGroup, Takes};
 
 use crate::fault::Fault;
 use crate::folder::Folder;
-use crate::layout::line_layout;
 use crate::line::{Layout, Line, Variant};
 use crate::piece::{Piece, read_piece};
 use crate::printing::GROUP;
-use crate::reading::parse_line;
+use crate::reading::read_line;
 use std::alloc::{AllocError, Global};
 use std::io::BufRead;
 
@@ -67,17 +66,6 @@ fn is_skipped(text: &[u8]) -> bool
     }
 }
 
-// The layout of a list after a line that is not passed over.
-fn next_layout(rules: Rules, layout: Option<Layout>, text: &[u8]) -> Option<Layout>
-    requires { IsFalse (is_passed_over text.now) }
-    ensures { result ≡ layout_after rules layout text.now }
-{
-    match layout {
-        Some(layout) => Some(layout),
-        None => line_layout(rules.only, without_return(text)),
-    }
-}
-
 // Whether a variant counts.
 fn is_wanted(only: Option<Variant>, variant: Variant) -> bool
     ensures { IsTrue result ↔ IsWanted only variant }
@@ -96,25 +84,26 @@ fn is_input(name: &[u8]) -> bool
 }
 
 // Whether what a line says counts.
-fn counts(rules: Rules, line: &Line) -> bool
+fn is_taken(rules: Rules, line: &Line) -> bool
     ensures { IsTrue result ↔ (IsWanted rules.only line.now.variant × (IsTrue rules.from_input → line.now.name.items ≢ codes "-")) }
 {
     is_wanted(rules.only, line.variant) && !(rules.from_input && is_input(line.name.as_slice()))
 }
 
-// What a line says, if that counts.
+// What a line that is not passed over says, if that counts, and the layout of its list behind it.
 fn read_entry(
     alloc: Global,
     rules: Rules,
-    layout: Option<Layout>,
+    layout: &mut Option<Layout>,
     text: &[u8],
 ) -> Result<Option<Line>, AllocError>
-    ensures { IfOk result (IsEntry rules layout text.now) }
+    requires { IsFalse (is_passed_over text.now) }
+    ensures layout { layout.new ≡ layout_after rules layout.old text.now }
+    ensures entry { IfOk result (IsEntry rules layout.new text.now) }
 {
-    let layout = layout.unwrap_or(Layout::Standard);
-    match parse_line(alloc, layout, without_return(text))? {
+    match read_line(alloc, rules.only, layout, without_return(text))? {
         Some(line) => {
-            if counts(rules, &line) {
+            if is_taken(rules, &line) {
                 return Ok(Some(line));
             }
             Ok(None)
@@ -146,8 +135,7 @@ fn take_line<F: Folder>(
     if is_skipped(text) {
         return Ok(None);
     }
-    cursor.layout = next_layout(rules, cursor.layout, text);
-    match read_entry(alloc, rules, cursor.layout, text)? {
+    match read_entry(alloc, rules, &mut cursor.layout, text)? {
         None => Ok(Some(number)),
         Some(line) => {
             push_line(lines, line)?;

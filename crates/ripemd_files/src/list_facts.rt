@@ -10,6 +10,7 @@ ghost use Rattle.ripemd_files.specs.Splitting.{lines_of, IsOneLine};
 ghost use Rattle.ripemd_files.specs.WorkedLists.{SplitLists, StandardLayouts, ReversedLayouts, NoLayouts};
 
 /// How a list is split into lines.
+#[tactic(auto, unfolding(crate::specs::Splitting::lines_of))]
 pub fn split_lists()
     ensures worked { SplitLists }
     // A newline ends a line.
@@ -19,6 +20,7 @@ pub fn split_lists()
 {}
 
 /// In which layout lines stand.
+#[tactic(auto, unfolding(crate::specs::Reading::skip_blanks, crate::specs::Reading::split_blank, crate::specs::Reading::strip_tag, crate::specs::Reading::untagged_at, crate::specs::Layouts::layout_at))]
 pub fn list_layouts()
     ensures standard { StandardLayouts }
     ensures reversed { ReversedLayouts }

@@ -1,12 +1,15 @@
 //! Lines that are read.
 
-ghost use Rattle.std.specs.Prelude.{◌≡◌, ℕ, List, false, IfOk, IfSome, option_map};
+ghost use Rattle.std.specs.Prelude.{◌≡◌, ℕ, List, false, IfOk, IfSome, option_map, unwrap_or};
 ghost use Rattle.ripemd_files.specs.declared.line.Variant.{Variant};
 ghost use Rattle.ripemd_files.specs.declared.line.Form.{Form};
+ghost use Rattle.ripemd_files.specs.declared.line.Layout.TheVariants.{Standard};
 ghost use Rattle.ripemd_files.specs.declared.line.Ending.{Ending};
 ghost use Rattle.ripemd_files.specs.Lines.{is_blank, IsLine, Says, RoundTrips, line_of};
-ghost use Rattle.ripemd_files.specs.Reading.{strip, skip_blanks, split_blank, split_close, variant_of, strip_bits, strip_tag, text_at, untagged_at, skip_space, tagged_at, found_at, digest_at, meant_by, unescaped, name_at, strip_mark, said_by, found_of, said_of};
+ghost use Rattle.ripemd_files.specs.Layouts.{layout_at, layout_of};
+ghost use Rattle.ripemd_files.specs.Reading.{first_of_two, strip, skip_blanks, split_blank, split_close, variant_of, strip_bits, strip_tag, text_at, untagged_at, skip_space, tagged_at, found_at, digest_at, meant_by, unescaped, name_at, strip_mark, said_by, found_of, said_of};
 
+use crate::layout::layout_of_untagged;
 use crate::line::{Layout, Line, Variant};
 use hex::FromHexError;
 use std::alloc::{AllocError, Global};
@@ -27,7 +30,8 @@ fn is_blank_byte(byte: u8) -> bool
 }
 
 // What stands behind the blanks at the front.
-pub(crate) fn without_blanks(text: &[u8]) -> &[u8]
+#[tactic(auto, using(crate::proofs::Places::skipping))]
+fn without_blanks(text: &[u8]) -> &[u8]
     ensures { result.now ≡ skip_blanks text.now }
 {
     for (place, byte) in text.iter().enumerate() {
@@ -46,6 +50,7 @@ fn behind<'a>(prefix: &[u8], text: &'a [u8]) -> Option<&'a [u8]>
 }
 
 // What stands before and behind the first blank.
+#[tactic(auto, using(crate::proofs::Places::splitting))]
 fn around_blank(text: &[u8]) -> Option<(&[u8], &[u8])>
     ensures { option_map (λ x. (x.0.now, x.1.now)) result ≡ split_blank text.now }
 {
@@ -58,6 +63,7 @@ fn around_blank(text: &[u8]) -> Option<(&[u8], &[u8])>
 }
 
 // What stands before and behind the last closing parenthesis.
+#[tactic(auto, using(crate::proofs::Places::closing))]
 fn around_close(text: &[u8]) -> Option<(&[u8], &[u8])>
     ensures { option_map (λ x. (x.0.now, x.1.now)) result ≡ split_close text.now }
 {
@@ -100,7 +106,7 @@ fn behind_bits(text: &[u8]) -> Option<(Variant, &[u8])>
 
 // The variant of a tag, and what stands behind it.
 #[tactic(auto, unfolding(crate::specs::Reading::strip_tag))]
-pub(crate) fn behind_tag(text: &[u8]) -> Option<(Variant, &[u8])>
+fn behind_tag(text: &[u8]) -> Option<(Variant, &[u8])>
     ensures { option_map (λ x. (x.0, x.1.now)) result ≡ strip_tag text.now }
 {
     if let Some(rest) = behind(b"RMD", text) {
@@ -168,14 +174,24 @@ fn tagged_parts(variant: Variant, text: &[u8]) -> Option<Parts<'_>>
     })
 }
 
-// The parts of a line in either form.
-#[tactic(auto, unfolding(crate::specs::Reading::found_at))]
-fn either_parts(layout: Layout, body: &[u8]) -> Option<Parts<'_>>
-    ensures { option_map found_of result ≡ found_at layout body.now }
+// The parts of a line in either form, by the layout of its list. If none is known yet, an untagged line tells it.
+#[tactic(auto, unfolding(crate::specs::Reading::found_at, crate::specs::Layouts::layout_at))]
+fn either_parts<'a>(
+    only: Option<Variant>,
+    layout: &mut Option<Layout>,
+    body: &'a [u8],
+) -> Option<Parts<'a>>
+    ensures layout { layout.new ≡ first_of_two layout.old (layout_at only body.now) }
+    ensures parts { option_map found_of result ≡ found_at (unwrap_or layout.new Standard) body.now }
 {
     match behind_tag(body) {
         Some((variant, rest)) => tagged_parts(variant, rest),
-        None => untagged_parts(layout, body),
+        None => {
+            if layout.is_none() {
+                *layout = layout_of_untagged(only, body);
+            }
+            untagged_parts(layout.unwrap_or(Layout::Standard), body)
+        }
     }
 }
 
@@ -211,7 +227,7 @@ fn meaning(letter: u8) -> Option<u8>
 }
 
 // The name that an escaped text spells.
-#[tactic(auto, unfolding(crate::specs::Reading::unescaped))]
+#[tactic(auto, using(crate::proofs::Places::unescaping), unfolding(crate::specs::Reading::unescaped))]
 fn unescape(alloc: Global, text: &[u8]) -> Result<Option<Vec<u8>>, AllocError>
     ensures { IfOk result (λ found. option_map (λ v. v.items) found ≡ unescaped false text.now) }
 {
@@ -250,7 +266,7 @@ fn read_name(alloc: Global, marked: bool, text: &[u8]) -> Result<Option<Vec<u8>>
 }
 
 // Whether a line is marked as escaped, and what stands behind the mark.
-pub(crate) fn without_mark(text: &[u8]) -> (bool, &[u8])
+fn without_mark(text: &[u8]) -> (bool, &[u8])
     ensures { (result.0, result.1.now) ≡ strip_mark text.now }
 {
     match text {
@@ -259,13 +275,19 @@ pub(crate) fn without_mark(text: &[u8]) -> (bool, &[u8])
     }
 }
 
-// What a line says.
+// What a line says, by the layout of its list, which it may tell.
 #[tactic(auto, unfolding(crate::specs::Reading::said_by))]
-fn read_line(alloc: Global, layout: Layout, line: &[u8]) -> Result<Option<Line>, AllocError>
-    ensures { IfOk result (λ found. option_map said_of found ≡ said_by layout line.now) }
+pub(crate) fn read_line(
+    alloc: Global,
+    only: Option<Variant>,
+    layout: &mut Option<Layout>,
+    line: &[u8],
+) -> Result<Option<Line>, AllocError>
+    ensures layout { layout.new ≡ first_of_two layout.old (layout_of only line.now) }
+    ensures line { IfOk result (λ found. option_map said_of found ≡ said_by (unwrap_or layout.new Standard) line.now) }
 {
     let (marked, body) = without_mark(without_blanks(line));
-    let Some(parts) = either_parts(layout, body) else {
+    let Some(parts) = either_parts(only, layout, body) else {
         return Ok(None);
     };
     let Some(digest) = decode_digest(alloc, parts.variant, parts.digits)? else {
@@ -298,5 +320,6 @@ pub fn parse_line(alloc: Global, layout: Layout, line: &[u8]) -> Result<Option<L
     ensures written { (ending : Ending) (form : Form) (variant : Variant) (digest name : List ℕ) → RoundTrips layout form variant digest name
         → line.now ≡ line_of ending form variant digest name → IfOk result (λ found. Says found variant digest name) }
 {
-    read_line(alloc, layout, line)
+    let mut layout = Some(layout);
+    read_line(alloc, None, &mut layout, line)
 }

@@ -2,4 +2,3 @@ pub mod Differences
 pub mod MacReduction
 -- The blocks of a derived key.
 pub mod Deriving
-pub mod Kept

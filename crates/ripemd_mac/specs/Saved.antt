@@ -1,7 +1,6 @@
 -- The bytes that an HMAC state is saved as (this repository's own).
-use Rattle.std.specs.Prelude.{◌≡◌, ℕ, ◌+◌, List, ◌++◌, take, drop}
+use Rattle.std.specs.Prelude.{◌≡◌, ℕ, List, ◌++◌}
 use Rattle.ripemd.specs.States.{IsHashState, core_and_tail}
-use Rattle.ripemd.specs.Saved.{cleared}
 use Rattle.ripemd_mac.specs.Hmac.{KeyedState, StandsFor}
 
 -- an HMAC state whose two hash states are valid
@@ -12,10 +11,6 @@ pub record IsKeyedState (are_words : List ℕ → Type 0) (state : KeyedState) :
 -- the bytes that it is saved as: those of its inner hash state, and then those of its outer one
 abbrev pub hmac_bytes : (List ℕ → List ℕ) → KeyedState → List ℕ
 hmac_bytes output state = core_and_tail output state.inner ++ core_and_tail output state.outer
-
--- kept bytes of an HMAC state, with zeros behind the tails of both hash states, whose cores are saved as so many bytes
-abbrev pub cleared_hmac : (core : ℕ) → List ℕ → List ℕ
-cleared_hmac core kept = cleared core (take (core + 64) kept) ++ cleared core (drop (core + 64) kept)
 
 -- these are the bytes of a state that stands for this key and this text
 pub record IsSavedFor (start : List ℕ) (step : List ℕ → List ℕ → List ℕ) (output : List ℕ → List ℕ)

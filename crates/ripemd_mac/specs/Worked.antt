@@ -12,7 +12,7 @@ use Rattle.ripemd_mac.specs.declared.reduction.MacCollision.{MacCollision}
 use Rattle.ripemd_mac.specs.declared.reduction.MacCollision.TheVariants.{Inner, Outer}
 use Rattle.ripemd_mac.specs.Hmac.{hmac, inner_message, outer_message, fed_text, tag_of, keyed_state}
 use Rattle.ripemd_mac.specs.MacCollisions.{InnerAgree, IsMacCollision}
-use Rattle.ripemd_mac.specs.Saved.{cleared_hmac, IsSavedFor}
+use Rattle.ripemd_mac.specs.Saved.{IsSavedFor}
 use Rattle.ripemd_mac.specs.Pbkdf2.{F, pbkdf2}
 
 -- ---- tags
@@ -60,11 +60,6 @@ pub record WorkedSaved : Type 0 where
   pub tag : hexadecimal (tag_of (compress ripemd160) word_bytes
       (fed_text (compress ripemd160) (keyed_state ripemd160.start (compress ripemd160) word_bytes (replicate 20 0x0b)) (codes "Hi There")))
       ≡ codes "24cb4bd67d20fc1a5d2ed7732dcc39377f0a5668"
-
--- kept bytes of two hash states with cores of one byte, of a tail of two bytes and of one of none
-pub record WorkedKept : Type 0 where
-  pub both : cleared_hmac 1 ((9 ∷ 2 ∷ replicate 63 7) ++ 8 ∷ 0 ∷ replicate 63 7)
-      ≡ (9 ∷ 2 ∷ 7 ∷ 7 ∷ replicate 61 0) ++ 8 ∷ 0 ∷ replicate 63 0
 
 -- ---- collisions
 

@@ -1,7 +1,7 @@
 //! Worked examples of the definitions, proved. The functions do nothing; their contracts are the
 //! facts.
 
-ghost use Rattle.ripemd_mac.specs.Worked.{WorkedTags, WorkedSaved, WorkedKept, WorkedKeys, WorkedMacCollisions};
+ghost use Rattle.ripemd_mac.specs.Worked.{WorkedTags, WorkedSaved, WorkedKeys, WorkedMacCollisions};
 
 /// The definition gives the tags of RFC 2286 under keys shorter and longer than a block, and what
 /// OpenSSL gives under a key of a whole block.
@@ -12,11 +12,6 @@ pub fn tags()
 /// A saved HMAC state of RIPEMD-160, with the chaining values that OpenSSL has.
 pub fn saved_tag()
     ensures { WorkedSaved }
-{}
-
-/// The bytes that an HMAC state is kept as, with zeros behind the tails.
-pub fn kept_bytes()
-    ensures { WorkedKept }
 {}
 
 /// Collisions of a small block function, inside the inner messages and inside the outer ones.

@@ -13,11 +13,11 @@ ghost use Rattle.ripemd_mac.specs.Hmac.{
   masked,
   tag_of,
 };
-ghost use Rattle.ripemd_mac.specs.Saved.{IsKeyedState, IsSavedFor, cleared_hmac, hmac_bytes};
+ghost use Rattle.ripemd_mac.specs.Saved.{IsKeyedState, IsSavedFor, hmac_bytes};
 
 use ripemd::block_api::{ByteArray, write_short};
 use ripemd::digest::{BlockDigest, Digest, SerializableState};
-use ripemd::incremental::{Incremental, Resumable};
+use ripemd::incremental::Incremental;
 use ripemd::state::DeserializeStateError;
 use ripemd::{BlockHasher, ListBlockFunction, ResumableFunction};
 use std::alloc::AllocError;
@@ -50,6 +50,24 @@ impl<D: BlockDigest> Hmac<D> {
             inner: D::new_with_prefix(&keys.inner),
             outer: D::new_with_prefix(&keys.outer),
         }
+    }
+
+    /// The state of two hashers: the inner one takes in the text, and the outer one then the digest of the inner.
+    #[inline(always)]
+    pub fn from_hashers(inner: D, outer: D) -> Hmac<D>
+        ensures inner { result.inner ≡ D.meaning inner }
+        ensures outer { result.outer ≡ D.meaning outer }
+    {
+        Hmac { inner, outer }
+    }
+
+    /// Its inner hasher and its outer one. They are as secret as the key.
+    #[inline(always)]
+    pub fn hashers(&self) -> (&D, &D)
+        ensures inner { D.meaning result.0.now ≡ self.now.inner }
+        ensures outer { D.meaning result.1.now ≡ self.now.outer }
+    {
+        (&self.inner, &self.outer)
     }
 
     /// Appends bytes to the text.
@@ -195,58 +213,6 @@ impl<F: ResumableFunction> Hmac<BlockHasher<F>> {
             outer: BlockHasher::load_slice(outer)?,
         })
     }
-}
-
-impl<F: ResumableFunction> Resumable for Hmac<BlockHasher<F>> {
-    type Saved = F::SavedHmac;
-
-    ghost is_valid = { IsKeyedState F.are_words };
-
-    ghost state_bytes = { hmac_bytes F.output };
-
-    fn save(&self) -> F::SavedHmac {
-        Hmac::save(self)
-    }
-
-    fn load_from(bytes: &[u8]) -> Result<Hmac<BlockHasher<F>>, DeserializeStateError> {
-        Hmac::load_slice(bytes)
-    }
-
-    ghost cleared = { cleared_hmac F.SavedCore.LEN };
-
-    #[inline(always)]
-    fn keep(&self, kept: &mut [u8]) {
-        let (inner, outer) = kept.split_at_mut(<F::SavedHasher as ByteArray>::LEN);
-        self.inner.keep(inner);
-        self.outer.keep(outer);
-    }
-
-    #[inline(always)]
-    fn load_kept(kept: &[u8]) -> Option<Hmac<BlockHasher<F>>> {
-        if kept.len() != <F::SavedHmac as ByteArray>::LEN {
-            return None;
-        }
-        let (inner, outer) = kept.split_at(<F::SavedHasher as ByteArray>::LEN);
-        Some(Hmac {
-            inner: BlockHasher::load_kept(inner)?,
-            outer: BlockHasher::load_kept(outer)?,
-        })
-    }
-
-    fn update_kept(kept: &mut [u8], bytes: &[u8]) -> bool {
-        if kept.len() != <F::SavedHmac as ByteArray>::LEN {
-            return false;
-        }
-        let (inner, outer) = kept.split_at_mut(<F::SavedHasher as ByteArray>::LEN);
-        match BlockHasher::<F>::load_kept(outer) {
-            Some(_outer) => BlockHasher::<F>::update_kept(inner, bytes),
-            None => false,
-        }
-    }
-
-    ghost use Rattle.ripemd_mac.specs.Laws.{hmac_bytes_injective};
-
-    ghost injective = { hmac_bytes_injective F.injective_output };
 }
 
 /// Whether bytes are equal. Where both are as many, it compares all of them, whatever they are.

@@ -1,6 +1,11 @@
-//! The tests of `ripemd`, which call it as any other crate does.
+//! The tests of `ripemd_block` and `ripemd`, which call these as any other crate does, and what other
+//! tests share.
 #![tactic(auto)]
 
+#[cfg(test)]
+mod block;
+pub mod bytes;
+pub mod digits;
 #[cfg(test)]
 mod hashers;
 #[cfg(test)]

@@ -33,31 +33,41 @@ impl fmt::Write for Refusing {
     }
 }
 
-// Whether this is the name of a core or hasher, as a constant and as it is written, and an error
-// where the writer takes nothing. A width and a precision change nothing.
-fn is_named<T: AlgorithmName>(alloc: Global, name: &str) -> Result<bool, AllocError> {
+// Whether this is the name of a core's or hasher's hash function, as a constant and as it is written,
+// with an error where the writer takes nothing, and this the value's text for debugging. A width and
+// a precision change nothing.
+fn is_named<T>(alloc: Global, value: &T, name: &str, debug_text: &str) -> Result<bool, AllocError>
+where
+    T: AlgorithmName + fmt::Debug,
+{
     let shown = NameOf::<T> { of: PhantomData };
     let plain = format!(in alloc; "{shown}")?;
     let wide = format!(in alloc; "{shown:20.3}")?;
+    let debug = format!(in alloc; "{value:?}")?;
     Ok(
         T::ALG_NAME == name
             && plain.as_str() == name
             && wide.as_str() == name
-            && write!(Refusing, "{shown}").is_err(),
+            && write!(Refusing, "{shown}").is_err()
+            && debug.as_str() == debug_text,
     )
 }
 
 #[test]
 fn names(rt: HostRuntime) -> Result<(), Fail> {
     let alloc = rt.alloc();
-    assert!(rt; is_named::<Ripemd128>(alloc, "Ripemd128")?);
-    assert!(rt; is_named::<Ripemd160>(alloc, "Ripemd160")?);
-    assert!(rt; is_named::<Ripemd256>(alloc, "Ripemd256")?);
-    assert!(rt; is_named::<Ripemd320>(alloc, "Ripemd320")?);
-    assert!(rt; is_named::<Ripemd128Core>(alloc, "Ripemd128")?);
-    assert!(rt; is_named::<Ripemd160Core>(alloc, "Ripemd160")?);
-    assert!(rt; is_named::<Ripemd256Core>(alloc, "Ripemd256")?);
-    assert!(rt; is_named::<Ripemd320Core>(alloc, "Ripemd320")?);
+    assert!(rt; is_named(alloc, &Ripemd128::new(), "Ripemd128", "Ripemd128 { ... }")?);
+    assert!(rt; is_named(alloc, &Ripemd160::new(), "Ripemd160", "Ripemd160 { ... }")?);
+    assert!(rt; is_named(alloc, &Ripemd256::new(), "Ripemd256", "Ripemd256 { ... }")?);
+    assert!(rt; is_named(alloc, &Ripemd320::new(), "Ripemd320", "Ripemd320 { ... }")?);
+    let core = Ripemd128Core::default();
+    assert!(rt; is_named(alloc, &core, "Ripemd128", "Ripemd128Core { ... }")?);
+    let core = Ripemd160Core::default();
+    assert!(rt; is_named(alloc, &core, "Ripemd160", "Ripemd160Core { ... }")?);
+    let core = Ripemd256Core::default();
+    assert!(rt; is_named(alloc, &core, "Ripemd256", "Ripemd256Core { ... }")?);
+    let core = Ripemd320Core::default();
+    assert!(rt; is_named(alloc, &core, "Ripemd320", "Ripemd320Core { ... }")?);
     Ok(())
 }
 
@@ -66,25 +76,6 @@ fn identifiers(rt: HostRuntime) {
     assert!(rt; Ripemd128::OID == "1.3.36.3.2.2");
     assert!(rt; Ripemd160::OID == "1.3.36.3.2.1");
     assert!(rt; Ripemd256::OID == "1.3.36.3.2.3");
-}
-
-// Whether a value's text for debugging is this one.
-fn is_shown<T: fmt::Debug>(alloc: Global, value: &T, text: &str) -> Result<bool, AllocError> {
-    Ok(format!(in alloc; "{value:?}")?.as_str() == text)
-}
-
-#[test]
-fn debug_texts(rt: HostRuntime) -> Result<(), Fail> {
-    let alloc = rt.alloc();
-    assert!(rt; is_shown(alloc, &Ripemd128::new(), "Ripemd128 { ... }")?);
-    assert!(rt; is_shown(alloc, &Ripemd160::new(), "Ripemd160 { ... }")?);
-    assert!(rt; is_shown(alloc, &Ripemd256::new(), "Ripemd256 { ... }")?);
-    assert!(rt; is_shown(alloc, &Ripemd320::new(), "Ripemd320 { ... }")?);
-    assert!(rt; is_shown(alloc, &Ripemd128Core::default(), "Ripemd128Core { ... }")?);
-    assert!(rt; is_shown(alloc, &Ripemd160Core::default(), "Ripemd160Core { ... }")?);
-    assert!(rt; is_shown(alloc, &Ripemd256Core::default(), "Ripemd256Core { ... }")?);
-    assert!(rt; is_shown(alloc, &Ripemd320Core::default(), "Ripemd320Core { ... }")?);
-    Ok(())
 }
 
 #[test]

@@ -1,13 +1,26 @@
 //! Lists of commands. Those of which an allocation can fail are in `ripemd_allocations`.
 
 mod errors;
-mod random_lists;
 
-use ripemd::Ripemd160;
+use crate::digits::{OF_160, is_written};
+use ripemd::digest::SerializableState;
 use ripemd::replay::{Command, replay};
-use ripemd_vectors::digits::{ABC_160, is_written};
+use ripemd::{Digest, Ripemd160};
 use std::alloc::{AllocError, Global};
 use std::test::Fail;
+
+// Whether the commands give these digests.
+fn gives(alloc: Global, commands: &[Command], wanted: &[&str]) -> bool {
+    let Ok(digests) = replay::<Ripemd160>(alloc, commands) else {
+        return false;
+    };
+    for (digest, digits) in digests.iter().zip(wanted) {
+        if !is_written(digest, digits) {
+            return false;
+        }
+    }
+    digests.len() == wanted.len()
+}
 
 // Hundreds of hashers, of which the last takes in "abc", and of saved states of that one.
 fn many_commands(alloc: Global) -> Result<Vec<Command<'static>>, AllocError> {
@@ -28,11 +41,28 @@ fn many_commands(alloc: Global) -> Result<Vec<Command<'static>>, AllocError> {
 #[test]
 fn many_hashers(rt: HostRuntime) -> Result<(), Fail> {
     let commands = many_commands(rt.alloc())?;
-    let digests = replay::<Ripemd160>(rt.alloc(), commands.as_slice());
-    assert!(rt;
-        digests.is_ok_and(|digests| {
-            digests.len() == 1 && is_written(digests[0].as_slice(), ABC_160)
-        })
-    );
+    assert!(rt; gives(rt.alloc(), commands.as_slice(), &[OF_160.abc]));
     Ok(())
+}
+
+// Each command, of hashers that began from an imported state.
+#[test]
+fn imported_hashers(rt: HostRuntime) {
+    let state = Ripemd160::new_with_prefix(b"ab").serialize();
+    let bytes = b"c";
+    let commands = [
+        Command::Import { bytes: &state },
+        Command::Fork { hasher: 0 },
+        Command::Save { hasher: 1 },
+        Command::Reset { hasher: 0 },
+        Command::Load { saved: 0 },
+        Command::Update { hasher: 2, bytes },
+        Command::Finish { hasher: 0 },
+        Command::Update { hasher: 1, bytes },
+        Command::Finish { hasher: 1 },
+        Command::Finish { hasher: 2 },
+        Command::Finish { hasher: 2 },
+    ];
+    let wanted = [OF_160.empty, OF_160.abc, OF_160.abc, OF_160.empty];
+    assert!(rt; gives(rt.alloc(), &commands, &wanted));
 }

@@ -6,7 +6,8 @@ use std::io::{ErrorKind, Read, Write};
 /// The text of the errors that a reader or a writer of this module makes.
 pub const PLANNED: &str = "planned by the test";
 
-/// Which call of a reader or a writer fails, the first being 1, and with which kind of error.
+/// Which call of a reader or a writer fails, the first being 1 and none being 0, and with which kind of
+/// error.
 #[derive(Clone, Copy)]
 struct Failure {
     call: usize,
@@ -48,41 +49,6 @@ impl Read for SliceReader<'_> {
         let (given, rest) = self.rest.split_at(count);
         buf[..count].copy_from_slice(given);
         self.rest = rest;
-        Ok(count)
-    }
-}
-
-/// The bytes 0 to 199.
-pub fn ramp() -> [u8; 200] {
-    let mut bytes = [0; 200];
-    for i in 0..200 {
-        bytes[usize::from(i)] = i;
-    }
-    bytes
-}
-
-/// Gives one byte again and again, at most `step` at a call, until none is left.
-#[derive(Drop)]
-pub struct RepeatingReader {
-    pub byte: u8,
-    pub left: usize,
-    pub step: usize,
-}
-
-/// A reader of so many bytes "a", at most `step` at a call.
-pub fn letters(count: usize, step: usize) -> RepeatingReader {
-    RepeatingReader {
-        byte: b'a',
-        left: count,
-        step,
-    }
-}
-
-impl Read for RepeatingReader {
-    fn read(&mut self, buf: &mut [u8]) -> io::Result<usize> {
-        let count = buf.len().min(self.left).min(self.step);
-        buf[..count].fill(self.byte);
-        self.left -= count;
         Ok(count)
     }
 }

@@ -1,69 +1,56 @@
 //! What is written.
 
-use super::digests::digests_by;
 use super::doubles::{PageWriter, SliceReader};
-use super::{AMPLE, Finished, HELLO, VARIANTS, finish};
+use super::{AMPLE, DIGESTS, Finished, HELLO, HELLO_160, finish};
 use crate::variant::Variant;
-use std::alloc::{AllocError, Global};
 use std::io::ErrorKind;
 use std::test::Fail;
 
 /// The run over "Hello world!" that this writer gets the line of.
-fn written_to(variant: Variant, writer: PageWriter) -> Finished<SliceReader<'static>> {
-    finish(variant, SliceReader::new(HELLO, 100), writer, AMPLE)
+fn written_to(variant: Variant, writer: PageWriter) -> Finished<'static> {
+    finish(variant, None, SliceReader::new(HELLO, 100), writer, AMPLE)
 }
 
 // A writer that takes one byte a call gets the same line.
 #[test]
 fn writes_in_any_pieces(rt: HostRuntime) {
-    for variant in VARIANTS {
-        let hello = digests_by(variant).hello;
+    for (variant, digest) in DIGESTS {
         let done = written_to(variant, PageWriter::new(1));
-        assert!(rt; done.gives(hello, 12) && done.writer.calls == hello.len() + 1);
+        assert!(rt; done.gives(digest) && done.writer.calls == digest.len() + 1);
     }
-}
-
-/// Whether the run ends by the error of a write, after so many bytes of the line, and no write follows.
-fn ends_after(
-    alloc: Global,
-    variant: Variant,
-    n: usize,
-    kind: ErrorKind,
-) -> Result<bool, AllocError> {
-    let call = n.saturating_add(1);
-    let done = written_to(variant, PageWriter::new(1).failing_at(call, kind));
-    let front = digests_by(variant).hello.as_bytes().get(..n);
-    let ended = done.writer.calls == call && Some(done.writer.written()) == front;
-    Ok(ended && done.failed_writing(alloc, kind)?)
 }
 
 // Whichever write fails, but by an interruption, its error is the answer, and no write follows it.
 #[test]
 fn answers_a_write_that_fails(rt: HostRuntime) -> Result<(), Fail> {
-    for variant in VARIANTS {
-        let hello = digests_by(variant).hello;
-        for kind in [ErrorKind::BrokenPipe, ErrorKind::StorageFull] {
-            for n in 0..=hello.len() {
-                assert!(rt;
-                    ends_after(rt.alloc(), variant, n, kind)?,
-                    "after {n} bytes"
-                );
+    for kind in [ErrorKind::BrokenPipe, ErrorKind::StorageFull] {
+        for (variant, digest) in DIGESTS {
+            for written in 0..=digest.len() {
+                let call = written.saturating_add(1);
+                let done = written_to(variant, PageWriter::new(1).failing_at(call, kind));
+                let failed = done.failed_writing(rt.alloc(), kind)?;
+                assert!(rt; failed && done.writer.calls == call, "write {call}");
+                assert!(rt; Some(done.writer.written()) == digest.as_bytes().get(..written));
             }
         }
     }
+    let writer = PageWriter::new(1).failing_at(20, ErrorKind::BrokenPipe);
+    let reader = SliceReader::new(HELLO, 100);
+    let done = finish(Variant::R160, Some(b"key"), reader, writer, AMPLE);
+    assert!(rt; done.failed_writing(rt.alloc(), ErrorKind::BrokenPipe)?);
+    assert!(rt; done.writer.calls == 20);
     Ok(())
 }
 
 // A write that was interrupted is tried again, as the library's `write_all` does.
 #[test]
 fn goes_on_after_an_interrupted_write(rt: HostRuntime) {
-    for variant in VARIANTS {
-        let hello = digests_by(variant).hello;
-        for n in [1, 20, 33] {
-            let writer = PageWriter::new(1).failing_at(n, ErrorKind::Interrupted);
-            let done = written_to(variant, writer);
-            let well = done.gives(hello, 12) && done.writer.calls == hello.len() + 2;
-            assert!(rt; well, "write {n}");
-        }
+    for call in [1, 20, 41] {
+        let writer = PageWriter::new(1).failing_at(call, ErrorKind::Interrupted);
+        let done = written_to(Variant::R160, writer);
+        assert!(rt;
+            done.gives(HELLO_160) && done.writer.calls == 42,
+            "write {call}"
+        );
     }
 }

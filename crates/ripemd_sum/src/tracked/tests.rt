@@ -4,14 +4,6 @@ use std::io::{ErrorKind, Read, Write};
 
 const HELLO: &[u8] = b"Hello world!";
 
-// A new one has not failed and has given nothing, and it gives back what it was made of.
-#[test]
-fn tracks_from_the_start(rt: HostRuntime) {
-    let tracked = Tracked::new(57);
-    assert!(rt; !tracked.failed() && tracked.taken() == 0);
-    assert_eq!(rt; tracked.into_inner(), 57);
-}
-
 /// What a read of at most eight bytes answers, what has been given then, and whether a call has failed.
 fn read_once<R: Read>(tracked: &mut Tracked<R>) -> (Result<usize, ErrorKind>, u128, bool) {
     let answer = match tracked.read(&mut [0; 8]) {
@@ -39,29 +31,6 @@ fn tracks_reads(rt: HostRuntime) {
         assert!(rt; (answer, taken, failed) == read, "{taken} bytes");
     }
     assert_eq!(rt; tracked.into_inner().calls, 5);
-}
-
-// Counts are exact past 2^32 and 2^64, and stop at 2^128 - 1.
-#[test]
-fn counts_without_end(rt: HostRuntime) {
-    let counts = [
-        (4_294_967_295, 4_294_967_300),
-        (18_446_744_073_709_551_615, 18_446_744_073_709_551_620),
-        (u128::MAX - 2, u128::MAX),
-        (u128::MAX, u128::MAX),
-    ];
-    for (taken, then) in counts {
-        let mut tracked = Tracked {
-            inner: SliceReader::new(HELLO, 5),
-            failed: false,
-            taken,
-        };
-        assert!(rt;
-            read_once(&mut tracked) == (Ok(5), then, false),
-            "from {taken}"
-        );
-        let _ = tracked.into_inner();
-    }
 }
 
 /// What a write answers, what has been given then, and whether a call has failed.

@@ -1,7 +1,5 @@
 //! The errors of lists with a bad command.
 
-ghost use Rattle.std.specs.Prelude.{◌≤◌};
-
 use ripemd::digest::SerializableState;
 use ripemd::replay::{Command, ReplayError, replay};
 use ripemd::{Digest, Ripemd160};
@@ -14,16 +12,6 @@ fn stops(alloc: Global, commands: &[Command], error: ReplayError) -> bool {
         Ok(_) => false,
         Err(found) => found == error,
     }
-}
-
-// Whether the commands stop at this place, at a hasher of this number that is not there.
-fn lacks_hasher(alloc: Global, commands: &[Command], at: usize, hasher: usize) -> bool {
-    stops(alloc, commands, ReplayError::NoHasher { at, hasher })
-}
-
-// The same of a saved state.
-fn lacks_saved(alloc: Global, commands: &[Command], at: usize, saved: usize) -> bool {
-    stops(alloc, commands, ReplayError::NoSaved { at, saved })
 }
 
 static NO_HASHER: [Command; 1] = [Command::Update {
@@ -48,10 +36,14 @@ static NO_SECOND_SAVED: [Command; 3] = [
 #[test]
 fn bad_commands(rt: HostRuntime) {
     let alloc = rt.alloc();
-    assert!(rt; lacks_hasher(alloc, &NO_HASHER, 0, 0));
-    assert!(rt; lacks_hasher(alloc, &NO_SECOND_HASHER, 2, 1));
-    assert!(rt; lacks_saved(alloc, &NO_SAVED, 1, 0));
-    assert!(rt; lacks_saved(alloc, &NO_SECOND_SAVED, 2, 1));
+    let error = ReplayError::NoHasher { at: 0, hasher: 0 };
+    assert!(rt; stops(alloc, &NO_HASHER, error));
+    let error = ReplayError::NoHasher { at: 2, hasher: 1 };
+    assert!(rt; stops(alloc, &NO_SECOND_HASHER, error));
+    let error = ReplayError::NoSaved { at: 1, saved: 0 };
+    assert!(rt; stops(alloc, &NO_SAVED, error));
+    let error = ReplayError::NoSaved { at: 2, saved: 1 };
+    assert!(rt; stops(alloc, &NO_SECOND_SAVED, error));
 }
 
 // Whether the bytes are refused as a state handed in, by the first command and by the second.
@@ -61,21 +53,14 @@ fn is_bad_state(alloc: Global, bytes: &[u8]) -> bool {
         && stops(alloc, &commands, ReplayError::BadState { at: 1 })
 }
 
-// Whether so many bytes of a state are refused.
-fn is_bad_start(alloc: Global, state: &[u8; 92], len: usize) -> bool
-    requires { len ≤ 92 }
-{
-    is_bad_state(alloc, &state[..len])
-}
-
 #[test]
 fn bad_states(rt: HostRuntime) {
     let alloc = rt.alloc();
     let abc = Ripemd160::new_with_prefix(b"abc").serialize();
     let mut too_far = abc;
     too_far[28] = 64;
-    assert!(rt; is_bad_start(alloc, &abc, 0));
-    assert!(rt; is_bad_start(alloc, &abc, 91));
+    assert!(rt; is_bad_state(alloc, &[]));
+    assert!(rt; is_bad_state(alloc, &[0; 91]));
     assert!(rt; is_bad_state(alloc, &[0; 93]));
     assert!(rt; is_bad_state(alloc, &too_far));
     let commands = [
@@ -85,7 +70,8 @@ fn bad_states(rt: HostRuntime) {
             bytes: b"x",
         },
     ];
-    assert!(rt; lacks_hasher(alloc, &commands, 1, 1));
+    let error = ReplayError::NoHasher { at: 1, hasher: 1 };
+    assert!(rt; stops(alloc, &commands, error));
 }
 
 // Whether an error has this text.

@@ -3,8 +3,8 @@
 ghost use Rattle.std.specs.Prelude.{◌≡◌, ◌+◌, ◌%◌, ⊤};
 ghost use Rattle.std.specs.List.{fold};
 
+use crate::bytes::sum_from;
 use ripemd::witness::BlockFunction;
-use ripemd_vectors::bytes::sum_from;
 
 // Its step adds the bytes of the block to the state.
 pub(super) enum Adding {}

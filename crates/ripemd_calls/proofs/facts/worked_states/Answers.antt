@@ -3,8 +3,7 @@ use Rattle.ripemd.specs.Standard.Words.{word_bytes}
 use Rattle.ripemd.specs.Standard.Compression.{ripemd160, registers_after, lines_after, compress}
 use Rattle.ripemd.specs.Standard.Hashing.{with_padding, blocks, partial_block, hash}
 use Rattle.ripemd.specs.States.{HashState, IsState, new_state, fed, finish, output_and_count, tail_bytes, core_and_tail}
-use Rattle.ripemd.specs.SavedLaws.{length-core_and_tail, saved_is_clear}
-use Rattle.ripemd.specs.Saved.{cleared}
+use Rattle.ripemd.specs.SavedLaws.{length-core_and_tail}
 use Rattle.ripemd_block.specs.Laws.Saved.{word_bytes_output}
 use Rattle.ripemd.proofs.Saved.{tail_back}
 use Rattle.ripemd_mac.specs.Laws.{inner_part, outer_part}
@@ -13,6 +12,8 @@ use Rattle.ripemd_mac.specs.Hmac.{KeyedState, key_block, inner_message, outer_me
 use Rattle.ripemd_mac.specs.Worked.{saved_inner, saved_outer}
 use Rattle.ripemd_calls.specs.KeptStates.{IsSavedState, IsSavedHmac, LoadsState, LoadsHmac}
 use Rattle.ripemd_calls.specs.Worked.{forged, key, saved_bytes, soiled, soiled_bytes}
+use Rattle.ripemd_calls.specs.KeptBytes.{cleared}
+use Rattle.ripemd_calls.proofs.KeptBytes.{saved_is_clear}
 use Rattle.ripemd_calls.proofs.Working.{written, refused, not_answered}
 use Rattle.ripemd_calls.proofs.facts.worked_states.Goals as goal
 

@@ -1,5 +1,6 @@
 use Rattle.std.proofs.Common.{rules}
-use Rattle.ripemd_files.proofs.Pieces.{consumed_more, written_behind}
+use Rattle.std.proofs.KnownBytes.{Consumes-trans}
+use Rattle.ripemd_files.proofs.Pieces.{written_behind}
 use Rattle.ripemd_files.proofs.digests.fill.Goals as goal
 
 pub loop-count-preserved : goal.loop-count-preserved
@@ -8,5 +9,5 @@ loop-count-preserved g c = record {
   within = search rules;
   taken = rw (written_behind c.loop-count.count _ c.in-Ok.more c.loop-count.buffer c.read.new.buffer c.loop-count.invariant.within
       c.in-Ok.ensures.bound.0)
-      (consumed_more _ _ _ _ _ c.loop-count.invariant.taken c.in-Ok.ensures.bytes.0);
+      (Consumes-trans _ _ _ _ _ c.loop-count.invariant.taken c.in-Ok.ensures.bytes.0);
 }

@@ -1,12 +1,17 @@
-use Rattle.std.proofs.Common.{rules}
-use Rattle.ripemd_files.proofs.Listed.{not_taken, not_counted}
+use Rattle.std.proofs.Common.{refl, rules}
+use Rattle.ripemd_files.proofs.Listed.{is_taken, not_taken, not_counted}
 use Rattle.ripemd_files.proofs.list.read_entry.Goals as goal
 
-pub returns-in-None : goal.returns-in-None
-returns-in-None c =
-    not_taken c.args.rules c.args.layout c.args.text.now _ _ _ c.unwrap_or-layout.ensures c.without_return.ensures c.in_ok-line.ensures.only c.in-None.is
+pub returns-in-None-clause-entry : goal.returns-in-None-clause-entry
+returns-in-None-clause-entry c =
+    not_taken c.args.rules c.read_line.new.layout c.args.text.now _ (rw c.without_return.ensures at c.in_ok-line.ensures.line) c.in-None.is
 
-pub returns-else-counts : goal.returns-else-counts
-returns-else-counts c =
-    not_counted c.args.rules c.args.layout c.args.text.now _ _ _ c.unwrap_or-layout.ensures c.without_return.ensures c.in_ok-line.ensures.only
-    c.in-Some.line c.in-Some.is (λ both. absurd (search (rules, c.if-counts.ensures.1 both, c.if-counts.false)))
+pub returns-then-is_taken-clause-entry : goal.returns-then-is_taken-clause-entry
+returns-then-is_taken-clause-entry c =
+    is_taken c.args.rules c.read_line.new.layout c.args.text.now _ (rw c.without_return.ensures at c.in_ok-line.ensures.line) c.in-Some.line
+    c.in-Some.is (c.if-is_taken.ensures.0 refl)
+
+pub returns-else-is_taken-clause-entry : goal.returns-else-is_taken-clause-entry
+returns-else-is_taken-clause-entry c =
+    not_counted c.args.rules c.read_line.new.layout c.args.text.now _ (rw c.without_return.ensures at c.in_ok-line.ensures.line) c.in-Some.line
+    c.in-Some.is (λ both. absurd (search (rules, c.if-is_taken.ensures.1 both, c.if-is_taken.false)))

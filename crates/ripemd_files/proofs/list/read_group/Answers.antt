@@ -1,38 +1,7 @@
 use Rattle.std.proofs.Common.{rules, arith, refl, [], Some, None}
 use Rattle.ripemd_files.proofs.Cutting.{ended_since}
-use Rattle.ripemd_files.proofs.Grouped.{reads_none, reads_nothing, reads_failed, reads_line, reads_last, taken}
+use Rattle.ripemd_files.proofs.Grouped.{reads_line, reads_last, taken}
 use Rattle.ripemd_files.proofs.list.read_group.Goals as goal
-
-pub lines-init : goal.lines-init
-lines-init g c = record {
-  reads = rw c.in_ok-lines.ensures.items (reads_none _ _ _ _ _);
-  advanced = rw c.in_ok-lines.ensures.items (λ some. absurd (omega (arith, some)));
-  bounded = rw c.in_ok-lines.ensures.items (λ some. absurd (omega (arith, some)));
-  behind = omega arith;
-}
-
-pub returns-in-Nothing : goal.returns-in-Nothing
-returns-in-Nothing g c =
-    let piece = rw c.in-Nothing.is at c.in_ok-read_piece.ensures in
-    let before = c.lines.invariant.reads in
-    record {
-      rest = [];
-      reads = reads_nothing _ _ _ _ _ _ _ _ _ before piece.0;
-      ended = (refl, ended_since _ _ _ _ (taken _ _ _ _ _ (g.R.Read.remaining c.read_piece.new.reader) _ _ _ before) piece.1);
-      advanced = λ never. absurd (search (rules, never));
-      bounded = λ never. absurd (search (rules, never));
-    }
-
-pub returns-in-Failed : goal.returns-in-Failed
-returns-in-Failed g c =
-    let piece = rw c.in-Failed.is at c.in_ok-read_piece.ensures in
-    record {
-      rest = piece.0;
-      reads = reads_failed _ _ _ _ _ _ _ _ _ c.lines.invariant.reads _ piece.1;
-      ended = tt;
-      advanced = λ never. absurd (search (rules, never));
-      bounded = λ never. absurd (search (rules, never));
-    }
 
 pub returns-in-Last : goal.returns-in-Last
 returns-in-Last g c =
@@ -68,12 +37,3 @@ lines-preserved g c =
       bounded = λ _. line.ensures.bound;
       behind = omega (arith, line.ensures.advances, c.lines.invariant.behind);
     }
-
-pub returns : goal.returns
-returns g c = record {
-  rest = [];
-  reads = c.lines.invariant.reads;
-  ended = refl;
-  advanced = λ _. c.lines.invariant.advanced (omega (arith, c.lines-test.false));
-  bounded = λ _. c.lines.invariant.bounded (omega (arith, c.lines-test.false));
-}

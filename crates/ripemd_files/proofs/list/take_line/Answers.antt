@@ -4,11 +4,11 @@ use Rattle.ripemd_files.proofs.list.take_line.Goals as goal
 
 pub returns-in-None-clause-takes : goal.returns-in-None-clause-takes
 returns-in-None-clause-takes g c =
-    takes_misformatted _ _ _ c.args.cursor.now _ c.args.text.now c.next_layout-cursor.ensures refl (search rules)
-    (rw c.in-None.is at c.in_ok-read_entry.ensures) _
+    takes_misformatted _ _ _ c.args.cursor.now _ c.args.text.now c.read_entry.ensures.layout refl (search rules)
+    (rw c.in-None.is at c.in_ok-read_entry.ensures.entry) _
 
 pub returns-in_ok-push_line-in-Some-clause-takes : goal.returns-in_ok-push_line-in-Some-clause-takes
 returns-in_ok-push_line-in-Some-clause-takes g c =
     rw c.in_ok-push_line-in-Some.ensures
-    (takes_said _ _ _ c.args.cursor.now _ c.args.text.now c.next_layout-cursor.ensures refl c.in-Some.line (search rules)
-    (rw c.in-Some.is at c.in_ok-read_entry.ensures) _)
+    (takes_said _ _ _ c.args.cursor.now _ c.args.text.now c.read_entry.ensures.layout refl c.in-Some.line (search rules)
+    (rw c.in-Some.is at c.in_ok-read_entry.ensures.entry) _)

@@ -1,5 +1,4 @@
 use Rattle.std.proofs.Common.{arith}
-use Rattle.std.proofs.lemmas.List.{take_all}
 use Rattle.ripemd_files.proofs.Printed.{prints_none, prints_on}
 use Rattle.ripemd_files.proofs.printing.print_groups.Goals as goal
 
@@ -14,6 +13,3 @@ loop-start-preserved g c = record {
   printed = prints_on _ _ (λ name. name.items) c.args.names.now _ _ _ _ _ _ _ _ _ _ (omega arith) c.loop-start.invariant.printed c.in_ok-read.ensures;
   within = omega (arith, c.group_end-end.ensures.1);
 }
-
-pub returns : goal.returns
-returns g c = rw (take_all c.loop-start.start c.args.names.now (omega (arith, c.loop-start-test.false))) at c.loop-start.invariant.printed

@@ -1,0 +1,6 @@
+//! The parts of `ripemd_block`.
+
+mod cores;
+mod counts;
+mod tables;
+mod tails;

@@ -1,0 +1,93 @@
+//! Counts of blocks whose messages are longer than 2^64 bits, which no message of today reaches.
+
+use super::cores::gives;
+use crate::assert_each;
+use crate::digits::{OF_128, OF_160, OF_256, OF_320};
+use ripemd_block::block_api::{
+    BlockCore, ByteArray, FixedOutputCore, ResumableFunction, Ripemd128Function, Ripemd160Function,
+    Ripemd256Function, Ripemd320Function, SerializableState, UpdateCore,
+};
+use ripemd_block::buffer::Buffer;
+
+// So many blocks have 2^64 bits.
+const WRAPPING: u64 = 1 << 55;
+
+// The core of the start words and this count.
+fn core_with<F: ResumableFunction>(count: u64) -> Option<BlockCore<F>> {
+    let saved = BlockCore::<F>::default().serialize();
+    let (words, _) = saved.as_bytes().split_last_chunk::<8>()?;
+    let saved = F::SavedCore::from_slices(words, &count.to_le_bytes())?;
+    BlockCore::deserialize(&saved).ok()
+}
+
+// Whether the core is saved as the words that this digest writes, and this count.
+fn is_saved_as<F: ResumableFunction>(core: &BlockCore<F>, words: &F::Digest, count: u64) -> bool {
+    match core.serialize().as_bytes().split_last_chunk::<8>() {
+        Some((saved, last)) => saved == words.as_bytes() && *last == count.to_le_bytes(),
+        None => false,
+    }
+}
+
+// Whether the core of this count has, after this tail, the digest that the words are after the start
+// words have taken in the padding of the tail with this length in bits. The core stays as it was.
+fn digest_is<F: ResumableFunction>(count: u64, tail: &[u8], bit_len: u64) -> bool {
+    let (Some(mut core), Some(mut buffer), Some(mut same)) = (
+        core_with::<F>(count),
+        Buffer::try_new(tail),
+        Buffer::try_new(tail),
+    ) else {
+        return false;
+    };
+    let mut digest = F::Digest::zeros();
+    core.finalize_fixed_core(&mut buffer, &mut digest);
+    let mut last = BlockCore::<F>::default();
+    let block = same.len64_padding_le(bit_len).first;
+    last.update_blocks(&[block]);
+    is_saved_as(&last, &digest, 1) && is_saved_as(&core, &F::output(F::start()), count)
+}
+
+// Whether the length in bits is taken modulo 2^64: 512 * (2^55 - 1) is 2^64 - 512, and so for the
+// others.
+fn lengths_wrap<F: ResumableFunction>() -> bool {
+    for count in [WRAPPING - 1, 2 * WRAPPING - 1, u64::MAX] {
+        if !digest_is::<F>(count, b"", 0xffff_ffff_ffff_fe00)
+            || !digest_is::<F>(count, b"a", 0xffff_ffff_ffff_fe08)
+        {
+            return false;
+        }
+    }
+    digest_is::<F>(WRAPPING, b"", 0)
+}
+
+#[test]
+fn large_counts_are_kept_whole(rt: HostRuntime) {
+    assert_each!(rt; lengths_wrap());
+}
+
+// Whether the start words and 2^55 blocks have the digest of no bytes, `empty`; whether `last` is
+// the digest with the last count and the tail "a"; and whether the count begins again.
+fn counts_wrap<F: ResumableFunction>(empty: &str, last: &str) -> bool {
+    let (Some(mut wrapping), Some(mut core)) = (core_with::<F>(WRAPPING), core_with::<F>(u64::MAX))
+    else {
+        return false;
+    };
+    let gives_last = gives(&mut core, b"a", last);
+    let block = [b'a'; 64];
+    core.update_blocks(&[block]);
+    let words = F::output(F::step(F::start(), &block));
+    gives(&mut wrapping, b"", empty) && gives_last && is_saved_as(&core, &words, 0)
+}
+
+// The digests with the last count come from a slow textbook program in Python, which was written
+// apart from this code.
+#[test]
+fn counts_begin_again(rt: HostRuntime) {
+    let last = "e60fc1420090357f339f3caef66ec61a";
+    assert!(rt; counts_wrap::<Ripemd128Function>(OF_128.empty, last));
+    let last = "c53fa47b3c78560f9a6e4a086a827a88de779ff8";
+    assert!(rt; counts_wrap::<Ripemd160Function>(OF_160.empty, last));
+    let last = "7f29c9f35ab4e82a13935f865ad3909619aeb6da883111cdd7d41ceb5d76caeb";
+    assert!(rt; counts_wrap::<Ripemd256Function>(OF_256.empty, last));
+    let last = "eaa7ae2979fcbd7051d7f7510577114b8b582356cfe2b9b829a0bad999845834cf83300bf8ff71fa";
+    assert!(rt; counts_wrap::<Ripemd320Function>(OF_320.empty, last));
+}

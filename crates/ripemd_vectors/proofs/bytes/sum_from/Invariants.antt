@@ -1,7 +1,0 @@
--- The sum is that of the bytes so far.
-use Rattle.std.proofs.Common.{◌≡◌, ◌+◌, ◌%◌, take}
-use Rattle.std.specs.List.{fold}
-use Rattle.ripemd_vectors.proofs.bytes.sum_from.Given as goal
-
-abbrev pub invariant-loop-byte : goal.invariant-loop-byte
-invariant-loop-byte l = l.sum ≡ fold (λ sum byte. (sum + byte) % 256) l.start (take l.byte-index l.bytes)
