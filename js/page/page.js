@@ -86,7 +86,8 @@ class Card {
   answer({ digests, seconds, error }) {
     if (this.work.hidden) return;
     if (error) return this.end(`✗ could not be read: ${error}`, 'differs');
-    this.end(seconds < 0.1 ? 'read' : `read in ${seconds.toFixed(1)} s, ${speed(this.file.size, seconds)}`);
+    const short = seconds < 0.1 || this.file.size < 1e6; // too short for a speed
+    this.end(short ? 'read' : `read in ${seconds.toFixed(1)} s, ${speed(this.file.size, seconds)}`);
     this.digests = digests;
     for (const bits of VARIANTS) {
       const row = this.table.tBodies[0].insertRow(), name = `RIPEMD-${bits}`;
