@@ -22,7 +22,7 @@ ghost use Rattle.ripemd_sum.specs.declared.variant.Variant.{Variant};
 use arguments::{choose, choose_mac};
 use engine::{run, run_mac};
 use fault::RunFault;
-use std::io::{Read, Write};
+use std::io::{BufReader, Read, Write};
 use std::process::ExitCode;
 use std::{env, io};
 use tracked::Tracked;
@@ -30,8 +30,11 @@ use tracked::Tracked;
 /// What the program prints, with status 2, if it does not know its arguments.
 pub const USAGE: &str = "usage: ripemd_sum [128|160|256|320]";
 
-/// What the program prints, with status 3, if it cannot take its arguments.
+/// What the program prints, with status 3, if it cannot take its arguments or has no memory for its input.
 pub const NO_MEMORY: &str = "ripemd_sum: out of memory";
+
+/// How much of the input is read at once.
+const BUFFER: usize = 1 << 16;
 
 /// The greatest length of the input, 2^61 - 1 bytes: the length in bits of a longer one would not
 /// fit into 64 bits.
@@ -82,7 +85,11 @@ fn main(rt: HostRuntime) -> ExitCode {
         complain(&rt, NO_MEMORY);
         return ExitCode::from(3);
     };
-    let mut reader = Tracked::new(rt.stdin().lock());
+    let Ok(input) = BufReader::with_capacity(rt.alloc(), BUFFER, rt.stdin().lock()) else {
+        complain(&rt, NO_MEMORY);
+        return ExitCode::from(3);
+    };
+    let mut reader = Tracked::new(input);
     let mut writer = Tracked::new(rt.stdout());
     let outcome = perform(arguments.as_slice(), &mut reader, &mut writer);
     let _ = reader.into_inner();
