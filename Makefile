@@ -21,7 +21,7 @@ SECONDS = 600
 
 PROCESSOR = $(or $(TARGET),$(CPU),x86-64)
 PROGRAM = crates/ripemd_sum/out/$(PROCESSOR)/ripemd_sum
-FILES_PROGRAMS = crates/rmdsum/out
+FILES_PROGRAM = crates/rmdsum/out/$(if $(CPU),$(CPU)/)rmdsum
 
 BUILT = crates/ripemd_c/out$(if $(TARGET),/$(TARGET))
 HWCAPS = glibc-hwcaps/x86-64-v3
@@ -44,10 +44,11 @@ SITE = $(shell python3 -c 'import sys; sys.version_info < (3, 11) or \
 # The libraries are proved first, where they have changed.
 all: toolchain
 	@[ -z '$(TARGET)' ] || { echo 'make: the programs and make install are for x86-64: leave TARGET out' >&2; exit 1; }
-	@[ -e $(FILES_PROGRAMS)/$(PROCESSOR)/rmdsum ] || \
+	@[ -e $(FILES_PROGRAM) ] || \
 	  echo 'make: proving and building the programs: some minutes the first time' >&2
 	@build/tell build/crate ripemd_sum $(PROCESSOR) >/dev/null
-	@build/tell build/crate rmdsum $(PROCESSOR) x86-64-v3 >/dev/null
+	@build/tell build/crate rmdsum $(if $(CPU),$(CPU),x86-64 x86-64-v3) >/dev/null
+	$(if $(CPU),,@build/program $(FILES_PROGRAM))
 
 toolchain:
 	@rt version >/dev/null 2>&1 || { echo 'make: the command rt of the Rattle toolchain does not run;' \
@@ -109,14 +110,11 @@ filled = sed -e 's|@PREFIX@|$(PC_PREFIX)|' -e 's|@LIBDIR@|$(LIBDIR)|' -e 's|@VER
 # These copy what is built.
 install-program: prefix
 	install -D -m 755 $(PROGRAM) "$(AT)/bin/ripemd_sum"
-	install -D -m 755 $(FILES_PROGRAMS)/$(PROCESSOR)/rmdsum "$(AT)/bin/rmdsum"
-	install -D -m 755 $(FILES_PROGRAMS)/x86-64-v3/rmdsum "$(AT)/bin/rmdsum-v3"
+	install -D -m 755 $(FILES_PROGRAM) "$(AT)/bin/rmdsum"
 	install -D -m 644 crates/rmdsum/rmdsum.bash-completion "$(COMPLETIONS)/rmdsum"
-	ln -sf rmdsum "$(COMPLETIONS)/rmdsum-v3"
 	install -d "$(PAGES)/man1"
 	$(call filled,crates/ripemd_sum/ripemd_sum.1,$(PAGES)/man1/ripemd_sum.1)
 	$(call filled,crates/rmdsum/rmdsum.1,$(PAGES)/man1/rmdsum.1)
-	ln -sf rmdsum.1 "$(PAGES)/man1/rmdsum-v3.1"
 
 install-library: prefix
 	@[ -e $(BUILT)/libnattizhu.so.0 ] || { echo 'make: there is no libnattizhu.so: it needs a C compiler' \
@@ -150,9 +148,8 @@ install-python: prefix
 
 uninstall: prefix
 	rm -f "$(DESTDIR)$(MODULESDIR)/nattizhu.so"
-	! cd "$(AT)" 2>/dev/null || rm -rf bin/ripemd_sum bin/rmdsum bin/rmdsum-v3 include/nattizhu.h share/nattizhu/openssl.cnf \
-	  share/bash-completion/completions/rmdsum share/bash-completion/completions/rmdsum-v3 \
-	  share/man/man1/ripemd_sum.1 share/man/man1/rmdsum.1 share/man/man1/rmdsum-v3.1 share/man/man3/nattizhu*.3 \
+	! cd "$(AT)" 2>/dev/null || rm -rf bin/ripemd_sum bin/rmdsum include/nattizhu.h share/nattizhu/openssl.cnf \
+	  share/bash-completion/completions/rmdsum share/man/man1/ripemd_sum.1 share/man/man1/rmdsum.1 share/man/man3/nattizhu*.3 \
 	  $(addprefix $(LIBDIR)/,libnattizhu.a libnattizhu_v3.a libnattizhu.so libnattizhu.so.0 pkgconfig/nattizhu.pc \
 	    $(HWCAPS)/libnattizhu.so.0) \
 	  lib/python3.*/site-packages/nattizhu lib/python3.*/site-packages/nattizhu-*.dist-info

@@ -13,7 +13,7 @@ ROOT = pathlib.Path(__file__).resolve().parent.parent
 DATA = ROOT / "tests/data"
 BUILT = ROOT / "crates/ripemd_c/out"
 PROGRAM = ROOT / "crates/ripemd_sum/out/x86-64/ripemd_sum"
-FILES_PROGRAM = ROOT / "crates/rmdsum/out/x86-64/rmdsum"
+FILES_PROGRAM = ROOT / "crates/rmdsum/out/rmdsum"
 SECRETS = ROOT / "tests/secrets"
 
 # The target for ARM64, and Debian's C compiler for it.
@@ -182,8 +182,8 @@ def program(once):
 
 @pytest.fixture(scope="session")
 def rmdsum(once):
-    """The program rmdsum, which build/crate makes as `make` does, for each x86-64 and for x86-64-v3."""
-    once("rmdsum", lambda _: run("build/crate", "rmdsum", "x86-64", "x86-64-v3"))
+    """The program rmdsum, as `make` makes it."""
+    once("rmdsum", lambda _: (run("build/crate", "rmdsum", "x86-64", "x86-64-v3"), run("build/program", FILES_PROGRAM)))
     return FILES_PROGRAM
 
 

@@ -26,9 +26,8 @@ def test_completion(prefix, words, options):
     """What bash completes behind the name of the program."""
     script = f"""compopt() {{ :; }}; . "$0"
       COMP_WORDS=(rmdsum {words}) COMP_CWORD=$((${{#COMP_WORDS[@]}} - 1)); _rmdsum; printf '%s\\n' "${{COMPREPLY[@]}}" """
-    for name in ("rmdsum", "rmdsum-v3"):
-        ended = run("bash", "-c", script, prefix / "share/bash-completion/completions" / name)
-        assert ended.stdout.split() == options
+    ended = run("bash", "-c", script, prefix / "share/bash-completion/completions/rmdsum")
+    assert ended.stdout.split() == options
 
 
 def by_pkg_config(prefix, source):
@@ -85,8 +84,9 @@ def test_program_by_processor(prefix, processor):
     need("qemu-x86_64", "qemu-user")
     emulator = ["qemu-x86_64", "-cpu", processor]
     assert run(*emulator, prefix / "bin/ripemd_sum", input="abc").stdout == ABC + "\n"
-    for name in ["rmdsum", "rmdsum-v3"] if PROCESSORS[processor] else ["rmdsum"]:
-        assert run(*emulator, prefix / f"bin/{name}", input="abc").stdout == ABC + "  -\n"
+    ended = run(*emulator, "-d", "in_asm", prefix / "bin/rmdsum", input="abc")
+    assert ended.stdout == ABC + "  -\n"
+    assert ("main_x86_64_v3" in ended.stderr) == bool(PROCESSORS[processor])
 
 
 def test_exported_names(prefix):
