@@ -7,6 +7,7 @@ import itertools
 import os
 import random
 import re
+import select
 import shutil
 import signal
 import subprocess
@@ -21,6 +22,7 @@ VARIANTS = ["128", "160", "256", "320"]
 # The lengths of the contents of files, whose digests by RIPEMD other implementations gave.
 LENGTHS = [*range(201), 4095, 4096, 4097, 8192, 12288]
 
+UTF8 = {"LC_ALL": "C.UTF-8"}
 UNWRITABLE = re.compile(rb": write error(: [A-Z][a-z ]*)?\n")
 
 
@@ -73,9 +75,9 @@ def ended(program, words, room, **options):
     """A run of a program, which is called rmdsum whatever it is."""
     if "input" not in options:
         options.setdefault("stdin", subprocess.DEVNULL)
-    options = {"stdout": subprocess.PIPE, "stderr": subprocess.PIPE} | options
+    options = {"stdout": subprocess.PIPE, "stderr": subprocess.PIPE, "env": UTF8} | options
     done = subprocess.run([b"rmdsum", *map(os.fsencode, words)], executable=program, cwd=room, check=False,
-                          env={"LC_ALL": "C.UTF-8"}, timeout=60, **options)
+                          timeout=60, **options)
     return Ended(done.returncode, done.stdout, done.stderr)
 
 
@@ -722,12 +724,19 @@ def test_help_that_cannot_be_written(stocked, words):
     assert found.status == 1 and UNWRITABLE.fullmatch(found.error.removeprefix(b"rmdsum"))
 
 
-def test_output_whose_reader_has_gone(stocked):
+@pytest.mark.parametrize("words, output", [
+    (["a"], "stdout"), (["-z", "a", "missing"], "stdout"), (["-c", "list"], "stdout"), (["--help"], "stdout"),
+    (["missing", "a"], "stderr"), (["-c", "list-each"], "stderr"), (["-c", "-w", "list-no"], "stderr"),
+    (["-c", "no-list", "list"], "stderr"), (["-x"], "stderr")], ids=str)
+def test_output_whose_reader_has_gone(stocked, words, output):
+    """Where SIGPIPE ends sha256sum, rmdsum ends with the status that a shell shows then, and says nothing more."""
     reader, writer = os.pipe()
     os.close(reader)
-    with os.fdopen(writer, "wb") as output:
-        found = ended(stocked.program, ["a"], stocked.sides[1][1], stdout=output)
-    assert found.status == -signal.SIGPIPE or found.status == 1 and UNWRITABLE.search(found.error)
+    with os.fdopen(writer, "wb") as closed:
+        wanted, found = stocked.run(words, **{output: closed})
+    assert wanted.status == -signal.SIGPIPE
+    wanted.status = 128 + signal.SIGPIPE
+    assert wanted == found
 
 
 @pytest.mark.parametrize("words", [
@@ -796,6 +805,141 @@ def test_fifo(stocked):
         wanted, found = results
         wanted.out = exchanged(wanted.out, stocked.hash)
         assert wanted == found
+
+
+class Talk:
+    """A program that runs, what it is given, and what it has printed."""
+
+    def __init__(self, program, words, room, stdin=subprocess.PIPE):
+        self.running = subprocess.Popen([b"rmdsum", *map(os.fsencode, words)], executable=program, cwd=room,
+                                        stdin=stdin, stdout=subprocess.PIPE, env=UTF8)
+        self.room = room
+
+    def give(self, text):
+        os.write(self.running.stdin.fileno(), text)
+
+    def feed(self, name, text):
+        (self.room / name).write_bytes(text)
+
+    def printed(self, count, end=b"\n"):
+        """Waits until so many lines are printed."""
+        text = b""
+        while text.count(end) < count:
+            assert select.select([self.running.stdout], [], [], 10)[0], f"after {text} comes nothing"
+            text += os.read(self.running.stdout.fileno(), 1000)
+        return text
+
+    def ended(self):
+        """Waits for the end, at which nothing more is printed."""
+        assert self.running.communicate(timeout=10)[0] == b""
+        return self.running.returncode
+
+
+def talks(rooms, words, how, alone=False, **options):
+    """What sha256sum would print of RIPEMD, each time that something is given, and what rmdsum does print; with
+    `alone` only this."""
+    results = []
+    for hash_, room, program in rooms.sides[alone:]:
+        talk = Talk(program, [*hash_.options, *words], room, **options)
+        try:
+            results.append([exchanged(text, rooms.hash) for text in how(talk, hash_)])
+            assert talk.ended() == 0
+        finally:
+            talk.running.kill()
+            talk.running.communicate()
+    return results
+
+
+@pytest.fixture(name="piped")
+def fixture_piped(stocked):
+    for _, room, _ in stocked.sides:
+        os.mkfifo(room / "fifo")
+    stocked.list("list-of-fifo", listed(untagged(b"a", 0), untagged(b"fifo", 64), untagged(b"b", 3)))
+    return stocked
+
+
+@pytest.mark.parametrize("words", [["a", "b", "fifo", "c"], ["-c", "list-of-fifo"]], ids=" ".join)
+def test_no_line_waits_for_a_file_after_it(piped, words):
+    def how(talk, _):
+        yield talk.printed(len(words) - 2 if words[0] == "a" else 1)
+        talk.feed("fifo", BYTES[:64])
+        yield talk.printed(2)
+    wanted, found = talks(piped, words, how)
+    assert wanted == found
+
+
+def test_no_line_that_ends_with_zero_waits(piped):
+    """Those of sha256sum do."""
+    def how(talk, _):
+        yield talk.printed(1, b"\0")
+        talk.feed("fifo", BYTES[:64])
+        yield talk.printed(2, b"\0")
+    [found] = talks(piped, ["-z", "a", "fifo", "b"], how, alone=True)
+    names = [(b"a", 0), (b"fifo", 64), (b"b", 3)]
+    assert b"".join(found) == b"".join(untagged(*name)(piped.hash) + b"\0" for name in names)
+
+
+def test_no_line_waits_for_the_next_of_a_list(stocked):
+    def how(talk, hash_):
+        for text, count in [(listed(untagged(b"a", 0), untagged(b"b", 3)), 2), (listed(untagged(b"c", 64)), 1),
+                            (joined(b"# not a line\n", untagged(b"b", 3)), 0), (constant(b"\n"), 1)]:
+            talk.give(text(hash_))
+            yield talk.printed(count)
+    wanted, found = talks(stocked, ["-c"], how)
+    assert wanted == found
+
+
+def test_no_line_waits_for_the_next_name(stocked):
+    def how(talk, _):
+        for names, count in [(b"a\0b\0c", 2), (b"\0", 1), (b"a\0", 1)]:
+            talk.give(names)
+            yield talk.printed(count)
+    [found] = talks(stocked, ["--files0-from=-"], how, alone=True)
+    names = [(b"a", 0), (b"b", 3), (b"c", 64), (b"a", 0)]
+    assert b"".join(found) == listed(*(untagged(*name) for name in names))(stocked.hash)
+
+
+def test_no_line_waits_for_a_terminal(stocked):
+    """Standard input is read twice: a line and the end, and the end."""
+    keyboard, terminal = os.openpty()
+
+    def how(talk, _):
+        for text in [b"abc\n\4", b"\4"]:
+            os.write(keyboard, text)
+            yield talk.printed(1)
+    wanted, found = talks(stocked, ["-", "-"], how, stdin=terminal)
+    os.close(keyboard)
+    os.close(terminal)
+    # sha256sum's digest of these four bytes is none of those that are known.
+    assert [text.count(b"  -\n") for text in wanted] == [text.count(b"  -\n") for text in found] == [1, 1]
+
+
+@pytest.mark.parametrize("variables", [
+    {}, {"LANG": "C.UTF-8"}, {"LANG": "C"}, {"LC_ALL": "C", "LANG": "C.UTF-8"}, {"LC_ALL": "", "LC_CTYPE": "C.utf8"},
+    {"LC_ALL": "C.UTF-8", "LC_CTYPE": "C"}, {"LC_CTYPE": "POSIX", "LANG": "C.UTF-8"}, {"LC_MESSAGES": "C.UTF-8"}],
+    ids=str)
+def test_names_by_locale(stocked, variables):
+    words = ["missing é", "é it's", "é:", "\x7fé", b"\xc3", "é", "no é", "漢字"]
+    stocked.same(words, env=variables)
+    stocked.same(["-c", *words], env=variables)
+
+
+@pytest.mark.parametrize("words", [["a", "-b"], ["a", "--", "b"], ["-b", "a", "--tag"], ["--", "-b"], ["--x", "a"]],
+                         ids=" ".join)
+def test_operands_last(stocked, words):
+    for value in "", "1":
+        stocked.same(words, env=UTF8 | {"POSIXLY_CORRECT": value})
+
+
+def test_own_name(stocked):
+    """The name by which it is called stands in messages and in the help."""
+    for words, text in [(["missing"], b"%s: missing: No such file or directory\n"),
+                        (["-x"], b"%s: invalid option -- 'x'\nTry '%s --help' for more information.\n"),
+                        (["--help"], b"Usage: %s [OPTION]... [FILE]...\n")]:
+        for name in b"md", b"/bin/a name":
+            done = subprocess.run([name, *words], executable=stocked.program, cwd=stocked.sides[1][1], env=UTF8,
+                                  stdout=subprocess.PIPE, stderr=subprocess.STDOUT, check=False, timeout=60)
+            assert done.stdout.startswith(text.replace(b"%s", name))
 
 
 def test_file_that_shrinks(tmp_path, rmdsum):

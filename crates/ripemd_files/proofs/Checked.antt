@@ -1,15 +1,15 @@
 -- What a check finds of the files of some lines.
-use Rattle.std.proofs.Common.{rules, ◌≡◌, ℕ, ◌+◌, ◌<◌, List, [], ◌∷◌, ◌++◌, map, flat_map, length, take, get_or, Option, Bool, true, false, All, refl, subst, sym, ap, arith, suc, append_assoc}
+use Rattle.std.proofs.Common.{rules, ◌≡◌, ◌≢◌, ℕ, zero, suc, ◌+◌, ◌<◌, ◌≤◌, ◌-◌, List, [], ◌∷◌, ◌++◌, flat_map, length, take, drop, get_or, Option, None, Some, Bool, true, false, refl, subst, sym, ap, ◌∙◌, arith, append_assoc}
 use Rattle.std.specs.List.{AllZip}
 use Rattle.ripemd.specs.Standard.Hashing.{ripemd}
 use Rattle.ripemd_files.specs.declared.line.Line.{Line}
 use Rattle.ripemd_files.specs.declared.line.Variant.{Variant}
 use Rattle.ripemd_files.specs.declared.outcome.Outcome.{Outcome}
-use Rattle.ripemd_files.specs.Readings.{Place, ComesTo, parameters_of}
+use Rattle.ripemd_files.specs.Readings.{OfFirst, Place, ComesTo, parameters_of}
 use Rattle.ripemd_files.specs.declared.verdict.Verdict.{Verdict}
 use Rattle.ripemd_files.specs.declared.verdict.Options.{Options}
 use Rattle.ripemd_files.specs.declared.verdict.Tally.{Tally}
-use Rattle.ripemd_files.specs.Said.{Remark, Wrote, about_list}
+use Rattle.ripemd_files.specs.Said.{Adds, Remark, Wrote, about_list}
 use Rattle.ripemd_files.specs.declared.line.Layout.{Layout}
 use Rattle.ripemd_files.specs.declared.list.Rules.{Rules}
 use Rattle.ripemd_files.specs.declared.list.Cursor.{Cursor}
@@ -23,25 +23,27 @@ use Rattle.std.specs.Io.KnownBytes.{Consumes}
 use Rattle.ripemd_files.proofs.Cutting.{ended_since}
 use Rattle.ripemd_files.specs.Groups.{ChecksGroup, ChecksMisformatted, ChecksSoFar, EndsAs, ReadsGroup, ReportsFrom, goes_on, misformatted_events}
 use Rattle.std.proofs.KnownBytes.{Consumes-nil, Consumes-trans}
-use Rattle.ripemd_files.specs.Checking.{ChecksLines, Event, closing_remarks, is_success, IsOutcomeOf, IsTally, checked, line_of_event, remarks_on_event, verdict_of}
-use Rattle.ripemd_files.proofs.Zips.{all_zip_at, all_zip_next}
+use Rattle.ripemd_files.specs.Checking.{ChecksLines, Event, closing_remarks, is_success, IsNamed, IsOutcomeOf, IsTally, checked, line_of_event, remarks_on_event, verdict_of}
+use Rattle.ripemd_files.proofs.Zips.{all_zip_append, all_zip_at, all_zip_next, first_of}
 use Rattle.std.proofs.lemmas.Slice.Zip.{AllZip-long}
-use Rattle.ripemd_files.proofs.Printed.{wrote_none, wrote_more}
-use Rattle.std.proofs.lemmas.List.{append-nil}
+use Rattle.std.proofs.Math.Seq.{take-add}
+use Rattle.ripemd_files.proofs.Printed.{wrote_none, wrote_more, wrote_said}
+use Rattle.std.proofs.lemmas.List.{append-nil, length-take-le}
 use Rattle.std.proofs.lemmas.Grind.{flat_map-append}
 
--- where all lines name one hash
-pub outcomes_of_one : {File : Type 0} (place : Place File) (variant : Variant) (lines : List Line) (outcomes : List Outcome)
-    → All (λ (line : Line). line.variant ≡ variant) lines
-    → AllZip (ComesTo place (ripemd (parameters_of variant))) (map (λ (line : Line). line.name.items) lines) outcomes
-    → AllZip (IsOutcomeOf place) lines outcomes
-outcomes_of_one place variant [] [] one zipped = tt
-outcomes_of_one place variant [] (o ∷ outcomes) one zipped = absurd zipped
-outcomes_of_one place variant (line ∷ lines) [] one zipped = absurd zipped
-outcomes_of_one place variant (line ∷ lines) (o ∷ outcomes) one zipped = (
-  rw (one 0 line (omega arith)) zipped.0,
-  outcomes_of_one place variant lines outcomes (λ k d within. one (suc k) d (omega (arith, within))) zipped.1,
-)
+-- the outcome of the file of a line, by its hash and name
+pub outcome_of_named : {File : Type 0} (place : Place File) (variant : Variant) (line : Line) (name : List ℕ) (outcome : Outcome)
+    → IsNamed variant line name → ComesTo place (ripemd (parameters_of variant)) name outcome → IsOutcomeOf place line outcome
+outcome_of_named place variant line name outcome named comes = rw named.0 (rw named.1 at comes)
+
+-- the first line of another hash ends them, and is not the first of all
+pub named_till : (variant : Variant) (lines : List Line) (names : List (List ℕ)) (i : ℕ) (line : Line) → i < length lines
+    → get_or lines i line ≡ line → ((first : Line) → 0 < length lines → get_or lines 0 first ≡ first → first.variant ≡ variant)
+    → line.variant ≢ variant → AllZip (IsNamed variant) (take i lines) names → OfFirst (IsNamed variant) lines names
+named_till variant lines names zero line within is first other named = absurd (other (first line within is))
+named_till variant lines names (suc i) line within is first other named =
+    first_of _ (suc i) lines names (omega (arith, within)) named
+    (λ _. omega (arith, AllZip-long _ _ _ named, length-take-le (suc i) lines (omega (arith, within))))
 
 -- no line
 pub checks_none : {File : Type 0} (place : Place File) (options : Options) (old : Option (List ℕ)) (before : Option (List Remark)) (tally : Tally)
@@ -80,14 +82,40 @@ module _ {File : Type 0} (place : Place File) (options : Options) (lines : List 
         counts = λ earlier counted. rw (← append_assoc) (counts (earlier ++ before.events) line.name.items (before.counts earlier counted));
       }
 
+-- lines, and then others
+pub checks_more : {File : Type 0} (place : Place File) (options : Options) (lines others : List Line) (a b c : Option (List ℕ))
+    (u v w : Option (List Remark)) (first now next : Tally) → ChecksLines place options lines a b u v first now
+    → ChecksLines place options others b c v w now next → ChecksLines place options (lines ++ others) a c u w first next
+checks_more place options lines others a b c u v w first now next before behind = record {
+  events = before.events ++ behind.events;
+  each = all_zip_append _ _ _ _ _ before.each behind.each;
+  wrote = rw flat_map-append (rw flat_map-append (wrote_more a b c u v w _ _ _ _ before.wrote behind.wrote));
+  counts = λ earlier counted. rw (← append_assoc) (behind.counts (earlier ++ before.events) (before.counts earlier counted));
+}
+
+-- the lines from a place on, behind those before it
+pub checks_lines_on : {File : Type 0} (place : Place File) (options : Options) (lines : List Line) (start end : ℕ) (a b c : Option (List ℕ))
+    (u v w : Option (List Remark)) (first now next : Tally) → start ≤ end → ChecksLines place options (take start lines) a b u v first now
+    → ChecksLines place options (take (end - start) (drop start lines)) b c v w now next
+    → ChecksLines place options (take end lines) a c u w first next
+checks_lines_on place options lines start end a b c u v w first now next le before behind =
+    subst (λ l. ChecksLines place options l a c u w first next)
+    (sym (take-add start (end - start) lines) ∙ ap (λ n. take n lines) (omega arith))
+    (checks_more place options _ _ a b c u v w first now next before behind)
+
+-- a line that says nothing is not written
+not_written : (options : Options) (bad : Option ℕ) → flat_map (line_of_event options) (misformatted_events bad) ≡ []
+not_written options None = refl
+not_written options (Some number) = refl
+
 -- a group: its lines, and the one behind them
-pub checks_group : {File : Type 0} (place : Place File) (options : Options) (group : Group) (a b c : Option (List ℕ))
+pub checks_group : {File : Type 0} (place : Place File) (options : Options) (group : Group) (a b : Option (List ℕ))
     (u v w : Option (List Remark)) (first now next : Tally) → ChecksLines place options group.lines.items a b u v first now
-    → ChecksMisformatted options group.misformatted b c v w now next → ChecksGroup place options group a c u w first next
-checks_group place options group a b c u v w first now next lines bad = record {
+    → ChecksMisformatted options group.misformatted v w now next → ChecksGroup place options group a b u w first next
+checks_group place options group a b u v w first now next lines bad = record {
   events = lines.events;
   each = lines.each;
-  wrote = rw flat_map-append (rw flat_map-append (wrote_more a b c u v w _ _ _ _ lines.wrote bad.wrote));
+  wrote = rw (flat_map-append, flat_map-append, not_written options group.misformatted, append-nil) (wrote_said a b u v w _ _ _ lines.wrote bad.said);
   counts = λ earlier counted. rw (← append_assoc) (bad.counts (earlier ++ lines.events) (lines.counts earlier counted));
 }
 
@@ -148,22 +176,21 @@ module _ {File : Type 0} (place : Place File) (options : Options) (kinds : Rules
     told = λ behind more last report. told_all behind more last (λ never. absurd (search (rules, rw on at never))) report;
   }
 
-  module _ (begins : first.number ≡ 1) (ends : IsFalse (goes_on group.next)) (d : Option (List ℕ)) (x : Option (List Remark)) where
+  module _ (begins : first.number ≡ 1) (ends : IsFalse (goes_on group.next)) (x : Option (List Remark)) where
     reported_all : Reports place options.ignore_missing kinds first.layout 1 (lines_of (so_far.bytes ++ reads.reads.bytes)) (so_far.events ++ found) after.layout
     unfolding lines_of
     reported_all =
         rw (begins, append-nil, append-nil) at (told_all [] [] after.layout (λ _. refl) (refl, refl))
 
-    closed : (last : List Remark) → Wrote c d w x [] last
-        → Wrote a d u x (flat_map (line_of_event options) (so_far.events ++ found))
+    closed : (last : List Remark) → Adds w x last
+        → Wrote a c u x (flat_map (line_of_event options) (so_far.events ++ found))
         (flat_map (remarks_on_event options) (so_far.events ++ found) ++ last)
-    closed last wrote =
-        rw append-nil at (wrote_more a c d u w x _ _ _ _ wrote_all wrote)
+    closed last said = wrote_said a c u w x _ _ _ wrote_all said
 
     -- the list has ended
-    pub checks_ended : (success : Bool) → group.next ≡ nexts.Ended → Wrote c d w x [] (closing_remarks options counted)
-        → success ≡ is_success options counted → ChecksList place options kinds first.layout after.layout old next a d u x success
-    checks_ended success ended wrote answer = record {
+    pub checks_ended : (success : Bool) → group.next ≡ nexts.Ended → Adds w x (closing_remarks options counted)
+        → success ≡ is_success options counted → ChecksList place options kinds first.layout after.layout old next a c u x success
+    checks_ended success ended said answer = record {
       whole = true;
       bytes = so_far.bytes ++ reads.reads.bytes;
       events = so_far.events ++ found;
@@ -173,14 +200,14 @@ module _ {File : Type 0} (place : Place File) (options : Options) (kinds : Rules
           (whole none, ended_since old read next so_far.bytes so_far.consumed at_end);
       reports = reported_all;
       counts = counted_all;
-      wrote = closed _ wrote;
+      wrote = closed _ said;
       answer = answer;
     }
 
     -- a read of the list failed
-    pub checks_failed : Wrote c d w x [] (about_list complaints.Unreadable ∷ [])
-        → ChecksList place options kinds first.layout after.layout old next a d u x false
-    checks_failed wrote = record {
+    pub checks_failed : Adds w x (about_list complaints.Unreadable ∷ [])
+        → ChecksList place options kinds first.layout after.layout old next a c u x false
+    checks_failed said = record {
       whole = false;
       bytes = so_far.bytes ++ reads.reads.bytes;
       events = so_far.events ++ found;
@@ -188,6 +215,6 @@ module _ {File : Type 0} (place : Place File) (options : Options) (kinds : Rules
       read = (reads.rest, consumed_all);
       reports = reported_all;
       counts = counted_all;
-      wrote = closed _ wrote;
+      wrote = closed _ said;
       answer = refl;
     }

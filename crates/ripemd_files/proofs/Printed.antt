@@ -1,6 +1,6 @@
 -- What is printed of files, one after another.
-use Rattle.std.proofs.Common.{◌≡◌, ℕ, List, [], ◌∷◌, ◌++◌, map, Option, Some, None, Bool, true, ◌&&◌, refl, sym, ap, ◌∙◌, rules, append_assoc, arith, length, take, get_or, subst, ◌+◌, ◌-◌, ◌<◌, ◌≤◌, drop}
-use Rattle.std.proofs.lemmas.List.{map-append, append-nil, length-map, get_or-map, take_more}
+use Rattle.std.proofs.Common.{◌≡◌, ℕ, List, [], ◌∷◌, ◌++◌, map, Option, Some, None, Bool, true, ◌&&◌, refl, sym, ap, ◌∙◌, rules, append_assoc, arith, length, take, get_or, subst, ◌+◌, ◌-◌, ◌<◌, ◌≤◌, drop, Bor}
+use Rattle.std.proofs.lemmas.List.{map-append, append-nil, length-drop, length-map, length-take, get_or-map, take-map, take-take, take_more}
 use Rattle.std.proofs.lemmas.List.Elements.{All-append, All-cons}
 use Rattle.std.proofs.lemmas.List.Folds.{list_all-append}
 use Rattle.std.proofs.lemmas.Grind.{flat_map-append}
@@ -9,9 +9,10 @@ use Rattle.std.proofs.Math.Seq.{take-add}
 use Rattle.std.proofs.KnownBytes.{Appends-nil, Appends-trans}
 use Rattle.std.specs.List.{list_all, AllZip}
 use Rattle.ripemd.specs.Standard.Hashing.{ripemd}
+use Rattle.ripemd_batch.specs.Lanes.{targets}
 use Rattle.ripemd_files.specs.declared.printing.Style.{Style}
 use Rattle.ripemd_files.specs.declared.outcome.Outcome.{Outcome}
-use Rattle.ripemd_files.specs.Readings.{Place, ComesTo, parameters_of}
+use Rattle.ripemd_files.specs.Readings.{ComesTo, OfFirst, Place, parameters_of}
 use Rattle.ripemd_files.specs.Said.{Adds, Remark, Wrote}
 use Rattle.ripemd_files.proofs.Zips.{all_zip_at}
 use Rattle.std.proofs.lemmas.Slice.Zip.{AllZip-long}
@@ -38,6 +39,12 @@ wrote_more a b c u v w text more remarks others first second = record {
   written = Appends-trans a b c text more first.written second.written;
   said = adds_more u v w remarks others first.said second.said;
 }
+
+-- more is said
+pub wrote_said : (a b : Option (List ℕ)) (u v w : Option (List Remark)) (text : List ℕ) (remarks others : List Remark)
+    → Wrote a b u v text remarks → Adds v w others → Wrote a b u w text (remarks ++ others)
+wrote_said a b u v w text remarks others first second =
+    record { written = first.written; said = adds_more u v w remarks others first.said second }
 
 -- no file
 pub prints_none : {File : Type 0} (place : Place File) (style : Style) (old : Option (List ℕ)) (before : Option (List Remark))
@@ -108,3 +115,17 @@ prints_on place style view names start end a b c u v w all more le first second 
     subst (λ l. PrintsAll place style l a c u w (all && more))
     (sym (map-append view (take start names) (take (end - start) (drop start names))) ∙ ap (map view) (sym (take-add start (end - start) names) ∙ ap (λ n. take n names) (omega arith)))
     (prints_more place style _ _ a b c u v w all more first second)
+
+-- the first of the files from a place on
+pub first_from : (R : List ℕ → Outcome → Type 0) (names : List (Bor (List ℕ))) (outcomes : List Outcome) (start count : ℕ)
+    → start ≤ length names → count ≡ length outcomes → OfFirst R (targets (take (length names - start) (drop start names))) outcomes
+    → (start + count ≤ length names) × AllZip R (targets (take (start + count - start) (drop start names))) outcomes
+first_from R names outcomes start count le counted first =
+    let within : count ≤ length names - start = omega (arith, counted, rw (length-map, length-take, length-drop) at first.within) in (
+      omega (arith, within, le),
+      subst (λ l. AllZip R l outcomes)
+          (ap (λ n. take n (targets (take (length names - start) (drop start names)))) (sym counted)
+          ∙ take-map (λ r. r.now) count _
+          ∙ ap targets (take-take count (length names - start) (drop start names) within ∙ ap (λ n. take n (drop start names)) (omega arith)))
+          first.each,
+    )

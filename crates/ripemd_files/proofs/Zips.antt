@@ -1,8 +1,9 @@
 -- Two lists whose items belong together.
-use Rattle.std.proofs.Common.{◌≡◌, ℕ, ◌+◌, ◌<◌, List, [], ◌∷◌, ◌++◌, length, take, get_or, map, sym, ap, ◌∙◌, arith, refl, zero, suc}
-use Rattle.std.proofs.lemmas.List.{take_more, length-map, get_or-map}
-use Rattle.std.proofs.lemmas.Slice.Zip.{all_zipped_more}
+use Rattle.std.proofs.Common.{◌≡◌, ℕ, ◌+◌, ◌<◌, ◌≤◌, List, [], ◌∷◌, ◌++◌, length, take, get_or, map, sym, ap, ◌∙◌, arith, refl, zero, suc}
+use Rattle.std.proofs.lemmas.List.{take_more, length-map, get_or-map, length-take-le, take-take, take_all}
+use Rattle.std.proofs.lemmas.Slice.Zip.{AllZip-long, all_zipped_more}
 use Rattle.std.specs.List.{AllZip}
+use Rattle.ripemd_files.specs.Readings.{OfFirst}
 
 -- the item of the first list at the next place
 pub all_zip_next : {A B : Type 0} (R : A → B → Type 0) (xs : List A) (ys : List B) (i : ℕ) (x : A) (y : B) → i < length xs
@@ -60,3 +61,39 @@ all_zip_last R (a ∷ xs) x [] zipped = absurd zipped
 all_zip_last R (a ∷ xs) x (z ∷ zs) zipped =
     let (ys, y, same, before, both) = all_zip_last R xs x zs zipped.1 in
     (z ∷ ys, y, ap (λ l. z ∷ l) same, (zipped.0, before), both)
+
+-- what belongs to the first items
+pub first_of : {A B : Type 0} (R : A → B → Type 0) (i : ℕ) (xs : List A) (ys : List B) → i ≤ length xs → AllZip R (take i xs) ys
+    → (0 < length xs → 0 < length ys) → OfFirst R xs ys
+first_of R i xs ys within zipped some =
+    let long : length ys ≡ i = AllZip-long _ _ _ zipped ∙ length-take-le i xs within in
+    record { some = some; within = omega (arith, long); each = rw long zipped }
+
+pub all_zip_append : {A B : Type 0} (R : A → B → Type 0) (xs others : List A) (ys more : List B) → AllZip R xs ys → AllZip R others more
+    → AllZip R (xs ++ others) (ys ++ more)
+all_zip_append R [] others [] more first second = second
+all_zip_append R [] others (y ∷ ys) more first second = absurd first
+all_zip_append R (x ∷ xs) others [] more first second = absurd first
+all_zip_append R (x ∷ xs) others (y ∷ ys) more first second = (first.0, all_zip_append R xs others ys more first.1 second)
+
+all_zip_take : {A B : Type 0} (R : A → B → Type 0) (n : ℕ) (xs : List A) (ys : List B) → AllZip R xs ys → AllZip R (take n xs) (take n ys)
+all_zip_take R zero xs ys zipped = tt
+all_zip_take R (suc n) [] [] zipped = tt
+all_zip_take R (suc n) [] (y ∷ ys) zipped = absurd zipped
+all_zip_take R (suc n) (x ∷ xs) [] zipped = absurd zipped
+all_zip_take R (suc n) (x ∷ xs) (y ∷ ys) zipped = (zipped.0, all_zip_take R n xs ys zipped.1)
+
+-- what belongs to the first of the items between them
+pub first_through : {A B C : Type 0} (R : A → B → Type 0) (S : B → C → Type 0) (T : A → C → Type 0) (xs : List A) (ys : List B) (zs : List C)
+    → ((x : A) (y : B) (z : C) → R x y → S y z → T x z) → OfFirst R xs ys → OfFirst S ys zs → OfFirst T xs zs
+first_through R S T xs ys zs joined first second = record {
+  some = λ filled. second.some (first.some filled);
+  within = omega (arith, first.within, second.within);
+  each = all_zip_through R S T _ _ zs joined
+      (rw (take-take (length zs) (length ys) xs (omega (arith, second.within))) at (all_zip_take R (length zs) _ ys first.each)) second.each;
+}
+
+-- all are the first
+pub all_first : {A B : Type 0} (R : A → B → Type 0) (xs : List A) (ys : List B) → AllZip R xs ys → OfFirst R xs ys
+all_first R xs ys zipped = first_of R (length xs) xs ys (omega arith) (rw (take_all (length xs) xs (omega arith)) zipped)
+    (λ filled. omega (arith, filled, AllZip-long _ _ _ zipped))

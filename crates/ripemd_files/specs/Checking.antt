@@ -8,6 +8,7 @@ use Rattle.std.specs.declared.io.ErrorKind.{ErrorKind}
 use Rattle.std.specs.declared.io.ErrorKind.TheVariants.{NotFound}
 use Rattle.ripemd.specs.Standard.Hashing.{ripemd}
 use Rattle.ripemd_files.specs.declared.line.Line.{Line}
+use Rattle.ripemd_files.specs.declared.line.Variant.{Variant}
 use Rattle.ripemd_files.specs.declared.outcome.Outcome.{Outcome}
 use Rattle.ripemd_files.specs.declared.outcome.Outcome.TheVariants.{Digest, Refused, Broken}
 use Rattle.ripemd_files.specs.declared.log.Complaint.{Complaint}
@@ -138,6 +139,10 @@ is_success options tally =
 -- reading the file that a line names comes to this
 abbrev pub IsOutcomeOf : {File : Type 0} → Place File → Line → Outcome → Type 0
 IsOutcomeOf place line outcome = ComesTo place (ripemd (parameters_of line.variant)) line.name.items outcome
+
+-- a line has this hash and this name
+abbrev pub IsNamed : Variant → Line → List ℕ → Type 0
+IsNamed variant line name = (line.variant ≡ variant) × (name ≡ line.name.items)
 
 -- what came of the file that a line names is this event
 abbrev pub IsEventOf : {File : Type 0} → Place File → Bool → Line → Event → Type 0

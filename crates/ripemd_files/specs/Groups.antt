@@ -14,7 +14,7 @@ use Rattle.ripemd_files.specs.Splitting.{lines_of, IsEnded}
 use Rattle.ripemd_files.specs.Readings.{Place}
 use Rattle.ripemd_files.specs.declared.verdict.Options.{Options}
 use Rattle.ripemd_files.specs.declared.verdict.Tally.{Tally}
-use Rattle.ripemd_files.specs.Said.{Remark, Wrote}
+use Rattle.ripemd_files.specs.Said.{Adds, Remark, Wrote}
 use Rattle.ripemd_files.specs.Checking.{Event, IsEventOf, IsTally, line_of_event, misformatted, remarks_on_event}
 use Rattle.ripemd_files.specs.Lists.{IsTaken, Reports}
 
@@ -82,11 +82,9 @@ pub record ChecksGroup {File : Type 0} (place : Place File) (options : Options) 
       (flat_map (remarks_on_event options) (events ++ misformatted_events group.misformatted))
   pub counts : (earlier : List Event) → IsTally earlier tally → IsTally (earlier ++ (events ++ misformatted_events group.misformatted)) next
 
--- the same of a line that says nothing that can be read, if there is one
-pub record ChecksMisformatted (options : Options) (bad : Option ℕ) (old new : Option (List ℕ)) (before after : Option (List Remark))
-    (tally next : Tally) : Type 0 where
-  pub wrote : Wrote old new before after (flat_map (line_of_event options) (misformatted_events bad))
-      (flat_map (remarks_on_event options) (misformatted_events bad))
+-- a line that says nothing that can be read, if there is one, was remarked and counted
+pub record ChecksMisformatted (options : Options) (bad : Option ℕ) (before after : Option (List Remark)) (tally next : Tally) : Type 0 where
+  pub said : Adds before after (flat_map (remarks_on_event options) (misformatted_events bad))
   pub counts : (earlier : List Event) → IsTally earlier tally → IsTally (earlier ++ misformatted_events bad) next
 
 -- the same of all lines of a list so far

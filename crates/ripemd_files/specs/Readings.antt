@@ -1,5 +1,6 @@
 -- What reading a file to its end comes to.
-use Rattle.std.specs.Prelude.{◌≡◌, ℕ, ◌^◌, ◌≤◌, ◌⊎◌, List, length, Option, None, ⊤}
+use Rattle.std.specs.Prelude.{◌≡◌, ℕ, ◌^◌, ◌<◌, ◌≤◌, ◌⊎◌, List, length, take, Option, None, ⊤}
+use Rattle.std.specs.List.{AllZip}
 use Rattle.std.specs.Io.KnownBytes.{Consumes, IsAtEnd}
 use Rattle.std.specs.declared.io.Error.{Error}
 use Rattle.ripemd.specs.Standard.Compression.{Parameters, ripemd128, ripemd160, ripemd256, ripemd320}
@@ -51,3 +52,9 @@ abbrev pub ComesTo : {File : Type 0} → Place File → (List ℕ → List ℕ) 
 ComesTo place hash name (Digest digest) = (message : List ℕ) × Gives (place.opens name) place.left message × (digest.items ≡ hash message)
 ComesTo place hash name (Refused error) = place.refuses name error
 ComesTo place hash name (Broken error) = Breaks (place.opens name) place.left place.may_fail
+
+-- these belong, in order, to the first of some items, and to one at least
+pub record OfFirst {A B : Type 0} (R : A → B → Type 0) (items : List A) (found : List B) : Type 0 where
+  pub some : 0 < length items → 0 < length found
+  pub within : length found ≤ length items
+  pub each : AllZip R (take (length found) items) found

@@ -1,28 +1,27 @@
 //! The check of a list.
 
-ghost use Rattle.std.specs.Prelude.{◌≡◌, ◌&&◌, not, ◌<◌, ◌++◌, [], length, map, All, IfOk, IfSome, OnOk};
+ghost use Rattle.std.specs.Prelude.{◌≡◌, ◌&&◌, not, ◌<◌, ◌++◌, [], ◌∷◌, get_or, length, IfOk, OnOk};
 ghost use Rattle.std.specs.Io.KnownBytes.{Appends};
 ghost use Rattle.std.specs.List.{AllZip};
-ghost use Rattle.ripemd.specs.Standard.Hashing.{ripemd};
 ghost use Rattle.ripemd_batch.specs.Lanes.{targets};
-ghost use Rattle.ripemd_files.specs.Readings.{ComesTo, parameters_of};
-ghost use Rattle.ripemd_files.specs.Said.{Wrote};
+ghost use Rattle.ripemd_files.specs.Readings.{OfFirst};
+ghost use Rattle.ripemd_files.specs.Said.{Adds, Wrote, about_list};
 ghost use Rattle.ripemd_files.specs.Lists.{ChecksList};
 ghost use Rattle.ripemd_files.specs.Groups.{ChecksGroup, ChecksMisformatted};
-ghost use Rattle.ripemd_files.specs.Checking.{ChecksLines, IsOutcomeOf, checked, closing_remarks, count_remarks, has_lines, is_success, remark_where, line_of_event, remarks_on_event, report_of, shown};
+ghost use Rattle.ripemd_files.specs.Checking.{ChecksLines, IsNamed, IsOutcomeOf, checked, closing_remarks, count_remarks, has_lines, is_success, remark_where, line_of_event, remarks_on_event, report_of, shown};
 
-use crate::digests::{read_digest, read_digests};
+use crate::digests::read_digests;
 use crate::fault::Fault;
 use crate::folder::Folder;
 use crate::line::{Layout, Line, Variant};
-use crate::list::{Cursor, Group, Next, Rules, read_group};
+use crate::list::{Cursor, Group, Next, ReadList, Rules, read_group};
 use crate::log::{Complaint, Log};
 use crate::outcome::Outcome;
-use crate::printing::{BUFFER, new_buffer, put, remark, remark_unreadable};
+use crate::printing::{BUFFER, new_buffer, put};
 use crate::verdict::{Options, Tally, Verdict};
 use crate::writing::push_text;
 use std::alloc::{AllocError, Global};
-use std::io::{BufRead, Write};
+use std::io::Write;
 
 /// Checks a list: reads it to its end, and the files that its lines name; writes a line for each of these, and
 /// remarks on those that can't be read, on lines that say nothing, and on what was counted. Whether the check
@@ -32,10 +31,10 @@ use std::io::{BufRead, Write};
 ///
 /// # Errors
 ///
-/// - `Write`: a write or a flush of the lines failed, with this error.
+/// - `Write`: a write or a flush of a line, or a remark, failed with this error.
 /// - `NoMemory`: there is no memory left.
 /// - `TooManyLines`: the list has more than 2^64 - 2 lines.
-pub fn check_list<F: Folder, R: BufRead, W: Write, L: Log>(
+pub fn check_list<F: Folder, R: ReadList, W: Write, L: Log>(
     alloc: Global,
     folder: &F,
     options: Options,
@@ -70,7 +69,7 @@ pub fn check_list<F: Folder, R: BufRead, W: Write, L: Log>(
 }
 
 // The same, group by group.
-fn check_groups<F: Folder, R: BufRead, W: Write, L: Log>(
+fn check_groups<F: Folder, R: ReadList, W: Write, L: Log>(
     alloc: Global,
     folder: &F,
     options: Options,
@@ -94,11 +93,11 @@ fn check_groups<F: Folder, R: BufRead, W: Write, L: Log>(
         match group.next {
             Next::More => {}
             Next::Ended => {
-                let success = close(options, &tally, out, log)?;
+                let success = close(options, &tally, log)?;
                 return Ok(success);
             }
             Next::Failed => {
-                remark(out, log, Complaint::Unreadable)?;
+                remark(log, Complaint::Unreadable)?;
                 return Ok(false);
             }
         }
@@ -130,68 +129,51 @@ fn check_group<F: Folder, W: Write, L: Log>(
         out,
         log,
     )?;
-    check_misformatted(options, group.misformatted, tally, out, log)?;
+    check_misformatted(options, group.misformatted, tally, log)?;
     Ok(())
 }
 
 // Counts a line that says nothing that can be read, if there is one, and remarks on it.
-fn check_misformatted<W: Write, L: Log>(
+fn check_misformatted<L: Log>(
     options: Options,
     misformatted: Option<u64>,
     tally: &mut Tally,
-    out: &mut W,
     log: &mut L,
 ) -> Result<(), Fault>
-    ensures { OnOk result (ChecksMisformatted options misformatted (W.contents out.old) (W.contents out.new)
-        (L.said log.old) (L.said log.new) tally.old tally.new) }
+    ensures { OnOk result (ChecksMisformatted options misformatted (L.said log.old) (L.said log.new) tally.old tally.new) }
 {
     let Some(number) = misformatted else {
         return Ok(());
     };
     tally.add_misformatted();
-    if options.warn {
-        remark(out, log, Complaint::Misformatted(number))?;
-    }
-    Ok(())
+    remark_if(log, options.warn, Complaint::Misformatted(number))
 }
 
 // Remarks on what was counted of a list. Whether its check succeeds.
-fn close<W: Write, L: Log>(
-    options: Options,
-    tally: &Tally,
-    out: &mut W,
-    log: &mut L,
-) -> Result<bool, Fault>
-    ensures wrote { OnOk result (Wrote (W.contents out.old) (W.contents out.new) (L.said log.old) (L.said log.new) []
-        (closing_remarks options tally.now)) }
+fn close<L: Log>(options: Options, tally: &Tally, log: &mut L) -> Result<bool, Fault>
+    ensures said { OnOk result (Adds (L.said log.old) (L.said log.new) (closing_remarks options tally.now)) }
     ensures success { IfOk result (λ success. success ≡ is_success options tally.now) }
 {
     if !tally.checked {
-        remark(out, log, Complaint::NoLines)?;
+        remark(log, Complaint::NoLines)?;
     } else if !options.status {
-        remark_counts(options, tally, out, log)?;
+        remark_counts(options, tally, log)?;
     }
     Ok(tally.is_success(options))
 }
 
 // Remarks on counts that are not 0, and on a list of which no file was verified.
-fn remark_counts<W: Write, L: Log>(
-    options: Options,
-    tally: &Tally,
-    out: &mut W,
-    log: &mut L,
-) -> Result<(), Fault>
-    ensures { OnOk result (Wrote (W.contents out.old) (W.contents out.new) (L.said log.old) (L.said log.new) []
-        (count_remarks options tally.now)) }
+fn remark_counts<L: Log>(options: Options, tally: &Tally, log: &mut L) -> Result<(), Fault>
+    ensures { OnOk result (Adds (L.said log.old) (L.said log.new) (count_remarks options tally.now)) }
 {
     let misformatted = Complaint::MisformattedLines(tally.misformatted);
-    remark_if(out, log, tally.misformatted != 0, misformatted)?;
+    remark_if(log, tally.misformatted != 0, misformatted)?;
     let unreadable = Complaint::UnreadableFiles(tally.unreadable);
-    remark_if(out, log, tally.unreadable != 0, unreadable)?;
+    remark_if(log, tally.unreadable != 0, unreadable)?;
     let differing = Complaint::Mismatches(tally.differing);
-    remark_if(out, log, tally.differing != 0, differing)?;
+    remark_if(log, tally.differing != 0, differing)?;
     let nothing = verified_nothing(options, tally);
-    remark_if(out, log, nothing, Complaint::NothingVerified)?;
+    remark_if(log, nothing, Complaint::NothingVerified)?;
     Ok(())
 }
 
@@ -202,18 +184,19 @@ fn verified_nothing(options: Options, tally: &Tally) -> bool
     options.ignore_missing && !tally.matched
 }
 
-// Says what is wrong with a list, if it is.
-fn remark_if<W: Write, L: Log>(
-    out: &mut W,
-    log: &mut L,
-    wrong: bool,
-    complaint: Complaint,
-) -> Result<(), Fault>
-    ensures { OnOk result (Wrote (W.contents out.old) (W.contents out.new) (L.said log.old) (L.said log.new) []
-        (remark_where wrong complaint)) }
+// Says what is wrong with a list.
+fn remark<L: Log>(log: &mut L, complaint: Complaint) -> Result<(), Fault>
+    ensures { OnOk result (Adds (L.said log.old) (L.said log.new) (about_list complaint ∷ [])) }
+{
+    log.complain(complaint).map_err(Fault::Write)
+}
+
+// The same, if it is wrong.
+fn remark_if<L: Log>(log: &mut L, wrong: bool, complaint: Complaint) -> Result<(), Fault>
+    ensures { OnOk result (Adds (L.said log.old) (L.said log.new) (remark_where wrong complaint)) }
 {
     if wrong {
-        remark(out, log, complaint)?;
+        remark(log, complaint)?;
     }
     Ok(())
 }
@@ -233,17 +216,24 @@ fn check_lines<F: Folder, W: Write, L: Log>(
     ensures { OnOk result (ChecksLines (F.place folder.now) options lines.now (W.contents out.old) (W.contents out.new)
         (L.said log.old) (L.said log.new) tally.old tally.new) }
 {
-    let outcomes = read_files_of(alloc, folder, lines, buffer)?;
-    check_outcomes(
-        alloc,
-        folder,
-        options,
-        lines,
-        outcomes.as_slice(),
-        tally,
-        out,
-        log,
-    )
+    let mut start = 0;
+    while start < lines.len() {
+        let outcomes = read_files_of(alloc, folder, &lines[start..], buffer)?;
+        let end = start + outcomes.len();
+        let group = &lines[start..end];
+        check_outcomes(
+            alloc,
+            folder,
+            options,
+            group,
+            outcomes.as_slice(),
+            tally,
+            out,
+            log,
+        )?;
+        start = end;
+    }
+    Ok(())
 }
 
 // The same of lines whose files were read.
@@ -270,37 +260,36 @@ fn check_outcomes<F: Folder, W: Write, L: Log>(
     Ok(())
 }
 
-// What comes of reading the files of some lines, by the hashes that they name.
+// What comes of reading the files of the first lines: of one, or of several that name one hash.
 fn read_files_of<F: Folder>(
     alloc: Global,
     folder: &F,
     lines: &[Line],
     buffer: &mut [u8],
 ) -> Result<Vec<Outcome>, AllocError>
+    requires some { 0 < length lines.now }
     requires room { 0 < length buffer.old }
-    ensures { IfOk result (λ outcomes. AllZip (IsOutcomeOf (F.place folder.now)) lines.now outcomes.items) }
+    ensures { IfOk result (λ outcomes. OfFirst (IsOutcomeOf (F.place folder.now)) lines.now outcomes.items) }
 {
-    match common_variant(lines) {
-        Some(variant) => {
-            let names = names_of(alloc, lines)?;
-            let outcomes = read_digests(alloc, folder, variant, names.as_slice(), buffer)?;
-            Ok(outcomes)
-        }
-        None => read_one_by_one(alloc, folder, lines, buffer),
-    }
+    let variant = lines[0].variant;
+    let names = names_of(alloc, variant, lines)?;
+    let outcomes = read_digests(alloc, folder, variant, names.as_slice(), buffer)?;
+    Ok(outcomes)
 }
 
-// The hash of some lines, if all name the same.
-fn common_variant(lines: &[Line]) -> Option<Variant>
-    ensures { IfSome result (λ variant. All (λ line. line.variant ≡ variant) lines.now) }
+// The names of the first lines, up to one of another hash.
+fn names_of(alloc: Global, variant: Variant, lines: &[Line]) -> Result<Vec<&[u8]>, AllocError>
+    requires first { (line : Line) → 0 < length lines.now → get_or lines.now 0 line ≡ line → line.variant ≡ variant }
+    ensures { IfOk result (λ names. OfFirst (IsNamed variant) lines.now (targets names.items)) }
 {
-    let first = lines.first()?.variant;
+    let mut names = Vec::with_capacity(alloc, lines.len())?;
     for line in lines {
-        if line.variant != first {
-            return None;
+        if line.variant != variant {
+            return Ok(names);
         }
+        names.push(line.name.as_slice())?;
     }
-    Some(first)
+    Ok(names)
 }
 
 // Writes what was found of the file of this name, and remarks on it.
@@ -316,7 +305,7 @@ fn tell<W: Write, L: Log>(
         (line_of_event options (checked name.now verdict)) (remarks_on_event options (checked name.now verdict))) }
 {
     if let Verdict::Unreadable(error) = verdict {
-        remark_unreadable(out, log, name, error)?;
+        log.unreadable(name, error).map_err(Fault::Write)?;
     }
     if options.status {
         return Ok(());
@@ -357,33 +346,4 @@ fn shown_with(alloc: Global, name: &[u8], behind: &[u8]) -> Result<Vec<u8>, Allo
     push_text(&mut line, marked, name)?;
     line.extend_from_slice(behind)?;
     Ok(line)
-}
-
-// The names of some lines.
-fn names_of(alloc: Global, lines: &[Line]) -> Result<Vec<&[u8]>, AllocError>
-    ensures { IfOk result (λ names. targets names.items ≡ map (λ line. line.name.items) lines.now) }
-{
-    let mut names = Vec::with_capacity(alloc, lines.len())?;
-    for line in lines {
-        names.push(line.name.as_slice())?;
-    }
-    Ok(names)
-}
-
-// The same of lines that may name several hashes, one file after another.
-fn read_one_by_one<F: Folder>(
-    alloc: Global,
-    folder: &F,
-    lines: &[Line],
-    buffer: &mut [u8],
-) -> Result<Vec<Outcome>, AllocError>
-    requires room { 0 < length buffer.old }
-    ensures { IfOk result (λ outcomes. AllZip (IsOutcomeOf (F.place folder.now)) lines.now outcomes.items) }
-{
-    let mut outcomes = Vec::with_capacity(alloc, lines.len())?;
-    for line in lines {
-        let outcome = read_digest(alloc, folder, line.variant, line.name.as_slice(), buffer)?;
-        outcomes.push(outcome)?;
-    }
-    Ok(outcomes)
 }

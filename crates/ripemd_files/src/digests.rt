@@ -5,7 +5,7 @@ ghost use Rattle.std.specs.Io.KnownBytes.{Consumes, IsAtEnd};
 ghost use Rattle.ripemd_block.specs.Standard.Hashing.{hash};
 ghost use Rattle.ripemd.specs.Standard.Hashing.{ripemd};
 ghost use Rattle.ripemd_batch.specs.Lanes.{targets};
-ghost use Rattle.ripemd_files.specs.Readings.{Gives, Gave, Breaks, ComesTo, Place, parameters_of};
+ghost use Rattle.ripemd_files.specs.Readings.{Gives, Gave, Breaks, ComesTo, OfFirst, Place, parameters_of};
 ghost use Rattle.std.specs.List.{AllZip};
 ghost use Rattle.ripemd_files.specs.Contents.{Follows, IsContent, message_in};
 
@@ -18,8 +18,11 @@ use ripemd_batch::{BatchDigest, digest_each};
 use std::alloc::{AllocError, Global};
 use std::io;
 
-/// The length of a message that is too long: its length in bits does not fit into 64 bits.
+// The length of a message that is too long: its length in bits does not fit into 64 bits.
 const TOO_LONG: u64 = 1 << 61;
+
+// So many files are hashed at once, at most.
+pub(crate) const GROUP: usize = 8;
 
 // What a file gave: a whole message, or the digest of a longer one.
 #[derive(Drop)]
@@ -110,7 +113,7 @@ fn read_file<D: Digest, F: Folder>(
     }
 }
 
-// What the files of some names gave.
+// What the files of the first names gave: of one, or of several short ones.
 fn read_files<D: Digest, F: Folder>(
     alloc: Global,
     folder: &F,
@@ -118,12 +121,22 @@ fn read_files<D: Digest, F: Folder>(
     buffer: &mut [u8],
 ) -> Result<Vec<Content<D::Output>>, AllocError>
     requires room { 0 < length buffer.old }
-    ensures { IfOk result (λ contents. AllZip (IsContent D.bytes_of (F.place folder.now) (hash D.start D.step D.output)) (targets names.now) contents.items) }
+    ensures { IfOk result (λ contents. OfFirst (IsContent D.bytes_of (F.place folder.now) (hash D.start D.step D.output)) (targets names.now) contents.items) }
 {
-    let mut contents = Vec::new(alloc);
+    let mut contents = Vec::with_capacity(alloc, GROUP)?;
     for name in names {
+        if contents.len() == GROUP {
+            return Ok(contents);
+        }
+        let short = folder.is_short(name);
+        if !short && !contents.is_empty() {
+            return Ok(contents);
+        }
         let content = read_file::<D, F>(alloc, folder, name, buffer)?;
         contents.push(content)?;
+        if !short {
+            return Ok(contents);
+        }
     }
     Ok(contents)
 }
@@ -183,7 +196,7 @@ fn outcomes_of<D: Digest>(
     Ok(outcomes)
 }
 
-// What comes of the files of some names, by one hash.
+// What comes of the files of the first names, by one hash.
 fn read_group<D: BatchDigest, F: Folder>(
     alloc: Global,
     folder: &F,
@@ -191,7 +204,7 @@ fn read_group<D: BatchDigest, F: Folder>(
     buffer: &mut [u8],
 ) -> Result<Vec<Outcome>, AllocError>
     requires room { 0 < length buffer.old }
-    ensures { IfOk result (λ outcomes. AllZip (ComesTo (F.place folder.now) (hash D.start D.step D.output)) (targets names.now) outcomes.items) }
+    ensures { IfOk result (λ outcomes. OfFirst (ComesTo (F.place folder.now) (hash D.start D.step D.output)) (targets names.now) outcomes.items) }
 {
     let contents = read_files::<D, F>(alloc, folder, names, buffer)?;
     let messages = messages_of(alloc, contents.as_slice())?;
@@ -201,8 +214,9 @@ fn read_group<D: BatchDigest, F: Folder>(
     Ok(outcomes)
 }
 
-/// What comes of reading the files of some names, in order. Each is read to the buffer, which has to have room;
-/// those that leave room there are hashed at once.
+/// What comes of reading the files of the first of some names, in order: of one, or of up to eight
+/// [short](Folder::is_short) ones. Each is read to the buffer, which has to have room; those that leave room there are
+/// hashed at once.
 pub fn read_digests<F: Folder>(
     alloc: Global,
     folder: &F,
@@ -211,7 +225,7 @@ pub fn read_digests<F: Folder>(
     buffer: &mut [u8],
 ) -> Result<Vec<Outcome>, AllocError>
     requires room { 0 < length buffer.old }
-    ensures { IfOk result (λ outcomes. AllZip (ComesTo (F.place folder.now) (ripemd (parameters_of variant))) (targets names.now) outcomes.items) }
+    ensures { IfOk result (λ outcomes. OfFirst (ComesTo (F.place folder.now) (ripemd (parameters_of variant))) (targets names.now) outcomes.items) }
 {
     match variant {
         Variant::R128 => read_group::<Ripemd128, F>(alloc, folder, names, buffer),
@@ -219,19 +233,4 @@ pub fn read_digests<F: Folder>(
         Variant::R256 => read_group::<Ripemd256, F>(alloc, folder, names, buffer),
         Variant::R320 => read_group::<Ripemd320, F>(alloc, folder, names, buffer),
     }
-}
-
-/// What comes of reading the file of one name, as `read_digests` does.
-pub fn read_digest<F: Folder>(
-    alloc: Global,
-    folder: &F,
-    variant: Variant,
-    name: &[u8],
-    buffer: &mut [u8],
-) -> Result<Outcome, AllocError>
-    requires room { 0 < length buffer.old }
-    ensures { IfOk result (ComesTo (F.place folder.now) (ripemd (parameters_of variant)) name.now) }
-{
-    let mut outcomes = read_digests(alloc, folder, variant, &[name], buffer)?;
-    Ok(outcomes.pop().unwrap())
 }

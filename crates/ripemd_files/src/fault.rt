@@ -10,7 +10,7 @@ use thiserror::Error;
 /// Why a run ends before all files were printed or checked.
 #[derive(Debug, Drop, Error)]
 pub enum Fault {
-    /// A write of a line failed with this error.
+    /// A write of a line or of a remark failed with this error.
     #[error("write error")]
     Write(io::Error),
     /// There is no memory left.

@@ -20,6 +20,10 @@ pub trait Folder {
         ensures ok { IfOk result ((place self.now).opens name.now) }
         ensures err { IfErr result ((place self.now).refuses name.now) };
 
+    /// Whether the file of a name is known to be a regular one of less than 64 KiB, so that no read of it waits long.
+    /// Several such files are read before their lines are written, and before any other file all lines are.
+    fn is_short(&self, name: &[u8]) -> bool;
+
     /// Reads bytes of a file to the front of the buffer, and answers how many: 0 at its end.
     fn read(&self, file: &mut Self::File, buffer: &mut [u8]) -> io::Result<usize>
         ensures bound { ReadsAtMost result buffer.new }

@@ -1,14 +1,14 @@
 //! Lists of lines, as a check reads them.
 
-ghost use Rattle.std.specs.Prelude.{◌≡◌, ◌≢◌, ◌↔◌, ◌+◌, ◌<◌, ◌^◌, ◌++◌, ◌∷◌, [], codes, IfOk, IsFalse, IsTrue, OnOk};
+ghost use Rattle.std.specs.Prelude.{◌≡◌, ◌≢◌, ◌↔◌, ◌+◌, ◌<◌, ◌^◌, ◌++◌, ◌∷◌, [], codes, length, IfOk, IsFalse, IsTrue, OnOk};
 ghost use Rattle.ripemd_files.specs.Lists.{IsTaken, IsWanted, body_of_line, is_passed_over, layout_after};
 ghost use Rattle.ripemd_files.specs.Groups.{IsEntry, ReadsGroup, Takes};
 
+use crate::digests::GROUP;
 use crate::fault::Fault;
 use crate::folder::Folder;
 use crate::line::{Layout, Line, Variant};
 use crate::piece::{Piece, read_piece};
-use crate::printing::GROUP;
 use crate::reading::read_line;
 use std::alloc::{AllocError, Global};
 use std::io::BufRead;
@@ -20,6 +20,13 @@ pub struct Rules {
     pub only: Option<Variant>,
     /// Whether the list is standard input, which no line of it can name.
     pub from_input: bool,
+}
+
+/// A list, as it is read.
+pub trait ReadList: BufRead {
+    /// Whether its next line is at hand, so that reading it does not wait. Before a read that may wait, what the
+    /// lines so far say is written.
+    fn has_line(&self) -> bool;
 }
 
 // How far a list is read: its layout, if an untagged line said it, and the number of the next line.
@@ -152,8 +159,15 @@ fn push_line(lines: &mut Vec<Line>, line: Line) -> Result<(), AllocError>
     Ok(())
 }
 
-// Reads some lines of a list, up to the next one that says nothing that can be read.
-pub(crate) fn read_group<F: Folder, R: BufRead>(
+// Whether the files of some lines are read before the next line: there are enough, or reading it may wait.
+fn is_group<R: ReadList>(lines: &[Line], reader: &R) -> bool
+    ensures { IsTrue result → 0 < length lines.now }
+{
+    lines.len() >= GROUP || (!lines.is_empty() && !reader.has_line())
+}
+
+// Reads some lines of a list, up to the next one that says nothing that can be read, or that is not at hand.
+pub(crate) fn read_group<F: Folder, R: ReadList>(
     alloc: Global,
     folder: &F,
     ignore_missing: bool,
@@ -166,7 +180,7 @@ pub(crate) fn read_group<F: Folder, R: BufRead>(
 {
     let mut lines = Vec::with_capacity(alloc, GROUP)?;
     let mut text = Vec::new(alloc);
-    'lines: while lines.len() < GROUP {
+    'lines: while !is_group(lines.as_slice(), reader) {
         match read_piece(reader, &mut text)? {
             Piece::Nothing => {
                 return Ok(Group {

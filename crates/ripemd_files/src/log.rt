@@ -1,6 +1,6 @@
 //! What is remarked beside the lines of a run, on standard error.
 
-ghost use Rattle.std.specs.Prelude.{ℕ, List, [], ◌∷◌, Option};
+ghost use Rattle.std.specs.Prelude.{ℕ, List, [], ◌∷◌, OnOk, Option};
 ghost use Rattle.ripemd_files.specs.Said.{Adds, Remark, about_list, unreadable};
 
 use std::io;
@@ -24,16 +24,16 @@ pub enum Complaint {
     Unreadable,
 }
 
-/// Where remarks go. There is nowhere to report to if one can't be made.
+/// Where remarks go. An error ends the run.
 pub trait Log {
     // The remarks that it was given, where they are known.
     ghost said: { Self → Option (List Remark) };
 
     /// Says that the file of a name could not be opened or read, with this error.
-    fn unreadable(&mut self, name: &[u8], error: io::Error)
-        ensures { Adds (said self.old) (said self.new) (unreadable name.now error ∷ []) };
+    fn unreadable(&mut self, name: &[u8], error: io::Error) -> io::Result<()>
+        ensures { OnOk result (Adds (said self.old) (said self.new) (unreadable name.now error ∷ [])) };
 
     /// Says what is wrong with a list.
-    fn complain(&mut self, complaint: Complaint)
-        ensures { Adds (said self.old) (said self.new) (about_list complaint ∷ []) };
+    fn complain(&mut self, complaint: Complaint) -> io::Result<()>
+        ensures { OnOk result (Adds (said self.old) (said self.new) (about_list complaint ∷ [])) };
 }

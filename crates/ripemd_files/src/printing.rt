@@ -1,23 +1,22 @@
 //! The lines of the digests of files.
 
-ghost use Rattle.std.specs.Prelude.{◌≡◌, ◌<◌, ◌≤◌, [], ◌∷◌, map, length, IfOk, OnOk};
+ghost use Rattle.std.specs.Prelude.{◌≡◌, ◌<◌, length, IfOk, OnOk};
 ghost use Rattle.std.specs.Io.KnownBytes.{Appends};
 ghost use Rattle.std.specs.List.{AllZip};
 ghost use Rattle.ripemd.specs.Standard.Hashing.{ripemd};
 ghost use Rattle.ripemd_batch.specs.Lanes.{targets};
 ghost use Rattle.ripemd_files.specs.Readings.{ComesTo, parameters_of};
-ghost use Rattle.ripemd_files.specs.Said.{Wrote, about_list, unreadable};
+ghost use Rattle.ripemd_files.specs.Said.{Wrote};
 ghost use Rattle.ripemd_files.specs.Printing.{PrintsAll, line_for, remarks_on, was_read};
 
 use crate::digests::read_digests;
 use crate::fault::Fault;
 use crate::folder::Folder;
 use crate::line::{Ending, Form, Variant};
-use crate::log::{Complaint, Log};
+use crate::log::Log;
 use crate::outcome::Outcome;
 use crate::writing::write_line;
 use std::alloc::{AllocError, Global};
-use std::io;
 use std::io::Write;
 
 /// How lines are printed.
@@ -31,9 +30,6 @@ pub struct Style {
     pub ending: Ending,
 }
 
-// So many files are read before they are hashed at once.
-pub(crate) const GROUP: usize = 8;
-
 // How much of a file is read at once.
 pub(crate) const BUFFER: usize = 1 << 16;
 
@@ -42,17 +38,17 @@ pub(crate) const BUFFER: usize = 1 << 16;
 ///
 /// # Errors
 ///
-/// - `Write`: a write or a flush of the lines failed, with this error.
+/// - `Write`: a write or a flush of a line, or a remark, failed with this error.
 /// - `NoMemory`: there is no memory left.
 pub fn print_digests<F: Folder, W: Write, L: Log>(
     alloc: Global,
     folder: &F,
     style: Style,
-    names: &[Vec<u8>],
+    names: &[&[u8]],
     out: &mut W,
     log: &mut L,
 ) -> Result<bool, Fault>
-    ensures { IfOk result (PrintsAll (F.place folder.now) style (map (λ name. name.items) names.now)
+    ensures { IfOk result (PrintsAll (F.place folder.now) style (targets names.now)
         (W.contents out.old) (W.contents out.new) (L.said log.old) (L.said log.new)) }
 {
     let mut buffer = new_buffer(alloc, BUFFER)?;
@@ -64,21 +60,22 @@ fn print_groups<F: Folder, W: Write, L: Log>(
     alloc: Global,
     folder: &F,
     style: Style,
-    names: &[Vec<u8>],
+    names: &[&[u8]],
     buffer: &mut [u8],
     out: &mut W,
     log: &mut L,
 ) -> Result<bool, Fault>
     requires room { 0 < length buffer.old }
-    ensures { IfOk result (PrintsAll (F.place folder.now) style (map (λ name. name.items) names.now)
+    ensures { IfOk result (PrintsAll (F.place folder.now) style (targets names.now)
         (W.contents out.old) (W.contents out.new) (L.said log.old) (L.said log.new)) }
 {
     let mut all = true;
     let mut start = 0;
     while start < names.len() {
-        let end = group_end(start, names.len());
+        let outcomes = read_digests(alloc, folder, style.variant, &names[start..], buffer)?;
+        let end = start + outcomes.len();
         let group = &names[start..end];
-        let read = print_group(alloc, folder, style, group, buffer, out, log)?;
+        let read = print_outcomes(alloc, folder, style, group, outcomes.as_slice(), out, log)?;
         all &= read;
         start = end;
     }
@@ -93,68 +90,27 @@ pub(crate) fn new_buffer(alloc: Global, size: usize) -> Result<Vec<u8>, AllocErr
     vec![in alloc; 0; size]
 }
 
-// Where a group that begins at a place ends.
-pub(crate) fn group_end(start: usize, len: usize) -> usize
-    requires { start < len }
-    ensures { (start < result) × (result ≤ len) }
-{
-    if len - start > GROUP {
-        start + GROUP
-    } else {
-        len
-    }
-}
-
-// The same of a group of files.
-fn print_group<F: Folder, W: Write, L: Log>(
-    alloc: Global,
-    folder: &F,
-    style: Style,
-    names: &[Vec<u8>],
-    buffer: &mut [u8],
-    out: &mut W,
-    log: &mut L,
-) -> Result<bool, Fault>
-    requires room { 0 < length buffer.old }
-    ensures { IfOk result (PrintsAll (F.place folder.now) style (map (λ name. name.items) names.now)
-        (W.contents out.old) (W.contents out.new) (L.said log.old) (L.said log.new)) }
-{
-    let slices = slices_of(alloc, names)?;
-    let outcomes = read_digests(alloc, folder, style.variant, slices.as_slice(), buffer)?;
-    print_outcomes(alloc, folder, style, names, outcomes.as_slice(), out, log)
-}
-
 // The same of files that were read.
 fn print_outcomes<F: Folder, W: Write, L: Log>(
     alloc: Global,
     _folder: &F,
     style: Style,
-    names: &[Vec<u8>],
+    names: &[&[u8]],
     outcomes: &[Outcome],
     out: &mut W,
     log: &mut L,
 ) -> Result<bool, Fault>
-    requires read { AllZip (ComesTo (F.place _folder.now) (ripemd (parameters_of style.variant))) (map (λ name. name.items) names.now) outcomes.now }
-    ensures { IfOk result (PrintsAll (F.place _folder.now) style (map (λ name. name.items) names.now)
+    requires read { AllZip (ComesTo (F.place _folder.now) (ripemd (parameters_of style.variant))) (targets names.now) outcomes.now }
+    ensures { IfOk result (PrintsAll (F.place _folder.now) style (targets names.now)
         (W.contents out.old) (W.contents out.new) (L.said log.old) (L.said log.new)) }
 {
     let mut all = true;
     for k in 0..outcomes.len() {
-        let read = print_outcome(alloc, style, names[k].as_slice(), &outcomes[k], out, log)?;
+        let name = names[k];
+        let read = print_outcome(alloc, style, name, &outcomes[k], out, log)?;
         all &= read;
     }
     Ok(all)
-}
-
-// The bytes of names.
-fn slices_of(alloc: Global, names: &[Vec<u8>]) -> Result<Vec<&[u8]>, AllocError>
-    ensures { IfOk result (λ slices. targets slices.items ≡ map (λ name. name.items) names.now) }
-{
-    let mut slices = Vec::with_capacity(alloc, names.len())?;
-    for name in names {
-        slices.push(name.as_slice())?;
-    }
-    Ok(slices)
 }
 
 // The same of one file, by what came of it.
@@ -184,44 +140,16 @@ fn print_outcome<W: Write, L: Log>(
             Ok(true)
         }
         Outcome::Refused(error) | Outcome::Broken(error) => {
-            remark_unreadable(out, log, name, *error)?;
+            log.unreadable(name, *error).map_err(Fault::Write)?;
             Ok(false)
         }
     }
 }
 
-// Writes bytes.
-pub(crate) fn put<W: Write>(out: &mut W, bytes: &[u8]) -> Result<(), Fault>
-    ensures { OnOk result (Appends (W.contents out.old) (W.contents out.new) bytes.now) }
+// Writes a line, and flushes it.
+pub(crate) fn put<W: Write>(out: &mut W, line: &[u8]) -> Result<(), Fault>
+    ensures { OnOk result (Appends (W.contents out.old) (W.contents out.new) line.now) }
 {
-    out.write_all(bytes).map_err(Fault::Write)
-}
-
-// Says that a file can't be read, after what was written before is out.
-pub(crate) fn remark_unreadable<W: Write, L: Log>(
-    out: &mut W,
-    log: &mut L,
-    name: &[u8],
-    error: io::Error,
-) -> Result<(), Fault>
-    ensures { OnOk result (Wrote (W.contents out.old) (W.contents out.new) (L.said log.old) (L.said log.new) []
-        (unreadable name.now error ∷ [])) }
-{
-    out.flush().map_err(Fault::Write)?;
-    log.unreadable(name, error);
-    Ok(())
-}
-
-// Says what is wrong with a list, after what was written before is out.
-pub(crate) fn remark<W: Write, L: Log>(
-    out: &mut W,
-    log: &mut L,
-    complaint: Complaint,
-) -> Result<(), Fault>
-    ensures { OnOk result (Wrote (W.contents out.old) (W.contents out.new) (L.said log.old) (L.said log.new) []
-        (about_list complaint ∷ [])) }
-{
-    out.flush().map_err(Fault::Write)?;
-    log.complain(complaint);
-    Ok(())
+    out.write_all(line).map_err(Fault::Write)?;
+    out.flush().map_err(Fault::Write)
 }

@@ -8,7 +8,6 @@ use ripemd_files::log::Complaint;
 use ripemd_files::verdict::Options;
 use ripemd_files::{Layout, Variant};
 use std::alloc::Global;
-use std::io::BufReader;
 use std::test::Fail;
 
 const PLAIN: Options = Options {
@@ -45,7 +44,7 @@ const FILES: &[(&[u8], &[u8])] = &[(b"abc", b"abc"), (b"empty", b"")];
 // What a check of a list answers, and what it leaves.
 fn check(
     alloc: Global,
-    list: List<'_>,
+    mut list: List<'_>,
     calls: Calls,
     page: &mut Page,
     remarks: &mut Remarks,
@@ -54,16 +53,8 @@ fn check(
         files: FILES,
         calls,
     };
-    let mut reader = BufReader::with_capacity(alloc, 16, list).map_err(|_| Fault::NoMemory)?;
     check_list(
-        alloc,
-        &memory,
-        PLAIN,
-        RULES,
-        &mut None,
-        &mut reader,
-        page,
-        remarks,
+        alloc, &memory, PLAIN, RULES, &mut None, &mut list, page, remarks,
     )
 }
 
@@ -212,23 +203,22 @@ const CASES: &[Case<'static>] = &[
 #[test]
 fn lists_are_checked(rt: HostRuntime) -> Result<(), Fail> {
     let alloc = rt.alloc();
-    for case in CASES {
+    for (number, case) in CASES.iter().chain(CASES).enumerate() {
         let memory = Memory {
             files: FILES,
             calls: Calls::failing_at(0),
         };
-        let list = List::new(case.list, 0);
-        let mut reader = BufReader::with_capacity(alloc, 16, list)?;
+        let mut list = List::new(case.list, number < CASES.len(), 0);
         let mut layout = case.first;
         let mut page = Page::new(alloc, 0);
-        let mut remarks = Remarks::new(alloc);
+        let mut remarks = Remarks::new(alloc, 0);
         let success = check_list(
             alloc,
             &memory,
             case.options,
             case.rules,
             &mut layout,
-            &mut reader,
+            &mut list,
             &mut page,
             &mut remarks,
         )?;
@@ -248,8 +238,8 @@ fn each_read_of_a_list_may_fail(rt: HostRuntime) -> Result<(), Fail> {
     let mut failed = 0usize;
     for failing in 1..1000 {
         let mut page = Page::new(alloc, 0);
-        let mut remarks = Remarks::new(alloc);
-        let list = List::new(LIST, failing);
+        let mut remarks = Remarks::new(alloc, 0);
+        let list = List::new(LIST, true, failing);
         let success = check(alloc, list, Calls::failing_at(0), &mut page, &mut remarks)?;
         assert!(rt; !success);
         assert!(rt; REPORT.starts_with(page.bytes.as_slice()));
@@ -274,8 +264,8 @@ fn each_call_of_a_folder_may_fail(rt: HostRuntime) -> Result<(), Fail> {
         b"8eb208f7e05d987a9b044a8e98c6b087f15a0bfc  abc\n9c1185a5c5e9fc54612808977ee8f548b2258d31  empty\n";
     for failing in 1..7 {
         let mut page = Page::new(alloc, 0);
-        let mut remarks = Remarks::new(alloc);
-        let list = List::new(list, 0);
+        let mut remarks = Remarks::new(alloc, 0);
+        let list = List::new(list, true, 0);
         let calls = Calls::failing_at(failing);
         let success = check(alloc, list, calls, &mut page, &mut remarks)?;
         let wanted: &[u8] = match failing {
@@ -289,15 +279,22 @@ fn each_call_of_a_folder_may_fail(rt: HostRuntime) -> Result<(), Fail> {
     Ok(())
 }
 
+// Whichever write, flush or remark fails, the check ends with its error.
 #[test]
 fn each_write_may_fail(rt: HostRuntime) -> Result<(), Fail> {
     let alloc = rt.alloc();
-    for failing in 1..5 {
-        let mut page = Page::new(alloc, failing);
-        let mut remarks = Remarks::new(alloc);
-        let list = List::new(LIST, 0);
+    for failing in 1..13 {
+        // Four lines are written and flushed, and as many remarks made.
+        let (write, remark) = if failing <= 8 {
+            (failing, 0)
+        } else {
+            (0, failing - 8)
+        };
+        let mut page = Page::new(alloc, write);
+        let mut remarks = Remarks::new(alloc, remark);
+        let list = List::new(LIST, true, 0);
         let outcome = check(alloc, list, Calls::failing_at(0), &mut page, &mut remarks);
-        assert!(rt; matches!(outcome, Err(Fault::Write(_))), "write {failing}");
+        assert!(rt; matches!(outcome, Err(Fault::Write(_))), "call {failing}");
     }
     Ok(())
 }

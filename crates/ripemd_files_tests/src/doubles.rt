@@ -5,11 +5,12 @@ ghost use Rattle.std.specs.Io.{ReadsAtMost};
 ghost use Rattle.ripemd_files.specs.Readings.{any_place};
 
 use ripemd_files::folder::Folder;
+use ripemd_files::list::ReadList;
 use ripemd_files::log::{Complaint, Log};
 use std::alloc::{AllocError, Global};
 use std::cell::Cell;
 use std::io;
-use std::io::{ErrorKind, Read, Write};
+use std::io::{BufRead, ErrorKind, Read, Write};
 
 /// Counts calls, one of which fails: the first is 1, and 0 is none.
 #[derive(Drop)]
@@ -70,6 +71,15 @@ impl<'a> Folder for Memory<'a> {
         Err(io::Error::from(ErrorKind::NotFound))
     }
 
+    fn is_short(&self, name: &[u8]) -> bool {
+        for (known, bytes) in self.files {
+            if **known == *name {
+                return bytes.len() < 1 << 16;
+            }
+        }
+        false
+    }
+
     fn read(&self, file: &mut Opened<'a>, buffer: &mut [u8]) -> io::Result<usize> {
         self.calls.make()?;
         take(&mut file.rest, buffer)
@@ -83,18 +93,20 @@ fn take(rest: &mut &[u8], buffer: &mut [u8]) -> io::Result<usize>
     rest.read(buffer)
 }
 
-/// A list, at most 7 bytes at a call.
+/// A list, of which 7 bytes at most are at hand.
 #[derive(Drop)]
 pub struct List<'a> {
     rest: &'a [u8],
+    has_line: bool,
     pub calls: Calls,
 }
 
 impl<'a> List<'a> {
-    /// A list of these bytes, this call of which fails.
-    pub fn new(rest: &'a [u8], failing: usize) -> List<'a> {
+    /// A list of these bytes, this call of which fails. It says that its next line is at hand, or that it is not.
+    pub fn new(rest: &'a [u8], has_line: bool, failing: usize) -> List<'a> {
         List {
             rest,
+            has_line,
             calls: Calls::failing_at(failing),
         }
     }
@@ -103,8 +115,24 @@ impl<'a> List<'a> {
 impl Read for List<'_> {
     fn read(&mut self, buffer: &mut [u8]) -> io::Result<usize> {
         self.calls.make()?;
-        let room = buffer.len().min(7);
-        take(&mut self.rest, &mut buffer[..room])
+        take(&mut self.rest, buffer)
+    }
+}
+
+impl BufRead for List<'_> {
+    fn fill_buf(&mut self) -> io::Result<&[u8]> {
+        self.calls.make()?;
+        Ok(&self.rest[..self.rest.len().min(7)])
+    }
+
+    fn consume(&mut self, amount: usize) {
+        self.rest = &self.rest[amount.min(self.rest.len())..];
+    }
+}
+
+impl ReadList for List<'_> {
+    fn has_line(&self) -> bool {
+        self.has_line
     }
 }
 
@@ -142,13 +170,16 @@ impl Write for Page {
 pub struct Remarks {
     pub unreadable: usize,
     pub complaints: Vec<Complaint>,
+    pub calls: Calls,
 }
 
 impl Remarks {
-    pub fn new(alloc: Global) -> Remarks {
+    /// No remark yet; this call fails.
+    pub fn new(alloc: Global, failing: usize) -> Remarks {
         Remarks {
             unreadable: 0,
             complaints: Vec::new(alloc),
+            calls: Calls::failing_at(failing),
         }
     }
 }
@@ -156,12 +187,15 @@ impl Remarks {
 impl Log for Remarks {
     ghost said = { λ remarks. None };
 
-    fn unreadable(&mut self, _name: &[u8], _error: io::Error) {
+    fn unreadable(&mut self, _name: &[u8], _error: io::Error) -> io::Result<()> {
+        self.calls.make()?;
         self.unreadable = self.unreadable.saturating_add(1);
+        Ok(())
     }
 
-    fn complain(&mut self, complaint: Complaint) {
-        let _ = self.complaints.push(complaint);
+    fn complain(&mut self, complaint: Complaint) -> io::Result<()> {
+        self.calls.make()?;
+        Ok(self.complaints.push(complaint)?)
     }
 }
 

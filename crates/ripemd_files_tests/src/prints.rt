@@ -4,7 +4,6 @@ use crate::doubles::{Calls, Memory, Page, Remarks, letters};
 use ripemd_files::fault::Fault;
 use ripemd_files::printing::{Style, print_digests};
 use ripemd_files::{Ending, Form, Variant};
-use std::alloc::{AllocError, Global};
 use std::test::Fail;
 
 const STYLE: Style = Style {
@@ -18,15 +17,6 @@ const EMPTY: &[u8] = b"9c1185a5c5e9fc54612808977ee8f548b2258d31  empty\n";
 const ABC: &[u8] = b"8eb208f7e05d987a9b044a8e98c6b087f15a0bfc  abc\n";
 
 const LONG: &[u8] = b"52783243c1697bdbe16d37f97f68f08325dc1528  long\n";
-
-// These names.
-fn names(alloc: Global, texts: &[&[u8]]) -> Result<Vec<Vec<u8>>, AllocError> {
-    let mut names = Vec::new(alloc);
-    for text in texts {
-        names.push(Vec::from_slice(alloc, text)?)?;
-    }
-    Ok(names)
-}
 
 // Short and long files, more than are hashed at once, one of which is missing.
 #[test]
@@ -43,9 +33,8 @@ fn files_are_printed_in_order(rt: HostRuntime) -> Result<(), Fail> {
         b"abc",
     ];
     let mut page = Page::new(alloc, 0);
-    let mut remarks = Remarks::new(alloc);
-    let names = names(alloc, &listed)?;
-    let all = print_digests(alloc, &memory, STYLE, &names, &mut page, &mut remarks)?;
+    let mut remarks = Remarks::new(alloc, 0);
+    let all = print_digests(alloc, &memory, STYLE, &listed, &mut page, &mut remarks)?;
     let mut wanted = Vec::new(alloc);
     for line in [ABC, EMPTY, LONG, ABC, ABC, ABC, ABC, ABC, LONG, ABC] {
         wanted.extend_from_slice(line)?;
@@ -63,7 +52,6 @@ fn each_call_of_a_folder_may_fail(rt: HostRuntime) -> Result<(), Fail> {
     let long = letters(alloc, 1_000_000)?;
     let files: [(&[u8], &[u8]); 2] = [(b"abc", b"abc"), (b"long", &long)];
     let listed: [&[u8]; 2] = [b"abc", b"long"];
-    let names = names(alloc, &listed)?;
     let mut failed = 0usize;
     for failing in 1..100 {
         let memory = Memory {
@@ -71,8 +59,8 @@ fn each_call_of_a_folder_may_fail(rt: HostRuntime) -> Result<(), Fail> {
             calls: Calls::failing_at(failing),
         };
         let mut page = Page::new(alloc, 0);
-        let mut remarks = Remarks::new(alloc);
-        let all = print_digests(alloc, &memory, STYLE, &names, &mut page, &mut remarks)?;
+        let mut remarks = Remarks::new(alloc, 0);
+        let all = print_digests(alloc, &memory, STYLE, &listed, &mut page, &mut remarks)?;
         if all {
             assert!(rt; memory.calls.made() < failing);
             break;
@@ -86,23 +74,27 @@ fn each_call_of_a_folder_may_fail(rt: HostRuntime) -> Result<(), Fail> {
     Ok(())
 }
 
-// Whichever write fails, the run ends with its error.
+// Whichever write, flush or remark fails, the run ends with its error, and no more is written.
 #[test]
 fn each_write_may_fail(rt: HostRuntime) -> Result<(), Fail> {
     let alloc = rt.alloc();
     let files: [(&[u8], &[u8]); 2] = [(b"abc", b"abc"), (b"empty", b"")];
     let listed: [&[u8]; 3] = [b"abc", b"missing", b"empty"];
-    let names = names(alloc, &listed)?;
-    for failing in 1..4 {
+    for failing in 0..5 {
         let memory = Memory {
             files: &files,
             calls: Calls::failing_at(0),
         };
         let mut page = Page::new(alloc, failing);
-        let mut remarks = Remarks::new(alloc);
-        let outcome = print_digests(alloc, &memory, STYLE, &names, &mut page, &mut remarks);
+        let mut remarks = Remarks::new(alloc, usize::from(failing == 0));
+        let outcome = print_digests(alloc, &memory, STYLE, &listed, &mut page, &mut remarks);
         assert!(rt; matches!(outcome, Err(Fault::Write(_))), "write {failing}");
-        assert_eq!(rt; page.calls.made(), failing);
+        // Each line is written and flushed; in place of the second is a remark.
+        assert_eq!(rt; page.calls.made(), if failing == 0 { 2 } else { failing });
+        assert_eq!(rt;
+            remarks.calls.made(),
+            usize::from(failing == 0 || failing > 2)
+        );
     }
     Ok(())
 }

@@ -72,6 +72,7 @@ enum Telling {
 // What the options that were read say.
 #[derive(Drop)]
 struct Settings {
+    operands_last: bool,
     variant: Option<Variant>,
     check: bool,
     mode: Option<Mode>,
@@ -113,6 +114,14 @@ impl From<AllocError> for Stop {
     }
 }
 
+/// The name that the program was called by.
+pub fn program(env: &impl Env, alloc: Global) -> Result<Vec<u8>, AllocError> {
+    match argument(env, alloc, 0)? {
+        Some(name) => Ok(name),
+        None => Vec::from_slice(alloc, b"rmdsum"),
+    }
+}
+
 /// The arguments behind the program's name.
 pub fn collect(env: &impl Env, alloc: Global) -> Result<Vec<Vec<u8>>, AllocError> {
     let mut arguments = Vec::new(alloc);
@@ -139,11 +148,15 @@ fn argument(env: &impl Env, alloc: Global, place: usize) -> Result<Option<Vec<u8
 }
 
 /// What the arguments behind the program's name ask for, by the rules of `getopt_long` and of
-/// `sha256sum`: options stand before and behind operands, and long ones may be cut short.
-pub fn parse(alloc: Global, arguments: &[Vec<u8>]) -> Result<Result<Request, Misuse>, AllocError>
+/// `sha256sum`: options stand before and behind operands, unless `operands_last`, and long ones may be cut short.
+pub fn parse(
+    alloc: Global,
+    operands_last: bool,
+    arguments: &[Vec<u8>],
+) -> Result<Result<Request, Misuse>, AllocError>
     ensures { IfOk result (λ answer. IfOk answer IsSound) }
 {
-    match read_all(alloc, arguments) {
+    match read_all(alloc, operands_last, arguments) {
         Ok(request) => Ok(Ok(request)),
         Err(Stop::Help) => Ok(Ok(Request::Help)),
         Err(Stop::Version) => Ok(Ok(Request::Version)),
@@ -153,10 +166,10 @@ pub fn parse(alloc: Global, arguments: &[Vec<u8>]) -> Result<Result<Request, Mis
 }
 
 // What the arguments ask for.
-fn read_all(alloc: Global, arguments: &[Vec<u8>]) -> Result<Request, Stop>
+fn read_all(alloc: Global, operands_last: bool, arguments: &[Vec<u8>]) -> Result<Request, Stop>
     ensures { IfOk result IsSound }
 {
-    let mut settings = Settings::new(alloc);
+    let mut settings = Settings::new(alloc, operands_last);
     let mut next = Next::Any;
     for argument in arguments {
         next = settings.read(alloc, next, argument.as_slice())?;
@@ -183,8 +196,9 @@ fn find_variant(name: &[u8]) -> Option<Variant>
 
 impl Settings {
     // What holds where no option is given.
-    fn new(alloc: Global) -> Settings {
+    fn new(alloc: Global, operands_last: bool) -> Settings {
         Settings {
+            operands_last,
             variant: None,
             check: false,
             mode: None,
@@ -222,7 +236,11 @@ impl Settings {
             [b'-', letters @ ..] if !letters.is_empty() => self.read_short(alloc, letters),
             _ => {
                 self.push_operand(alloc, argument)?;
-                Ok(Next::Any)
+                Ok(if self.operands_last {
+                    Next::Operand
+                } else {
+                    Next::Any
+                })
             }
         }
     }

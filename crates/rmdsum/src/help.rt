@@ -4,8 +4,8 @@
 pub const VERSION: &str = "rmdsum (Nattizhu) 0.1.0
 ";
 
-/// What `--help` prints.
-pub const HELP: &str = "Usage: rmdsum [OPTION]... [FILE]...
+/// What `--help` prints behind `Usage: ` and the program's name.
+pub const HELP: &str = " [OPTION]... [FILE]...
 Print the RIPEMD digests of files, or check lists of them.
 
 Without a FILE, or where FILE is -, read standard input.

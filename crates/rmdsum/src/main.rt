@@ -12,23 +12,25 @@ mod refusals;
 mod switches;
 mod system;
 
-use arguments::{Names, Request};
+use arguments::Request;
 use help::{HELP, VERSION};
 use messages::{Message, Remarks, say};
-use names::{Read, read_names};
+use names::Names;
 use ripemd_files::checking::check_list;
 use ripemd_files::fault::Fault;
 use ripemd_files::list::Rules;
 use ripemd_files::printing::{Style, print_digests};
 use ripemd_files::verdict::Options;
 use ripemd_files::{Layout, Variant};
-use std::alloc::AllocError;
-use std::io::{BufReader, LineWriter, Write};
+use std::alloc::{AllocError, Global};
+use std::env;
+use std::env::VarError;
+use std::io::{ErrorKind, Write};
 use std::process::ExitCode;
-use system::{Source, System, is_input};
+use system::{Lines, Source, System, is_input};
 
-// How much of a list is read at once.
-const LIST_BUFFER: usize = 1 << 16;
+// The status of a run that writes to a closed pipe, as a shell shows it for one that SIGPIPE ends.
+const CLOSED: u8 = 128 + 13;
 
 // How lists are checked.
 #[derive(Clone, Copy)]
@@ -38,20 +40,20 @@ struct Check {
     progress: bool,
 }
 
-// The names of files, and whether all could be had.
-fn take_names(rt: &HostRuntime, names: Names) -> Result<Read, AllocError> {
-    match names {
-        Names::Operands(names) => Ok(Read {
-            names,
-            success: true,
-        }),
-        Names::From(file) => read_names(rt, file.as_slice()),
+// The bytes of names.
+fn slices_of(alloc: Global, names: &[Vec<u8>]) -> Result<Vec<&[u8]>, AllocError> {
+    let mut slices = Vec::with_capacity(alloc, names.len())?;
+    for name in names {
+        slices.push(name.as_slice())?;
     }
+    Ok(slices)
 }
 
-// Writes a text. Whether that is done.
-fn print<W: Write>(out: &mut W, text: &str) -> Result<bool, Fault> {
-    out.write_all(text.as_bytes()).map_err(Fault::Write)?;
+// Writes a text, in parts. Whether that is done.
+fn print<W: Write>(out: &mut W, parts: &[&[u8]]) -> Result<bool, Fault> {
+    for part in parts {
+        out.write_all(part).map_err(Fault::Write)?;
+    }
     Ok(true)
 }
 
@@ -66,15 +68,13 @@ fn check_one<W: Write>(
     let source = match Source::open(rt, name) {
         Ok(source) => source,
         Err(error) => {
-            say(rt, Message::Unreadable(name, error));
+            say(rt, Message::Unreadable(name, error)).map_err(Fault::Write)?;
             return Ok(false);
         }
     };
     let from_input = is_input(name);
     let shown = if from_input { b"standard input" } else { name };
-    let mut reader = BufReader::with_capacity(rt.alloc(), LIST_BUFFER, source).map_err(
-        |_| AllocError,
-    )?;
+    let mut reader = Lines::new(rt, source, b'\n')?;
     check_list(
         rt.alloc(),
         &System::new(rt, check.progress),
@@ -94,23 +94,59 @@ fn check_one<W: Write>(
 fn check_all<W: Write>(
     rt: &HostRuntime,
     check: Check,
-    names: &[Vec<u8>],
+    mut names: Names,
     out: &mut W,
 ) -> Result<bool, Fault> {
     let mut layout = None;
     let mut success = true;
-    for name in names {
-        let checked = check_one(rt, check, name.as_slice(), &mut layout, out)?;
-        success &= checked;
+    for _ in 0..u64::MAX {
+        let some = names.next(rt)?;
+        if some.is_empty() {
+            break;
+        }
+        for name in &some {
+            let checked = check_one(rt, check, name.as_slice(), &mut layout, out)?;
+            success &= checked;
+        }
     }
-    Ok(success)
+    Ok(success && names.success)
+}
+
+// Prints the digests of files. Whether all could be read.
+fn print_all<W: Write>(
+    rt: &HostRuntime,
+    style: Style,
+    progress: bool,
+    mut names: Names,
+    out: &mut W,
+) -> Result<bool, Fault> {
+    let mut success = true;
+    for _ in 0..u64::MAX {
+        let some = names.next(rt)?;
+        if some.is_empty() {
+            break;
+        }
+        let printed = print_digests(
+            rt.alloc(),
+            &System::new(rt, progress),
+            style,
+            &slices_of(rt.alloc(), some.as_slice())?,
+            out,
+            &mut Remarks::on_files(rt),
+        )?;
+        success &= printed;
+    }
+    Ok(success && names.success)
 }
 
 // Does what is asked for. Whether all could be done.
 fn perform<W: Write>(rt: &HostRuntime, request: Request, out: &mut W) -> Result<bool, Fault> {
     match request {
-        Request::Help => print(out, HELP),
-        Request::Version => print(out, VERSION),
+        Request::Help => {
+            let program = arguments::program(rt, rt.alloc())?;
+            print(out, &[b"Usage: ", program.as_slice(), HELP.as_bytes()])
+        }
+        Request::Version => print(out, &[VERSION.as_bytes()]),
         Request::Print {
             variant,
             form,
@@ -123,16 +159,7 @@ fn perform<W: Write>(rt: &HostRuntime, request: Request, out: &mut W) -> Result<
                 form,
                 ending,
             };
-            let read = take_names(rt, names)?;
-            let printed = print_digests(
-                rt.alloc(),
-                &System::new(rt, progress),
-                style,
-                read.names.as_slice(),
-                out,
-                &mut Remarks::on_files(rt),
-            )?;
-            Ok(printed && read.success)
+            print_all(rt, style, progress, Names::new(rt, names)?, out)
         }
         Request::Check {
             only,
@@ -145,9 +172,7 @@ fn perform<W: Write>(rt: &HostRuntime, request: Request, out: &mut W) -> Result<
                 options,
                 progress,
             };
-            let read = take_names(rt, names)?;
-            let checked = check_all(rt, check, read.names.as_slice(), out)?;
-            Ok(checked && read.success)
+            check_all(rt, check, Names::new(rt, names)?, out)
         }
     }
 }
@@ -155,15 +180,11 @@ fn perform<W: Write>(rt: &HostRuntime, request: Request, out: &mut W) -> Result<
 // Does what the arguments ask for. Whether all could be done.
 fn run(rt: &HostRuntime) -> Result<bool, Fault> {
     let arguments = arguments::collect(rt, rt.alloc())?;
-    match arguments::parse(rt.alloc(), arguments.as_slice())? {
-        Ok(request) => {
-            let mut out = LineWriter::new(rt.alloc(), rt.stdout()).map_err(|_| AllocError)?;
-            let success = perform(rt, request, &mut out)?;
-            out.flush().map_err(Fault::Write)?;
-            Ok(success)
-        }
+    let operands_last = !matches!(env::var(rt, "POSIXLY_CORRECT"), Err(VarError::NotPresent));
+    match arguments::parse(rt.alloc(), operands_last, arguments.as_slice())? {
+        Ok(request) => { perform(rt, request, &mut rt.stdout()) }
         Err(misuse) => {
-            say(rt, Message::Misuse(&misuse));
+            say(rt, Message::Misuse(&misuse)).map_err(Fault::Write)?;
             Ok(false)
         }
     }
@@ -173,8 +194,9 @@ fn main(rt: HostRuntime) -> ExitCode {
     match run(&rt) {
         Ok(true) => ExitCode::SUCCESS,
         Ok(false) => ExitCode::from(1),
+        Err(Fault::Write(error)) if error.kind() == ErrorKind::BrokenPipe => ExitCode::from(CLOSED),
         Err(fault) => {
-            say(&rt, Message::Fault(&fault));
+            let _ = say(&rt, Message::Fault(&fault));
             ExitCode::from(1)
         }
     }

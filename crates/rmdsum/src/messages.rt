@@ -2,13 +2,14 @@
 
 ghost use Rattle.std.specs.Prelude.{None};
 
-use crate::quoting::{quoteaf, quotef};
+use crate::arguments::program;
+use crate::quoting::{Charset, quoteaf, quotef};
 use crate::refusals::Misuse;
 use ripemd_files::Variant;
 use ripemd_files::fault::Fault;
 use ripemd_files::log::{Complaint, Log};
 use std::io;
-use std::io::Write;
+use std::io::{ErrorKind, Write};
 
 /// What is said, behind the program's name.
 #[derive(Clone, Copy)]
@@ -31,24 +32,38 @@ pub enum Message<'a> {
     InputName,
 }
 
-/// Says something. There is nowhere to report it to if that fails.
-pub fn say(rt: &HostRuntime, message: Message<'_>) {
-    let _ = try_say(rt, message);
+/// Says something. It fails if nobody reads it any more; of another failure nothing is said.
+pub fn say(rt: &HostRuntime, message: Message<'_>) -> io::Result<()> {
+    match try_say(rt, message) {
+        Err(error) if error.kind() == ErrorKind::BrokenPipe => Err(error),
+        _ => Ok(()),
+    }
 }
 
 fn try_say(rt: &HostRuntime, message: Message<'_>) -> io::Result<()> {
-    let mut text = Vec::from_slice(rt.alloc(), b"rmdsum: ")?;
-    push_message(rt, &mut text, message)?;
+    let program = program(rt, rt.alloc())?;
+    let mut text = Vec::new(rt.alloc());
+    text.extend_from_slice(program.as_slice())?;
+    text.extend_from_slice(b": ")?;
+    push_message(rt, &mut text, program.as_slice(), message)?;
     text.push(b'\n')?;
     rt.stderr().write_all(text.as_slice())
 }
 
 // Adds what is said.
-fn push_message(rt: &HostRuntime, text: &mut Vec<u8>, message: Message<'_>) -> io::Result<()> {
+fn push_message(
+    rt: &HostRuntime,
+    text: &mut Vec<u8>,
+    program: &[u8],
+    message: Message<'_>,
+) -> io::Result<()> {
+    let charset = Charset::of(rt);
     match message {
         Message::Misuse(misuse) => {
-            text.extend_from_slice(misuse.text(rt.alloc())?.as_slice())?;
-            text.extend_from_slice(b"\nTry 'rmdsum --help' for more information.")?;
+            text.extend_from_slice(misuse.text(rt.alloc(), charset)?.as_slice())?;
+            text.extend_from_slice(b"\nTry '")?;
+            text.extend_from_slice(program)?;
+            text.extend_from_slice(b" --help' for more information.")?;
             Ok(())
         }
         Message::Fault(fault) => {
@@ -59,23 +74,25 @@ fn push_message(rt: &HostRuntime, text: &mut Vec<u8>, message: Message<'_>) -> i
             Ok(())
         }
         Message::Unreadable(name, error) => {
-            quotef(text, name)?;
+            quotef(text, charset, name)?;
             push_error(rt, text, error)
         }
-        Message::List(list, hash, complaint) => push_complaint(text, list, hash, complaint),
+        Message::List(list, hash, complaint) => push_complaint(
+            text, charset, list, hash, complaint,
+        ),
         Message::NamesUnopened(name, error) => {
             text.extend_from_slice(b"cannot open ")?;
-            quoteaf(text, name)?;
+            quoteaf(text, charset, name)?;
             text.extend_from_slice(b" for reading")?;
             push_error(rt, text, error)
         }
         Message::NamesUnread(name, error) => {
-            quotef(text, name)?;
+            quotef(text, charset, name)?;
             text.extend_from_slice(b": read error")?;
             push_error(rt, text, error)
         }
         Message::EmptyName(name, number) => {
-            quotef(text, name)?;
+            quotef(text, charset, name)?;
             write!(text, ":{number}: invalid zero-length file name")
         }
         Message::InputName => write!(
@@ -88,6 +105,7 @@ fn push_message(rt: &HostRuntime, text: &mut Vec<u8>, message: Message<'_>) -> i
 // Adds what is wrong with a list.
 fn push_complaint(
     text: &mut Vec<u8>,
+    charset: Charset,
     list: &[u8],
     hash: &str,
     complaint: Complaint,
@@ -110,22 +128,22 @@ fn push_complaint(
             write!(text, "WARNING: {count} computed checksums did NOT match")
         }
         Complaint::Misformatted(number) => {
-            quotef(text, list)?;
+            quotef(text, charset, list)?;
             write!(
                 text,
                 ": {number}: improperly formatted {hash} checksum line"
             )
         }
         Complaint::NoLines => {
-            quotef(text, list)?;
+            quotef(text, charset, list)?;
             write!(text, ": no properly formatted checksum lines found")
         }
         Complaint::NothingVerified => {
-            quotef(text, list)?;
+            quotef(text, charset, list)?;
             write!(text, ": no file was verified")
         }
         Complaint::Unreadable => {
-            quotef(text, list)?;
+            quotef(text, charset, list)?;
             write!(text, ": read error")
         }
     }
@@ -176,11 +194,11 @@ impl<'a> Remarks<'a> {
 impl Log for Remarks<'_> {
     ghost said = { λ remarks. None };
 
-    fn unreadable(&mut self, name: &[u8], error: io::Error) {
-        say(self.rt, Message::Unreadable(name, error));
+    fn unreadable(&mut self, name: &[u8], error: io::Error) -> io::Result<()> {
+        say(self.rt, Message::Unreadable(name, error))
     }
 
-    fn complain(&mut self, complaint: Complaint) {
-        say(self.rt, Message::List(self.list, self.hash, complaint));
+    fn complain(&mut self, complaint: Complaint) -> io::Result<()> {
+        say(self.rt, Message::List(self.list, self.hash, complaint))
     }
 }

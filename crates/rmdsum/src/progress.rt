@@ -1,6 +1,6 @@
 //! How far the reading of a file is, on a terminal.
 
-use crate::quoting::quotef;
+use crate::quoting::{Charset, quotef};
 use std::alloc::{AllocError, Global};
 use std::io;
 use std::io::Write;
@@ -34,7 +34,7 @@ impl Progress {
     pub fn new(rt: &HostRuntime, name: &[u8], size: Option<u64>) -> io::Result<Progress> {
         Ok(Progress {
             rt: *rt,
-            label: label(rt.alloc(), name)?,
+            label: label(rt.alloc(), Charset::of(rt), name)?,
             size,
             taken: 0,
             start: Instant::now(rt)?,
@@ -82,9 +82,9 @@ impl Progress {
 }
 
 // A name as it is shown: its end, if it is long.
-fn label(alloc: Global, name: &[u8]) -> Result<Vec<u8>, AllocError> {
+fn label(alloc: Global, charset: Charset, name: &[u8]) -> Result<Vec<u8>, AllocError> {
     let mut quoted = Vec::new(alloc);
-    quotef(&mut quoted, name)?;
+    quotef(&mut quoted, charset, name)?;
     if quoted.len() <= SHOWN {
         return Ok(quoted);
     }

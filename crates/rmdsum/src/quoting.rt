@@ -1,24 +1,63 @@
 //! Names and words as coreutils shows them in messages.
 //!
-//! The printable characters of ASCII and all from U+00A0 on are shown; every other byte is escaped.
+//! The printable characters of ASCII are shown and, in a locale of UTF-8, all from U+00A0 on; every other byte is
+//! escaped.
 
 use std::alloc::AllocError;
-use std::str;
+use std::env::VarError;
+use std::{env, str};
+
+/// The characters of the locale.
+#[derive(Clone, Copy, PartialEq, Eq)]
+pub enum Charset {
+    Ascii,
+    Utf8,
+}
+
+impl Charset {
+    /// That of the locale which `LC_ALL`, `LC_CTYPE` or `LANG` names: the first that is set and not empty.
+    pub fn of(rt: &HostRuntime) -> Charset {
+        for variable in ["LC_ALL", "LC_CTYPE", "LANG"] {
+            match env::var(rt, variable) {
+                Ok(locale) if !locale.is_empty() => return Charset::of_locale(locale.as_str()),
+                Ok(_) | Err(VarError::NotPresent) => {}
+                Err(_) => return Charset::Ascii,
+            }
+        }
+        Charset::Ascii
+    }
+
+    // That of the locale of a name, as `de_DE.UTF-8` or `C.utf8`.
+    fn of_locale(name: &str) -> Charset {
+        let (_, charset) = name.split_once('.').unwrap_or(("", ""));
+        let (charset, _) = charset.split_once('@').unwrap_or((charset, ""));
+        if charset.eq_ignore_ascii_case("utf-8") || charset.eq_ignore_ascii_case("utf8") {
+            Charset::Utf8
+        } else {
+            Charset::Ascii
+        }
+    }
+
+    // Whether it has this character beyond ASCII, and shows it.
+    fn shows(self, character: char) -> bool {
+        self == Charset::Utf8 && character >= '\u{a0}'
+    }
+}
 
 /// Adds a name as it stands in front of a colon: in a shell's quotes, as by `quoteaf`, or without
 /// them where a shell reads it as it stands and it has no colon.
-pub fn quotef(text: &mut Vec<u8>, name: &[u8]) -> Result<(), AllocError> {
-    if is_plain(name) {
+pub fn quotef(text: &mut Vec<u8>, charset: Charset, name: &[u8]) -> Result<(), AllocError> {
+    if is_plain(charset, name) {
         text.extend_from_slice(name)?;
         return Ok(());
     }
-    quoteaf(text, name)
+    quoteaf(text, charset, name)
 }
 
 /// Adds a name in a shell's quotes: `'a file'`, `'a'$'\n''b'`, `"it's"`. A shell reads it as this
 /// name.
-pub fn quoteaf(text: &mut Vec<u8>, name: &[u8]) -> Result<(), AllocError> {
-    if fits_double_quotes(name) {
+pub fn quoteaf(text: &mut Vec<u8>, charset: Charset, name: &[u8]) -> Result<(), AllocError> {
+    if fits_double_quotes(charset, name) {
         text.push(b'"')?;
         text.extend_from_slice(name)?;
         text.push(b'"')?;
@@ -28,7 +67,7 @@ pub fn quoteaf(text: &mut Vec<u8>, name: &[u8]) -> Result<(), AllocError> {
     let mut escaping = false;
     for chunk in name.utf8_chunks() {
         for character in chunk.valid().chars() {
-            escaping = push_character(text, escaping, character)?;
+            escaping = push_character(text, charset, escaping, character)?;
         }
         for byte in chunk.invalid() {
             escaping = set_escaping(text, escaping, true)?;
@@ -55,7 +94,7 @@ pub fn quote(text: &mut Vec<u8>, word: &[u8]) -> Result<(), AllocError> {
 }
 
 // Whether a name stands without quotes.
-fn is_plain(name: &[u8]) -> bool {
+fn is_plain(charset: Charset, name: &[u8]) -> bool {
     let Ok(characters) = str::from_utf8(name) else {
         return false;
     };
@@ -65,13 +104,13 @@ fn is_plain(name: &[u8]) -> bool {
             ':' => false,
             '#' | '~' => place != 0,
             '{' | '}' => !is_alone,
-            _ => is_ordinary(character),
+            _ => is_ordinary(charset, character),
         })
 }
 
 // Whether a name stands in double quotes: it has an apostrophe, and nothing that a shell reads as
 // anything else there.
-fn fits_double_quotes(name: &[u8]) -> bool {
+fn fits_double_quotes(charset: Charset, name: &[u8]) -> bool {
     let Ok(characters) = str::from_utf8(name) else {
         return false;
     };
@@ -79,27 +118,32 @@ fn fits_double_quotes(name: &[u8]) -> bool {
         && characters.char_indices().all(|(place, character)| match character {
             ' ' | '\'' => true,
             '#' | '~' => place == 0,
-            _ => is_ordinary(character),
+            _ => is_ordinary(charset, character),
         })
 }
 
 // Whether a character means nothing to a shell, wherever it stands.
-fn is_ordinary(character: char) -> bool {
+fn is_ordinary(charset: Charset, character: char) -> bool {
     match character {
         'a'..='z' | 'A'..='Z' | '0'..='9' => true,
         '%' | '+' | ',' | '-' | '.' | '/' | ':' | '@' | ']' | '_' => true,
-        _ => character >= '\u{a0}',
+        _ => charset.shows(character),
     }
 }
 
 // Adds a character between a shell's quotes. The flag says whether these are those of escapes, and
 // the result whether they are then.
-fn push_character(text: &mut Vec<u8>, escaping: bool, character: char) -> Result<bool, AllocError> {
+fn push_character(
+    text: &mut Vec<u8>,
+    charset: Charset,
+    escaping: bool,
+    character: char,
+) -> Result<bool, AllocError> {
     if character == '\'' {
         text.extend_from_slice(b"'\\''")?;
         return Ok(false);
     }
-    let is_shown = matches!(character, ' '..='~') || character >= '\u{a0}';
+    let is_shown = matches!(character, ' '..='~') || charset.shows(character);
     let escaping = set_escaping(text, escaping, !is_shown)?;
     let mut buffer = [0; 4];
     let bytes = character.encode_utf8(&mut buffer).as_bytes();

@@ -1,6 +1,6 @@
 //! Why arguments are refused.
 
-use crate::quoting::{quote, quoteaf};
+use crate::quoting::{Charset, quote, quoteaf};
 use crate::switches::{Flag, Parameter, SWITCHES, around_equals};
 use std::alloc::{AllocError, Global};
 
@@ -37,14 +37,14 @@ pub enum Misuse {
 
 impl Misuse {
     /// What the program says of it, behind its own name and a colon, without the last newline.
-    pub fn text(&self, alloc: Global) -> Result<Vec<u8>, AllocError> {
+    pub fn text(&self, alloc: Global, charset: Charset) -> Result<Vec<u8>, AllocError> {
         let mut text = Vec::new(alloc);
-        self.push_text(&mut text)?;
+        self.push_text(&mut text, charset)?;
         Ok(text)
     }
 
     // Adds what the program says of it.
-    fn push_text(&self, text: &mut Vec<u8>) -> Result<(), AllocError> {
+    fn push_text(&self, text: &mut Vec<u8>, charset: Charset) -> Result<(), AllocError> {
         match self {
             Misuse::UnknownLong(option) => {
                 push_parts(text, &[b"unrecognized option '--", option.as_slice(), b"'"])
@@ -99,7 +99,7 @@ impl Misuse {
             ),
             Misuse::ExtraOperand(operand) => {
                 push_parts(text, &[b"extra operand "])?;
-                quoteaf(text, operand.as_slice())?;
+                quoteaf(text, charset, operand.as_slice())?;
                 push_parts(
                     text,
                     &[b"\nfile operands cannot be combined with --files0-from"],

@@ -18,9 +18,9 @@ groups-preserved g c = record {
 pub returns-in-Ended : goal.returns-in-Ended
 returns-in-Ended g c =
     checks_ended _ _ _ _ _ _ _ _ _ _ _ _ _ _ _ _ _ _ c.groups.invariant.so_far c.in_ok-group.ensures c.in_ok-check_group.ensures c.requires.start
-    (search (rules, ap goes_on c.in-Ended.is)) _ _ _ c.in-Ended.is c.in_ok-success-in-Ended.ensures.wrote c.in_ok-success-in-Ended.ensures.success
+    (search (rules, ap goes_on c.in-Ended.is)) _ _ c.in-Ended.is c.in_ok-success-in-Ended.ensures.said c.in_ok-success-in-Ended.ensures.success
 
 pub returns-in-Failed : goal.returns-in-Failed
 returns-in-Failed g c =
     checks_failed _ _ _ _ _ _ _ _ _ _ _ _ _ _ _ _ _ _ c.groups.invariant.so_far c.in_ok-group.ensures c.in_ok-check_group.ensures c.requires.start
-    (search (rules, ap goes_on c.in-Failed.is)) _ _ c.in_ok-remark-in-Failed.ensures
+    (search (rules, ap goes_on c.in-Failed.is)) _ c.in_ok-remark-in-Failed.ensures

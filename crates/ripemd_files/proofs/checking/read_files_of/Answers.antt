@@ -1,7 +1,7 @@
-use Rattle.ripemd_files.proofs.Checked.{outcomes_of_one}
+use Rattle.ripemd_files.proofs.Zips.{first_through}
+use Rattle.ripemd_files.proofs.Checked.{outcome_of_named}
 use Rattle.ripemd_files.proofs.checking.read_files_of.Goals as goal
 
-pub returns-in_ok-outcomes-in-Some : goal.returns-in_ok-outcomes-in-Some
-returns-in_ok-outcomes-in-Some g c =
-    outcomes_of_one _ _ _ _ c.in-Some.ensures
-    (rw (c.as_slice.ensures.value, c.in_ok-names-in-Some.ensures) at c.in_ok-outcomes-in-Some.ensures)
+pub returns : goal.returns
+returns g c =
+    first_through _ _ _ _ _ _ (outcome_of_named _ _) c.in_ok-names.ensures (rw c.as_slice.ensures.value at c.in_ok-outcomes.ensures)

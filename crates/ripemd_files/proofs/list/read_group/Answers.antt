@@ -9,7 +9,7 @@ returns-in-Last g c =
     let before = c.lines.invariant.reads in
     record {
       rest = [];
-      reads = reads_last _ _ _ _ _ _ _ _ _ before _ _ _ _ (rw c.as_slice.ensures.value at c.in_ok-misformatted-in-Last.ensures.takes) piece;
+      reads = reads_last _ _ _ _ _ _ _ _ _ before _ _ _ _ (rw c.as_slice-in-Last.ensures.value at c.in_ok-misformatted-in-Last.ensures.takes) piece;
       ended = (refl, ended_since _ _ _ _ (taken _ _ _ _ _ (g.R.Read.remaining c.read_piece.new.reader) _ _ _ before) piece.1);
       advanced = λ never. absurd (search (rules, never));
       bounded = λ never. absurd (search (rules, never));
