@@ -899,6 +899,28 @@ def test_no_line_waits_for_the_next_name(stocked):
     assert b"".join(found) == listed(*(untagged(*name) for name in names))(stocked.hash)
 
 
+def test_lists_take_time_by_their_length(stocked):
+    """Each with lines and the beginning of one in each 64 KiB."""
+    room = stocked.sides[1][1]
+    (room / "list-quick").write_bytes((b"\n" * 40000 + b"x" * 25536) * 200)
+    (room / "names").write_bytes((b"\0" * 40000 + b"x" * 25536) * 2)
+    assert ended(stocked.program, ["-c", "list-quick"], room).status == 1
+    assert ended(stocked.program, ["--files0-from=names"], room).error.count(b"\n") == 80001
+
+
+def test_last_name(stocked):
+    """It ends with the file, or has no byte 0: on a terminal no second end is waited for."""
+    keyboard, terminal = os.openpty()
+
+    def how(talk, _):
+        os.write(keyboard, b"b\4\4")
+        yield talk.printed(1)
+    [found] = talks(stocked, ["--files0-from=-"], how, alone=True, stdin=terminal)
+    os.close(keyboard)
+    os.close(terminal)
+    assert found == [untagged(b"b", 3)(stocked.hash) + b"\n"]
+
+
 def test_no_line_waits_for_a_terminal(stocked):
     """Standard input is read twice: a line and the end, and the end."""
     keyboard, terminal = os.openpty()

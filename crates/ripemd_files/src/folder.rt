@@ -20,8 +20,9 @@ pub trait Folder {
         ensures ok { IfOk result ((place self.now).opens name.now) }
         ensures err { IfErr result ((place self.now).refuses name.now) };
 
-    /// Whether the file of a name is known to be a regular one of less than 64 KiB, so that no read of it waits long.
-    /// Several such files are read before their lines are written, and before any other file all lines are.
+    /// Whether the file of a name is, as far as is known before it is opened, a regular one of less than 64 KiB, for
+    /// which nothing has to wait long. Several such files are read before their lines are written, and before any
+    /// other file all lines are.
     fn is_short(&self, name: &[u8]) -> bool;
 
     /// Reads bytes of a file to the front of the buffer, and answers how many: 0 at its end.

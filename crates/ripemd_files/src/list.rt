@@ -11,7 +11,7 @@ use crate::line::{Layout, Line, Variant};
 use crate::piece::{Piece, read_piece};
 use crate::reading::read_line;
 use std::alloc::{AllocError, Global};
-use std::io::BufRead;
+use std::io::{BufRead, BufReader, Read};
 
 /// Which lines of a list count.
 #[derive(Clone, Copy, PartialEq, Eq, Debug)]
@@ -27,6 +27,12 @@ pub trait ReadList: BufRead {
     /// Whether its next line is at hand, so that reading it does not wait. Before a read that may wait, what the
     /// lines so far say is written.
     fn has_line(&self) -> bool;
+}
+
+impl<R: Read> ReadList for BufReader<R> {
+    fn has_line(&self) -> bool {
+        self.buffer().contains(&b'\n')
+    }
 }
 
 // How far a list is read: its layout, if an untagged line said it, and the number of the next line.

@@ -31,5 +31,5 @@ With --check only:
   -w, --warn             tell of each line that is improperly formatted
 
 Binary and text files are read alike. The exit status is 0 if each file was
-read and, with --check, has its digest, else 1.
+read and, with --check, has its digest, 141 if a reader closed its pipe, else 1.
 ";

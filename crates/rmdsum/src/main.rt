@@ -27,7 +27,7 @@ use std::env;
 use std::env::VarError;
 use std::io::{ErrorKind, Write};
 use std::process::ExitCode;
-use system::{Lines, Source, System, is_input};
+use system::{Source, System, buffered, is_input};
 
 // The status of a run that writes to a closed pipe, as a shell shows it for one that SIGPIPE ends.
 const CLOSED: u8 = 128 + 13;
@@ -74,7 +74,7 @@ fn check_one<W: Write>(
     };
     let from_input = is_input(name);
     let shown = if from_input { b"standard input" } else { name };
-    let mut reader = Lines::new(rt, source, b'\n')?;
+    let mut reader = buffered(rt, source)?;
     check_list(
         rt.alloc(),
         &System::new(rt, check.progress),
@@ -94,22 +94,27 @@ fn check_one<W: Write>(
 fn check_all<W: Write>(
     rt: &HostRuntime,
     check: Check,
-    mut names: Names,
+    names: arguments::Names,
     out: &mut W,
 ) -> Result<bool, Fault> {
+    let Some(mut names) = Names::open(rt, names)? else {
+        return Ok(false);
+    };
     let mut layout = None;
     let mut success = true;
     for _ in 0..u64::MAX {
-        let some = names.next(rt)?;
-        if some.is_empty() {
+        let batch = names.next(rt)?;
+        if batch.names.is_empty() && batch.wrong.is_none() {
             break;
         }
-        for name in &some {
+        for name in &batch.names {
             let checked = check_one(rt, check, name.as_slice(), &mut layout, out)?;
             success &= checked;
         }
+        let named = names.tell(rt, batch.wrong)?;
+        success &= named;
     }
-    Ok(success && names.success)
+    Ok(success)
 }
 
 // Prints the digests of files. Whether all could be read.
@@ -117,26 +122,30 @@ fn print_all<W: Write>(
     rt: &HostRuntime,
     style: Style,
     progress: bool,
-    mut names: Names,
+    names: arguments::Names,
     out: &mut W,
 ) -> Result<bool, Fault> {
+    let Some(mut names) = Names::open(rt, names)? else {
+        return Ok(false);
+    };
     let mut success = true;
     for _ in 0..u64::MAX {
-        let some = names.next(rt)?;
-        if some.is_empty() {
+        let batch = names.next(rt)?;
+        if batch.names.is_empty() && batch.wrong.is_none() {
             break;
         }
         let printed = print_digests(
             rt.alloc(),
             &System::new(rt, progress),
             style,
-            &slices_of(rt.alloc(), some.as_slice())?,
+            &slices_of(rt.alloc(), batch.names.as_slice())?,
             out,
             &mut Remarks::on_files(rt),
         )?;
-        success &= printed;
+        let named = names.tell(rt, batch.wrong)?;
+        success &= printed && named;
     }
-    Ok(success && names.success)
+    Ok(success)
 }
 
 // Does what is asked for. Whether all could be done.
@@ -159,7 +168,7 @@ fn perform<W: Write>(rt: &HostRuntime, request: Request, out: &mut W) -> Result<
                 form,
                 ending,
             };
-            print_all(rt, style, progress, Names::new(rt, names)?, out)
+            print_all(rt, style, progress, names, out)
         }
         Request::Check {
             only,
@@ -172,7 +181,7 @@ fn perform<W: Write>(rt: &HostRuntime, request: Request, out: &mut W) -> Result<
                 options,
                 progress,
             };
-            check_all(rt, check, Names::new(rt, names)?, out)
+            check_all(rt, check, names, out)
         }
     }
 }
@@ -196,8 +205,8 @@ fn main(rt: HostRuntime) -> ExitCode {
         Ok(false) => ExitCode::from(1),
         Err(Fault::Write(error)) if error.kind() == ErrorKind::BrokenPipe => ExitCode::from(CLOSED),
         Err(fault) => {
-            let _ = say(&rt, Message::Fault(&fault));
-            ExitCode::from(1)
+            let is_said = say(&rt, Message::Fault(&fault)).is_ok();
+            ExitCode::from(if is_said { 1 } else { CLOSED })
         }
     }
 }

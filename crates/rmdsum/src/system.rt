@@ -4,10 +4,9 @@ ghost use Rattle.ripemd_files.specs.Readings.{any_place};
 
 use crate::progress::Progress;
 use ripemd_files::folder::Folder;
-use ripemd_files::list::ReadList;
 use std::alloc::AllocError;
 use std::fs::File;
-use std::io::{BufRead, BufReader, ErrorKind, IsTerminal, Read, Stdin};
+use std::io::{BufReader, ErrorKind, IsTerminal, Read, Stdin};
 use std::{fs, io, str};
 
 /// What is read: standard input or a file.
@@ -58,66 +57,9 @@ pub fn is_input(name: &[u8]) -> bool {
     matches!(name, b"-")
 }
 
-// How much of a list is read at once.
-const BUFFER: usize = 1 << 16;
-
-/// What is read line by line, or name by name, through a buffer.
-#[derive(Drop)]
-pub struct Lines {
-    reader: BufReader<Source>,
-    end: u8,
-    // How many bytes of the buffer are whole lines.
-    whole: usize,
-}
-
-impl Lines {
-    /// The lines of a source, each ended by this byte.
-    pub fn new(rt: &HostRuntime, source: Source, end: u8) -> Result<Lines, AllocError> {
-        let reader = BufReader::with_capacity(rt.alloc(), BUFFER, source).map_err(|_| AllocError)?;
-        Ok(Lines {
-            reader,
-            end,
-            whole: 0,
-        })
-    }
-
-    // Fills the buffer if it is empty, and finds how far its whole lines go. How many bytes it has.
-    fn fill(&mut self) -> io::Result<usize> {
-        let bytes = self.reader.fill_buf()?;
-        let count = bytes.len();
-        self.whole = match bytes.iter().rposition(|byte| *byte == self.end) {
-            Some(last) => last + 1,
-            None => 0,
-        };
-        Ok(count)
-    }
-}
-
-impl Read for Lines {
-    fn read(&mut self, buffer: &mut [u8]) -> io::Result<usize> {
-        self.whole = 0;
-        self.reader.read(buffer)
-    }
-}
-
-impl BufRead for Lines {
-    fn fill_buf(&mut self) -> io::Result<&[u8]> {
-        if self.fill()? == 0 {
-            return Ok(&[]);
-        }
-        self.reader.fill_buf()
-    }
-
-    fn consume(&mut self, amount: usize) {
-        self.whole = self.whole.saturating_sub(amount);
-        self.reader.consume(amount);
-    }
-}
-
-impl ReadList for Lines {
-    fn has_line(&self) -> bool {
-        self.whole != 0
-    }
+/// What a list, or a file of names, is read through: 64 KiB at a time.
+pub fn buffered(rt: &HostRuntime, source: Source) -> Result<BufReader<Source>, AllocError> {
+    BufReader::with_capacity(rt.alloc(), 1 << 16, source).map_err(|_| AllocError)
 }
 
 /// A file that is read, and how far, if that is shown.
@@ -163,7 +105,7 @@ impl Folder for System<'_> {
         let Ok(path) = str::from_utf8(name) else {
             return false;
         };
-        // Files of the kernel that may wait say that they have no bytes.
+        // Most files of the kernel, which may wait, say that they have no bytes.
         !is_input(name)
             && fs::metadata(self.rt, path).is_ok_and(|metadata| {
                 metadata.is_file() && (1..1 << 16).contains(&metadata.len())
