@@ -3,6 +3,14 @@
  * hand on in groups the lists that have such. */
 #include "nattizhu.h"
 
+/* What the functions in Rattle take these types for. */
+_Static_assert(sizeof(nattizhu_variant) == 4, "a variant has 32 bits");
+_Static_assert(sizeof(size_t) == 8, "a length has 64 bits");
+_Static_assert(sizeof(nattizhu_state) == 113, "a state has 113 bytes");
+_Static_assert(sizeof(nattizhu_hmac_state) == 225, "a state of HMAC has 225 bytes");
+_Static_assert(sizeof(nattizhu_message) == 16 && offsetof(nattizhu_message, length) == 8,
+               "a message is an address and a length");
+
 /* Messages of such a list that are handed on at once. */
 enum { GROUP = 128 };
 

@@ -71,7 +71,8 @@
 extern "C" {
 #endif
 
-/* The hash functions, by the bits of their digests. */
+/* The hash functions, by the bits of their digests. The type has 32 bits: compile without
+ * -fshort-enums. */
 typedef enum nattizhu_variant {
   NATTIZHU_RIPEMD128 = 128,
   NATTIZHU_RIPEMD160 = 160,
