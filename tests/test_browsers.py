@@ -261,7 +261,7 @@ def test_cancelled(shown, files):
     begun = time.monotonic()
     shown.choose(files / "one")
     assert shown.ended(3)[2] == ["one", ["read"], ONE]
-    assert time.monotonic() - begun < 3
+    assert time.monotonic() - begun < 2
 
 
 def test_file_that_is_removed(shown, tmp_path, files):

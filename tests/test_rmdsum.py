@@ -900,7 +900,8 @@ def test_no_line_waits_for_the_next_name(stocked):
 
 
 def test_lists_take_time_by_their_length(stocked):
-    """Each with lines and the beginning of one in each 64 KiB."""
+    """Each 64 KiB have short lines and the beginning of a long one, which is not searched again for each of them: that
+    would take longer than a program may."""
     room = stocked.sides[1][1]
     (room / "list-quick").write_bytes((b"\n" * 40000 + b"x" * 25536) * 200)
     (room / "names").write_bytes((b"\0" * 40000 + b"x" * 25536) * 2)
