@@ -28,18 +28,16 @@ pub record IsLastDifference {S : Type 0} (start : S) (step : S → List ℕ → 
   pub different : pair_of c.left ≢ pair_of c.right
   pub later_agree : (i : ℕ) → i < n → index < i → pair_at start step xs (j + i) ≡ pair_at start step ys (k + i)
 
--- what was found among the first n pairs: the last difference, or none, as all agree
+-- what was found among the first n pairs: the last difference, or none, if all agree
 abbrev pub HasFound : {S : Type 0} → S → (S → List ℕ → S) → List (List ℕ) → List (List ℕ) → ℕ → ℕ → ℕ
     → Option (Collision S) → Type 0
 HasFound start step xs ys j k n last =
     MatchOption last (Agree start step xs ys j k n) (IsLastDifference start step xs ys j k n)
 
 module _ {S : Type 0} (start : S) (step : S → List ℕ → S) (xs ys : List (List ℕ)) (j k : ℕ) where
-  -- before the first pair
   pub nothing_found : HasFound start step xs ys j k 0 None
   nothing_found = record { each = λ i h. absurd (omega arith) }
 
-  -- after a pair that agrees
   pub found_before : (n : ℕ) (last : Option (Collision S)) → HasFound start step xs ys j k n last
       → pair_at start step xs (j + n) ≡ pair_at start step ys (k + n) → HasFound start step xs ys j k (n + 1) last
   found_before n None before same = record {
@@ -57,7 +55,6 @@ module _ {S : Type 0} (start : S) (step : S → List ℕ → S) (xs ys : List (L
         before.later_agree (λ h. same);
   }
 
-  -- after a pair that differs
   pub found_now : (n : ℕ) (c : Collision S) → c.left.place ≡ j + n → c.right.place ≡ k + n
       → pair_of c.left ≡ pair_at start step xs (j + n) → pair_of c.right ≡ pair_at start step ys (k + n)
       → pair_of c.left ≢ pair_of c.right → HasFound start step xs ys j k (n + 1) (Some c)
@@ -85,7 +82,7 @@ module _ {S : Type 0} (start : S) (step : S → List ℕ → S) where
       → walk step start (take (p + 1) bs) ≡ state_after step (pair_at start step bs p)
   next_state bs p h = fold_more step start bs p [] h
 
-  -- so does a step of a meeting with that pair
+  -- so does a step of a meeting that has this pair
   pub state_met : (bs : List (List ℕ)) (j i : ℕ) {s : S} (m : Meeting S) → j + i < length bs
       → pair_of m ≡ pair_at start step bs (j + i) → s ≡ step m.state m.block
       → s ≡ walk step start (take (j + (i + 1)) bs)
@@ -98,7 +95,6 @@ module _ {S : Type 0} (start : S) (step : S → List ℕ → S) where
       → walk step start bs ≡ state_after step (pair_at start step bs p)
   last_state bs p h = rw (take_all (p + 1) bs (omega arith)) at (next_state bs p (omega arith))
 
-  -- where walks collide, they end in one state
   pub one_end : (xs ys : List (List ℕ)) (p q : ℕ) → CollideAt start step xs ys p q
       → walk step start xs ≡ walk step start ys
   one_end xs ys p q c =
@@ -117,7 +113,7 @@ module _ {S : Type 0} (start : S) (step : S → List ℕ → S) where
 -- ---- meetings and collisions with the same parts
 
 module _ {S : Type 0} where
-  -- meetings at one place with one pair are one
+  -- meetings with equal places and pairs are equal
   one_meeting : (m other : Meeting S) → m.place ≡ other.place → pair_of m ≡ pair_of other → m ≡ other
   one_meeting m other place pair =
       ap (λ (p : ℕ). meeting_of p (pair_of m)) place ∙ ap (meeting_of other.place) pair
@@ -125,7 +121,7 @@ module _ {S : Type 0} where
       meeting_of : ℕ → Pair S → Meeting S
       meeting_of p pair = record { place = p; state = pair.0; block = pair.1 }
 
-  -- collisions of one left meeting and one right meeting are one
+  -- collisions with equal meetings are equal
   one_collision : (c other : Collision S) → c.left ≡ other.left → c.right ≡ other.right → c ≡ other
   one_collision c other left right =
       ap (λ (m : Meeting S). collision_of m c.right) left ∙ ap (collision_of other.left) right
@@ -135,7 +131,7 @@ module _ {S : Type 0} where
 
 -- ---- all pairs from places j and k on, n of each walk
 
--- from places j and k on both walks have n more blocks, which are all blocks of the shorter
+-- from places j and k on both walks have n more blocks, all the blocks of the shorter walk
 pub record IsCommonEnd (xs ys : List (List ℕ)) (j k n : ℕ) : Type 0 where
   pub left : j ≡ length xs - length ys
   pub right : k ≡ length ys - length xs
@@ -175,7 +171,6 @@ module _ {S : Type 0} (start : S) (step : S → List ℕ → S) (xs ys : List (L
           ]
 
   module _ (p q : ℕ) (collide : CollideAt start step xs ys p q) where
-    -- which of these pairs collide
     index : ℕ
     index = n - (length xs - p)
 
@@ -191,12 +186,10 @@ module _ {S : Type 0} (start : S) (step : S → List ℕ → S) (xs ys : List (L
     unfolding index
     index_right = omega arith
 
-    -- they do not agree
     no_agreement : pair_at start step xs (j + index) ≡ pair_at start step ys (k + index) → ⊥
     no_agreement same = collide.different
         (ap (pair_at start step xs) index_left ∙ same ∙ sym (ap (pair_at start step ys) index_right))
 
-    -- so not all pairs agree
     pub no_collision : Agree start step xs ys j k n → ⊥
     no_collision agree = no_agreement (agree.each index index_within)
 

@@ -11,7 +11,7 @@ use Rattle.ripemd.proofs.LastDifference.{collision_found, only_collision, no_col
 
 module _ {S : Type 0} (start : S) (step : S → List ℕ → S) (a b : List ℕ) (j k n : ℕ)
     (ends : IsCommonEnd (blocks (padded_message a)) (blocks (padded_message b)) j k n) where
-  -- short messages whose pairs all agree are one, since the last block tells their length
+  -- short messages whose pairs all agree are equal, since the last block has their length
   same_message : length a < 2 ^ 61 → length b < 2 ^ 61
       → Agree start step (blocks (padded_message a)) (blocks (padded_message b)) j k n → a ≡ b
   same_message ha hb agree =
@@ -45,7 +45,7 @@ module _ {S : Type 0} (start : S) (step : S → List ℕ → S) (a b : List ℕ)
   abbrev Found : Option (Collision S) → Type 0
   Found = HasFound start step (blocks (padded_message a)) (blocks (padded_message b)) j k n
 
-  -- no difference was found exactly if the messages are one, as their hashes are
+  -- no difference was found exactly if the messages are equal, as their hashes are
   pub none_found : {D : Type 0} (x y : D) → x ≡ y → length a < 2 ^ 61 → length b < 2 ^ 61
       → (last : Option (Collision S)) → Found last → IsNone last ↔ ((a ≡ b) ⊎ (x ≢ y))
   none_found x y same ha hb None agree = (λ none. inl (same_message ha hb agree), λ h. refl)
@@ -57,7 +57,6 @@ module _ {S : Type 0} (start : S) (step : S → List ℕ → S) (a b : List ℕ)
     ],
   )
 
-  -- a difference that was found is a collision
   pub some_found : walk step start (blocks (padded_message a)) ≡ walk step start (blocks (padded_message b))
       → (last : Option (Collision S)) → Found last → IfSome last (IsCollision start step a b)
   some_found same None agree = tt
@@ -70,7 +69,6 @@ module _ {S : Type 0} (start : S) (step : S → List ℕ → S) (a b : List ℕ)
         collide = collision_found start step xs ys j k n ends c same d;
       }
 
-  -- every collision is the one that was found
   pub only_found : (last : Option (Collision S)) → Found last → IsOnlyCollision start step a b last
   only_found None agree other h =
       let xs = blocks (padded_message a) in

@@ -42,7 +42,7 @@ module _ (step : List ℕ → List ℕ → List ℕ) where
 
 -- ---- what a load answers
 
--- an error that can't be leaves a value
+-- if there can be no error, there is a value
 pub is_ok_unless : {T E P : Type 0} (r : Result T E) → IfErr r (λ _. P) → (P → ⊥) → IsOk r
 is_ok_unless (Ok x) err never = refl
 is_ok_unless (Err e) err never = absurd (never err)
@@ -77,7 +77,6 @@ module _ {D S O : Type 0} {step : List ℕ → List ℕ → List ℕ} {is_valid 
       let there : i < length m.saved = omega (arith, saved_count) in
       All-get_or (λ h. is_valid (state step h)) m.saved i h there held.valid
 
-  -- one more hasher
   pub hasher_added : (x : D) (h : History) (more : List D) → meaning x ≡ state step h → more ≡ hashers ++ x ∷ []
       → Holds step is_valid state_bytes meaning saved_bytes bytes_of more arrays digests (add_hasher m h)
   hasher_added x h more same added = record {
@@ -89,7 +88,6 @@ module _ {D S O : Type 0} {step : List ℕ → List ℕ → List ℕ} {is_valid 
     results = held.results;
   }
 
-  -- a hasher changed
   pub hasher_set : (i : ℕ) (x : D) (h : History) → meaning x ≡ state step h
       → Holds step is_valid state_bytes meaning saved_bytes bytes_of (set hashers i x) arrays digests (set_hasher m i h)
   hasher_set i x h same = record {
@@ -99,7 +97,6 @@ module _ {D S O : Type 0} {step : List ℕ → List ℕ → List ℕ} {is_valid 
     results = held.results;
   }
 
-  -- one more array
   pub array_added : (a : S) (h : History) (more : List S) → saved_bytes a ≡ state_bytes (state step h)
       → is_valid (state step h) → more ≡ arrays ++ a ∷ []
       → Holds step is_valid state_bytes meaning saved_bytes bytes_of hashers more digests (add_saved m h)
@@ -118,7 +115,6 @@ module _ {D S O : Type 0} {step : List ℕ → List ℕ → List ℕ} {is_valid 
     results = held.results;
   }
 
-  -- one more digest
   pub digest_added : (d : O) (digest : List ℕ) (more : List O) → bytes_of d ≡ digest → more ≡ digests ++ d ∷ []
       → Holds step is_valid state_bytes meaning saved_bytes bytes_of hashers arrays more (add_digest m digest)
   digest_added d digest more same added = record {

@@ -17,7 +17,7 @@ module _ (tail saved : List ℕ) (is : tail_bytes tail ≡ saved) where
   pub zeros_behind : length tail < 64 → drop (suc (length tail)) saved ≡ replicate (63 - length tail) 0
   zeros_behind short = ap (drop (suc (length tail))) (sym is) ∙ drop_at (length tail ∷ tail) _ (suc (length tail)) refl
 
--- a number, so many bytes, and zeros are those of a tail
+-- a number, as many bytes, and zeros are those of a tail
 pub tail_of_zeros : (saved : List ℕ) → length saved ≡ 64 → get_or saved 0 0 < 64
     → drop (suc (get_or saved 0 0)) saved ≡ replicate (length (drop (suc (get_or saved 0 0)) saved)) 0
     → tail_bytes (take (get_or saved 0 0) (drop 1 saved)) ≡ saved
@@ -40,11 +40,10 @@ module _ {are_words : List ℕ → Type 0} {output : List ℕ → List ℕ} {siz
   place : n ≡ length (output_and_count output h)
   place = core_size ∙ sym (length-output_and_count told h valid)
 
-  -- those of a tail are 64
   pub whole : length bytes ≡ n + 64
   whole = omega (arith, ap length same, length-core_and_tail told h valid, core_size)
 
-  -- the first are those of its core, which is a state of its own
+  -- the first are those of its core, as a state without a tail
   pub core_front : (core : List ℕ) → core ≡ take n bytes → output_and_count output (with_tail h []) ≡ core
   unfolding output_and_count
   core_front core front = sym (front ∙ rw (split, place) (take-append_seam (output_and_count output h) (tail_bytes h.tail)))

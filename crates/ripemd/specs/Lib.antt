@@ -1,10 +1,10 @@
--- The definitions that the contracts cite, from ripemd_block.
+-- The definitions that the contracts cite, of ripemd_block.
 pub use Rattle.ripemd_block.specs.Standard
 pub use Rattle.ripemd_block.specs.States
 pub use Rattle.ripemd_block.specs.OverLists
 -- What the authors published, and worked values.
 pub use Rattle.ripemd_block.specs.Published
--- What has to be trusted besides: the machine of `replay`, and collisions of block functions.
+-- What has to be trusted, too: the machine of `replay`, and collisions of block functions.
 pub mod Replay
 pub mod Collisions
 -- Worked examples of these.
@@ -15,9 +15,9 @@ pub mod Messages
 pub mod Held
 -- Laws for callers: proved.
 pub mod Laws
--- The same, for loops of reads.
+-- Laws for loops of reads.
 pub mod Reading
--- The same, for callers who keep saved bytes between the pieces of a message.
+-- Laws for callers who save a hasher between the pieces of a message.
 pub mod SavedLaws
--- And of the machine.
+-- Laws of the machine of `replay`.
 pub mod ReplayLaws

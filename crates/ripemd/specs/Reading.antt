@@ -1,5 +1,5 @@
--- What a hasher has taken in of a reader, for a caller's own loop of reads. The bytes that a reader
--- has left, where they are known, are std's `remaining`.
+-- What a hasher has taken in of a reader, for a caller's own loop of reads. What a reader has left, if it is known,
+-- is std's `remaining`.
 use Rattle.std.proofs.Common.{◌≡◌, ℕ, ◌+◌, ◌≤◌, Option, sym, ◌∙◌, arith}
 use Rattle.std.proofs.Common.{List, [], ◌++◌, length, take, length-append}
 use Rattle.std.specs.Io.KnownBytes.{Consumes}
@@ -9,26 +9,24 @@ use Rattle.ripemd_block.specs.Standard.Hashing.{hash}
 use Rattle.ripemd_block.specs.States.{HashState, initial_state, fed, finish}
 use Rattle.ripemd_block.specs.Laws.Pieces as laws
 
--- between two of its states a reader gave these bytes, and the hasher is what they make of a new one
+-- the reader gave these bytes between two of its states, and the hasher is a new one, fed with them
 pub record HasTaken (start : List ℕ) (step : List ℕ → List ℕ → List ℕ) (old now : Option (List ℕ)) (h : HashState)
     (bytes : List ℕ) : Type 0 where
   pub given : Consumes old now bytes
   pub state : h ≡ fed step (initial_state start) bytes
 
 module _ {start : List ℕ} {step : List ℕ → List ℕ → List ℕ} where
-  -- before the first read, with a new hasher
   pub taken_nothing : (now : Option (List ℕ)) {h : HashState} → h ≡ initial_state start → HasTaken start step now now h []
   taken_nothing now begun = record {
     given = Consumes-nil now;
     state = begun ∙ sym (laws.fed_nothing step (initial_state start) (omega arith) (omega arith));
   }
 
-  -- what the reader gave with one more read
   pub given_more : {old now : Option (List ℕ)} (next : Option (List ℕ)) {h : HashState} {bytes : List ℕ} (more : List ℕ)
       → HasTaken start step old now h bytes → Consumes now next more → Consumes old next (bytes ++ more)
   given_more next {bytes = bytes} more before read = Consumes-trans _ _ next bytes more before.given read
 
-  -- after one more read, whose bytes the hasher took in
+  -- after one more read, if the hasher took in its bytes
   pub taken_more : {old now next : Option (List ℕ)} {h h' : HashState} {bytes : List ℕ} (more : List ℕ)
       → HasTaken start step old now h bytes → Consumes now next more → h' ≡ fed step h more
       → HasTaken start step old next h' (bytes ++ more)
@@ -37,7 +35,6 @@ module _ {start : List ℕ} {step : List ℕ → List ℕ → List ℕ} where
     state = update ∙ rw before.state (laws.fed_twice step (initial_state start) bytes more);
   }
 
-  -- after a read that gave nothing
   pub taken_no_more : {old now next : Option (List ℕ)} {h : HashState} {bytes : List ℕ}
       → HasTaken start step old now h bytes → Consumes now next [] → HasTaken start step old next h bytes
   taken_no_more {bytes = bytes} before read = record {
@@ -50,6 +47,6 @@ module _ {start : List ℕ} {step : List ℕ → List ℕ → List ℕ} where
       → HasTaken start step old now h bytes → finish step output h ≡ hash start step output bytes
   taken_digest output {bytes = bytes} taken = rw taken.state (laws.finish_fed start step output bytes)
 
--- how many bytes there are with n more from the front of a chunk
+-- the number of bytes with n more from the front of a chunk
 pub length_more : (n : ℕ) (bytes chunk : List ℕ) → n ≤ length chunk → length (bytes ++ take n chunk) ≡ length bytes + n
 length_more n bytes chunk most = omega (arith, length-append bytes (take n chunk), length-take-le n chunk most)

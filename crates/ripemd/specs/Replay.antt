@@ -27,7 +27,7 @@ feed h bytes = record h { bytes = h.bytes ++ bytes }
 abbrev pub state : (List ℕ → List ℕ → List ℕ) → History → HashState
 state step h = fed step h.origin h.bytes
 
--- its digest
+-- the digest of a history
 abbrev pub digest : (List ℕ → List ℕ → List ℕ) → (List ℕ → List ℕ) → History → List ℕ
 digest step output h = finish step output (state step h)
 
@@ -78,7 +78,7 @@ abbrev pub imported : Command → Option (List ℕ)
 imported (Import bytes) = Some bytes.now
 imported _ = None
 
--- that it adds a hasher, a saved state or a digest
+-- it adds a hasher, a saved state or a digest
 abbrev pub Grows : Command → Type 0
 Grows (Update hasher bytes) = ⊥
 Grows (Reset hasher) = ⊥
@@ -86,11 +86,11 @@ Grows _ = ⊤
 
 -- ---- what the machine does
 
--- for a hash that starts from some words, walks by a step and ends in an output. The states that it can be in are the
--- valid ones, and `state_bytes` are the bytes that a state is saved as
+-- for a hash with these start words, step and output. `is_valid` are the states that can occur, and `state_bytes` the
+-- bytes that a state is saved as
 module _ (start : List ℕ) (step : List ℕ → List ℕ → List ℕ) (output : List ℕ → List ℕ)
     (is_valid : HashState → Type 0) (state_bytes : HashState → List ℕ) where
-  -- a hash that is new
+  -- the history of a new hasher
   abbrev pub new_history : History
   new_history = from_state (initial_state start)
 
@@ -98,7 +98,7 @@ module _ (start : List ℕ) (step : List ℕ → List ℕ → List ℕ) (output 
   abbrev pub history : List History → ℕ → History
   history all number = slice_index_or all number new_history
 
-  -- from one state of the machine a command leads to another. A bad command leads nowhere
+  -- a command leads from one state of the machine to another; a bad command leads nowhere
   abbrev pub Does : Command → Machine → Machine → Type 0
   Does New m n = n ≡ add_hasher m new_history
   Does (Update hasher bytes) m n =

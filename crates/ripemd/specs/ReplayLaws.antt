@@ -19,12 +19,12 @@ use Rattle.ripemd.specs.declared.replay.ReplayError.TheVariants.{NoHasher, NoSav
 use Rattle.ripemd.specs.Replay.{Machine, empty_machine, from_state, feed, add_hasher, digest}
 use Rattle.ripemd.specs.Replay.{hasher_of, saved_of, imported, Grows, Does, Runs, Gives, Explains, Stops}
 
--- the digest of a history that began as new is the hash of its bytes
+-- the digest of a history from a new hasher is the hash of its bytes
 pub digest_of_new : (start : List ℕ) (step : List ℕ → List ℕ → List ℕ) (output : List ℕ → List ℕ) (bytes : List ℕ)
     → digest step output (feed (from_state (initial_state start)) bytes) ≡ hash start step output bytes
 digest_of_new = finish_fed
 
--- for the four hashers this is the digest of the variant
+-- of the four hashers it is the digest of the variant
 pub ripemd_of_new : (v : Parameters) (bytes : List ℕ)
     → digest (compress v) word_bytes (feed (from_state (new_state v)) bytes) ≡ ripemd v bytes
 ripemd_of_new v = finish_fed v.start (compress v) word_bytes
@@ -37,7 +37,6 @@ module _ (start : List ℕ) (step : List ℕ → List ℕ → List ℕ) (output 
     (is_valid : HashState → Type 0) (state_bytes : HashState → List ℕ) where
   -- ---- lists that run out of memory
 
-  -- a command that needs room adds one thing
   pub grows : (c : Command) (m n : Machine) → Does start step output is_valid state_bytes c m n → Grows c
       → size n ≡ size m + 1
   grows New m n does room = rw does (omega (arith, length-append m.hashers))
@@ -49,7 +48,6 @@ module _ (start : List ℕ) (step : List ℕ → List ℕ → List ℕ) (output 
   grows (Load i) m n does room = rw does.1 (omega (arith, length-append m.hashers))
   grows (Import x) m n (h, valid, same, is) room = rw is (omega (arith, length-append m.hashers))
 
-  -- any other adds nothing
   pub keeps_its_size : (c : Command) (m n : Machine) → Does start step output is_valid state_bytes c m n → ¬ Grows c
       → size n ≡ size m
   keeps_its_size (Update i x) m n does room = rw does.1 (omega (arith, length-set m.hashers))
@@ -82,7 +80,7 @@ module _ (start : List ℕ) (step : List ℕ → List ℕ → List ℕ) (output 
       let same : b ≡ c = cc in (b, refl, good_first b n (rw (same, ← before) does))
   first_at (b ∷ cs) (suc place) c m n (i, first, others) at does = (b, refl, good_first b i first)
 
-  -- at `OutOfMemory` the list begins with such a command
+  -- with `OutOfMemory` the list begins with such a command
   pub first_of_refused : (cs : List Command) → Stops start step output is_valid state_bytes cs OutOfMemory
       → (c : Command) × (slice_get cs 0 ≡ Some c) × IsGoodFirst c
   first_of_refused cs stops =
@@ -91,7 +89,7 @@ module _ (start : List ℕ) (step : List ℕ → List ℕ → List ℕ) (output 
 
   -- ---- what an error explains
 
-  -- a command that does something names a hasher that is there, and so with saved states and the bytes of states
+  -- a good command names a hasher that is there; so with saved states and imported bytes
   hasher_there : (c : Command) (i : ℕ) (m n : Machine) → Does start step output is_valid state_bytes c m n
       → hasher_of c ≡ Some i → i < length m.hashers
   hasher_there New i m n does named = absurd (cc)
@@ -113,7 +111,7 @@ module _ (start : List ℕ) (step : List ℕ → List ℕ → List ℕ) (output 
   state_there (Import y) x m n (h, valid, same, is) named = (h, valid, cc)
   state_there _ x m n does named = absurd (cc)
 
-  -- so an error that explains it can only be `OutOfMemory`
+  -- so only `OutOfMemory` can explain it
   bad_or_refused : (m n : Machine) (place : ℕ) (c : Command) (error : ReplayError)
       → Does start step output is_valid state_bytes c m n
       → Explains start step output is_valid state_bytes m place c error → error ≡ OutOfMemory
@@ -138,7 +136,7 @@ module _ (start : List ℕ) (step : List ℕ → List ℕ → List ℕ) (output 
   saved_or_state (Import y) i x named state = cc
   saved_or_state _ i x named state = cc
 
-  -- two errors that explain the same command are the same, unless one is `OutOfMemory`
+  -- errors that explain the same command are equal, unless one is `OutOfMemory`
   one_reason : (m : Machine) (place : ℕ) (c : Command) (e f : ReplayError)
       → Explains start step output is_valid state_bytes m place c e
       → Explains start step output is_valid state_bytes m place c f → e ≢ OutOfMemory → f ≢ OutOfMemory → e ≡ f
@@ -171,7 +169,6 @@ module _ (start : List ℕ) (step : List ℕ → List ℕ → List ℕ) (output 
   -- ---- one answer, where bytes are saved of one state
 
   module _ (state_injective : (g h : HashState) → is_valid g → is_valid h → state_bytes g ≡ state_bytes h → g ≡ h) where
-    -- a command leads to one machine
     pub does_once : (c : Command) (m n k : Machine) → Does start step output is_valid state_bytes c m n
         → Does start step output is_valid state_bytes c m k → n ≡ k
     does_once New m n k a b = a ∙ sym b
@@ -185,7 +182,6 @@ module _ (start : List ℕ) (step : List ℕ → List ℕ → List ℕ) (output 
         let same = state_injective g h valid_g valid_h (same_g ∙ sym same_h) in
         a ∙ ap (λ (s : HashState). add_hasher m (from_state s)) same ∙ sym b
 
-    -- and so do some
     pub runs_once : (cs : List Command) (m n k : Machine) → Runs start step output is_valid state_bytes cs m n
         → Runs start step output is_valid state_bytes cs m k → n ≡ k
     runs_once [] m n k a b = a ∙ sym b
@@ -200,7 +196,7 @@ module _ (start : List ℕ) (step : List ℕ → List ℕ → List ℕ) (output 
     gives_once cs ds es (m, runs, are) (n, others, too) =
         sym are ∙ ap (λ (m : Machine). m.digests) (runs_once cs empty_machine m n runs others) ∙ too
 
-    -- and then no error explains anything, but `OutOfMemory`
+    -- if it gives digests, only `OutOfMemory` explains anything
     pub gives_or_stops : (cs : List Command) (ds : List (List ℕ)) (e : ReplayError)
         → Gives start step output is_valid state_bytes cs ds → Stops start step output is_valid state_bytes cs e
         → e ≡ OutOfMemory
@@ -212,7 +208,7 @@ module _ (start : List ℕ) (step : List ℕ → List ℕ → List ℕ) (output 
         bad_or_refused stops.machine l stops.place stops.command e
         (subst (λ (k : Machine). Does start step output is_valid state_bytes stops.command k l) here does) stops.reason
 
-    -- what explains an earlier place can only be `OutOfMemory`
+    -- only `OutOfMemory` explains an earlier place
     earlier : (cs : List Command) (e f : ReplayError) (a : Stops start step output is_valid state_bytes cs e)
         (b : Stops start step output is_valid state_bytes cs f) → a.place < b.place → e ≡ OutOfMemory
     earlier cs e f a b less =
@@ -236,7 +232,7 @@ module _ (start : List ℕ) (step : List ℕ → List ℕ → List ℕ) (output 
         let same_command : c ≡ d = cc in
         one_reason m p c e f reason_p (rw (same_machine, same, same_command) reason_q) not_e not_f
 
-    -- a list has one error, but for the one of memory
+    -- a list has one error, apart from `OutOfMemory`
     pub one_error : (cs : List Command) (e f : ReplayError) → Stops start step output is_valid state_bytes cs e
         → Stops start step output is_valid state_bytes cs f → e ≢ OutOfMemory → f ≢ OutOfMemory → e ≡ f
     one_error cs e f a b not_e not_f =

@@ -1,4 +1,4 @@
--- The bytes that a hasher is saved as, for a caller who keeps them between the pieces of a message.
+-- The bytes that a hasher is saved as, for callers who keep them between the pieces of a message.
 use Rattle.std.proofs.Common.{◌≡◌, ◌≢◌, ℕ, List, [], ◌++◌, ap, sym, ◌∙◌}
 use Rattle.ripemd_block.specs.Standard.Words.{word_bytes}
 use Rattle.ripemd_block.specs.Standard.Compression.{Parameters, compress}
@@ -9,16 +9,16 @@ use Rattle.ripemd_block.specs.Laws.Saved.{hasher_bytes_injective}
 use Rattle.ripemd_block.specs.Laws.Pieces as laws
 use Rattle.ripemd.specs.Laws.{fed_nothing}
 
--- a hasher that was fed this message from the start can occur, and is saved as these bytes
+-- a hasher fed this message from the start can occur, and is saved as these bytes
 unfoldable pub SavesAs : Parameters → List ℕ → List ℕ → Type 0
 SavesAs v message bytes =
     let h : HashState = fed (compress v) (new_state v) message in IsState v h × (hasher_bytes h ≡ bytes)
 
--- these are the bytes that are saved after this message
+-- the bytes that are saved after this message
 pub record IsSavedAfter (v : Parameters) (message bytes : List ℕ) : Type 0 where
   pub is : SavesAs v message bytes
 
--- what is saved of a new hasher
+-- the bytes of a new hasher
 pub saved_first : {v : Parameters} {h : HashState} {bytes : List ℕ} → bytes ≡ hasher_bytes h → h ≡ new_state v
     → IsState v h → IsSavedAfter v [] bytes
 unfolding SavesAs
@@ -33,7 +33,7 @@ unfolding SavesAs
 loaded {v} {message} {bytes} {h} before from valid =
     hasher_bytes_injective v h (fed (compress v) (new_state v) message) valid before.is.0 (from ∙ sym before.is.1)
 
--- what is saved after one more piece
+-- the bytes after one more piece
 pub saved_next : {v : Parameters} {message : List ℕ} (piece : List ℕ) {bytes next : List ℕ} {h h' : HashState}
     → IsSavedAfter v message bytes → hasher_bytes h ≡ bytes → IsState v h → h' ≡ fed (compress v) h piece
     → next ≡ hasher_bytes h' → IsState v h' → IsSavedAfter v (message ++ piece) next
@@ -50,7 +50,7 @@ unfolding SavesAs
 saved_digest {v} {message} before from valid =
     rw (loaded before from valid) (laws.finish_fed v.start (compress v) word_bytes message)
 
--- bytes that are refused are saved after no message
+-- refused bytes are saved after no message
 pub saved_after_none : {v : Parameters} {bytes : List ℕ} → ((h : HashState) → IsState v h → hasher_bytes h ≢ bytes)
     → (message : List ℕ) → ¬ IsSavedAfter v message bytes
 unfolding SavesAs

@@ -1,4 +1,4 @@
-//! The trait of the hashers, and those of the cores below them.
+//! The traits of the hashers.
 
 ghost use Rattle.std.specs.Prelude.{◌≡◌, ℕ, ◌≤◌, List, [], ◌++◌, length};
 ghost use Rattle.ripemd_block.specs.Standard.Hashing.{hash};
@@ -10,13 +10,13 @@ pub use ripemd_block::block_api::{
     HashMeaning, OutputSizeUser, Reset, SerializableState, UpdateCore,
 };
 
-/// A hash function that takes a message in pieces and gives its digest at the end. Its calls
-/// have the names of the Rust crate `digest`, and none of them allocates or fails.
+/// A hash function that takes a message in pieces and gives its digest at the end. The calls have the names of the
+/// Rust crate `digest`, and none of them allocates or fails.
 ///
-/// How a message is cut into pieces makes no difference. Its length in bits is taken modulo 2^64,
-/// as MD4 does, and so is the count of its blocks.
+/// How a message is cut into pieces makes no difference. Its length in bits is taken modulo 2^64, as in MD4, and so
+/// is the count of its blocks.
 pub trait Digest: OutputSizeUser + HashMeaning + Drop {
-    // The words that it starts from.
+    // The words to start from.
     ghost start: { List ℕ };
 
     // The words after a block.
@@ -62,7 +62,7 @@ pub trait Digest: OutputSizeUser + HashMeaning + Drop {
         ensures same { result ≡ self.now }
         ensures valid { Self.is_valid (Self.meaning self.now) };
 
-    /// The bytes of a digest: as many as `output_size()` says, and at most 64.
+    /// The bytes of a digest: `output_size()` of them, at most 64.
     fn output_bytes(out: &Self::Output) -> &[u8]
         ensures bytes { result.now ≡ Self.bytes_of out.now }
         ensures size { length result.now ≡ Self.OUTPUT_SIZE }
@@ -161,7 +161,6 @@ pub trait Digest: OutputSizeUser + HashMeaning + Drop {
         fresh.finalize_reset()
     }
 
-    // No bytes change nothing.
     ghost fed_nothing: { (h : HashState) → Self.is_valid h → fed step h [] ≡ h };
 }
 
@@ -170,7 +169,6 @@ pub trait BlockDigest: Digest {
     /// The block function.
     type Core: BlockFunction<Digest = Self::Output>;
 
-    // The digest of a message is the block function's hash of it.
     ghost digest_is: { (message : List ℕ)
         → Self.bytes_of (hash Self.Core.start_of Self.Core.step_of Self.Core.output_of message)
         ≡ hash Self.start Self.step Self.output message };

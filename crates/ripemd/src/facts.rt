@@ -1,9 +1,8 @@
-//! Worked examples of the definitions, proved. The functions do nothing; their contracts are the
-//! facts.
+//! Worked examples of the definitions. The functions do nothing; their contracts are the facts.
 
 ghost use Rattle.ripemd.specs.Worked.{WorkedPlaces, WorkedCollisions};
 
-/// Collisions of a block function on one bit, and answers that are none since one part is wrong.
+/// Collisions of a block function on one bit, and answers that are none because one part is wrong.
 pub fn collisions()
     ensures places { WorkedPlaces }
     ensures answers { WorkedCollisions }

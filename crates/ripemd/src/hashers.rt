@@ -17,8 +17,8 @@ use std::alloc::AllocError;
 use std::fmt;
 use std::marker::Model;
 
-/// The hasher of a block function, with the padding of MD4 (RFC 1320): its block core, and the tail of the
-/// message after the core's blocks. Contracts see both as one hash state.
+/// The hasher of a block function, with the padding of MD4 (RFC 1320): its block core, and the tail of the message.
+/// Contracts see both as one hash state.
 #[derive(Drop)]
 pub struct BlockHasher<F: ListBlockFunction> {
     pub(crate) core: BlockCore<F>,
@@ -61,7 +61,7 @@ impl<F: ListBlockFunction> Model for BlockHasher<F> {
 }
 
 impl<F: ListBlockFunction> BlockHasher<F> {
-    /// The hasher of a block core and of the tail behind the core's blocks.
+    /// The hasher of a block core and of the tail after its blocks.
     #[inline(always)]
     pub fn from_parts(core: BlockCore<F>, tail: Buffer) -> BlockHasher<F>
         ensures { result ≡ with_tail core tail }
@@ -73,7 +73,7 @@ impl<F: ListBlockFunction> BlockHasher<F> {
         BlockHasher { core, buffer: tail }
     }
 
-    /// Its block core, and the tail behind the core's blocks.
+    /// Its block core, and the tail after the core's blocks.
     #[inline(always)]
     pub fn parts(&self) -> (&BlockCore<F>, &[u8])
         ensures same { with_tail result.0.now result.1.now ≡ self.now }
@@ -104,7 +104,7 @@ impl<F: ListBlockFunction> Clone for BlockHasher<F> {
     }
 }
 
-/// Writes the name of the hash function and no more, as `Ripemd160 { ... }`.
+/// Writes only the name, as `Ripemd160 { ... }`.
 impl<F: ListBlockFunction + AlgorithmName> fmt::Debug for BlockHasher<F> {
     fn fmt<W: fmt::Write>(&self, f: &mut fmt::Formatter<W>) -> fmt::Result {
         F::write_alg_name(f)?;

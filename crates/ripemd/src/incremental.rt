@@ -1,4 +1,4 @@
-//! What a hasher and an HMAC have in common: they take a message in pieces, and give their output at its end.
+//! What a hasher and an HMAC have in common.
 
 ghost use Rattle.std.specs.Prelude.{◌≡◌, ℕ, List, [], ◌++◌, ⊤};
 ghost use Rattle.ripemd_block.specs.Standard.Hashing.{hash};
@@ -11,10 +11,10 @@ use ripemd_block::block_api::ListBlockFunction;
 /// A hasher or an HMAC: it takes a message in pieces, and gives its digest or its tag at the end. How
 /// the message is cut makes no difference. No call allocates or fails.
 pub trait Incremental: Sized + Drop {
-    /// The hash function whose digests its outputs are.
+    /// The hash function that its outputs are digests of.
     type Hash: Digest;
 
-    // What it begins with: the key of an HMAC, and nothing for a hasher.
+    // What it begins with: the key of an HMAC; nothing for a hasher.
     ghost Origin: { Type 0 };
 
     // The state before the first byte.
@@ -37,13 +37,10 @@ pub trait Incremental: Sized + Drop {
     fn finalize(self) -> <Self::Hash as OutputSizeUser>::Output
         ensures { Self.Hash.bytes_of result ≡ finish self };
 
-    // No bytes leave a new state as it is.
     ghost fed_nothing: { (o : Origin) → fed (new_state o) [] ≡ new_state o };
 
-    // Some bytes and then others are both, joined.
     ghost fed_twice: { (s : Self) (x y : List ℕ) → fed (fed s x) y ≡ fed s (x ++ y) };
 
-    // The output after all of a message is that of the message.
     ghost finish_fed: { (o : Origin) (message : List ℕ)
         → finish (fed (new_state o) message) ≡ whole o message };
 }

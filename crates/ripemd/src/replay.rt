@@ -17,11 +17,11 @@ pub enum Command<'a> {
     New,
     /// Updates a hasher with bytes.
     Update { hasher: usize, bytes: &'a [u8] },
-    /// Makes a hasher as new.
+    /// Resets a hasher.
     Reset { hasher: usize },
-    /// Adds the digest of a hasher to the answer, and makes the hasher as new.
+    /// Adds the digest of a hasher to the answer, and resets the hasher.
     Finish { hasher: usize },
-    /// Makes the next hasher as a copy of this one.
+    /// Makes the next hasher, a copy of this one.
     Fork { hasher: usize },
     /// Makes the next saved state, of this hasher.
     Save { hasher: usize },
@@ -51,16 +51,14 @@ pub enum ReplayError {
 /// Runs commands in order, from no hashers and no saved states, and gives the digests of the
 /// hashers that were finished, in that order.
 ///
-/// Each digest is the hash of the bytes that its hasher was updated with since it was new: by `New`,
-/// `Reset` or `Finish`. A fork has the bytes of the hasher that it was copied from, and a loaded
-/// hasher those that the saved one had. Where the bytes follow a state given by `Import`, the digest
-/// is that of this state, updated with these bytes.
+/// Each digest is the hash of the bytes that its hasher was updated with since `New`, `Reset` or
+/// `Finish`. A fork has the bytes of its original, and a loaded hasher those of the saved one. If the
+/// bytes follow a state given by `Import`, the digest is that of this state, updated with these bytes.
 ///
 /// # Errors
 ///
-/// `NoHasher`, `NoSaved` or `BadState` at the first bad command, before which all others ran. A
-/// command is found to be bad before it allocates. `OutOfMemory` if an allocation of a command
-/// before that one fails. An empty list, and a list whose first command is bad, allocate nothing.
+/// `NoHasher`, `NoSaved` or `BadState` at the first bad command; those before it ran. `OutOfMemory` if
+/// an allocation of a command before it fails. A bad command allocates nothing, nor does an empty list.
 pub fn replay<D: Digest + SerializableState>(
     alloc: Global,
     commands: &[Command],
@@ -82,7 +80,7 @@ pub fn replay<D: Digest + SerializableState>(
     Ok(digests)
 }
 
-// Runs the command at place `at`: what the vectors hold is what the machine has afterwards.
+// Runs the command at place `at`: afterwards the vectors hold what the machine has.
 fn apply<D: Digest + SerializableState>(
     hashers: &mut Vec<D>,
     arrays: &mut Vec<D::Saved>,
@@ -142,7 +140,6 @@ fn apply<D: Digest + SerializableState>(
     }
 }
 
-// Adds a value at the end.
 fn add<T: Drop>(all: &mut Vec<T>, value: T) -> Result<(), ReplayError>
     ensures ok { OnOk result (all.new.items ≡ all.old.items ++ value ∷ []) }
     ensures err { IfErr result (λ e. e ≡ ReplayError.OutOfMemory) }

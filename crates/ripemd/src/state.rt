@@ -1,4 +1,4 @@
-//! Hashers saved as bytes, and loaded again.
+//! Hashers saved as bytes, and loaded.
 
 ghost use Rattle.std.specs.Prelude.{◌≡◌, ◌+◌, ◌<◌, ◌↔◌, ◌∷◌, ◌++◌, length, drop, replicate, IsTrue};
 ghost use Rattle.ripemd_block.specs.Standard.Words.{block_size};
@@ -55,7 +55,7 @@ impl<F: ResumableFunction> SerializableState for BlockHasher<F> {
     ghost same_saved = { F.SavedHasher.same_array };
 }
 
-/// Writes the length of a tail and its bytes. What is behind them stays.
+/// Writes the length of a tail and its bytes to the front of `place`.
 #[inline(always)]
 pub fn put_tail(tail: &[u8], place: &mut [u8])
     requires short { length tail.now < block_size }
@@ -67,7 +67,6 @@ pub fn put_tail(tail: &[u8], place: &mut [u8])
     write_short(rest, tail);
 }
 
-// Whether all bytes are zero.
 fn are_zeros(bytes: &[u8]) -> bool
     ensures { IsTrue result ↔ (bytes.now ≡ replicate (length bytes.now) 0) }
 {

@@ -1,8 +1,8 @@
 //! From a collision of a hash to a collision of its block function.
 //!
 //! Two messages are hashed side by side, the one with more blocks ahead, so that both end together.
-//! Where they end in one state, the last place at which they differ, in the state or in
-//! the block, is one where the block function takes two different inputs to one state.
+//! If they end in one state, then at the last place where their states or their blocks differ the block
+//! function takes two different inputs to one state.
 
 ghost use Rattle.std.specs.Prelude.{◌≡◌, ◌≢◌, ◌<◌, ◌≤◌, ◌^◌, ◌↔◌, ◌⊎◌, IsTrue, IsNone, IfSome};
 ghost use Rattle.std.specs.Prelude.{[], length, take, slice_index_or};
@@ -12,11 +12,10 @@ ghost use Rattle.ripemd.specs.Collisions.{pair_of, state_after, IsCollision, IsO
 pub use ripemd_block::block_api::BlockFunction;
 use ripemd_block::padding::{block_count, pad_block};
 
-/// What a block function meets at a place of a message with its padding: the state before a block,
-/// and the block.
+/// A block of a message with its padding, and the state before it.
 #[derive(Clone, Copy, PartialEq, Eq, Debug)]
 pub struct Meeting<S> {
-    /// Which block of the padded message it is, counted from 0.
+    /// The place of the block, counted from 0.
     pub place: usize,
     /// The state before the block.
     pub state: S,
@@ -52,7 +51,7 @@ pub fn collision_witness<F: BlockFunction>(a: &[u8], b: &[u8]) -> Option<Collisi
 {
     let left_count = block_count(a);
     let right_count = block_count(b);
-    // The message with more blocks is hashed ahead, until as many are left of it as of the other.
+    // The message with more blocks is hashed ahead, until both have as many left.
     let left_ahead = left_count.saturating_sub(right_count);
     let right_ahead = right_count.saturating_sub(left_count);
     let mut left_state = state_at::<F>(a, left_ahead);
@@ -74,8 +73,8 @@ pub fn collision_witness<F: BlockFunction>(a: &[u8], b: &[u8]) -> Option<Collisi
     }
 }
 
-/// Whether the two pairs of state and block differ, and the block function takes both to one state.
-/// It says nothing of places or of messages.
+/// Whether the two pairs of state and block differ, and the block function takes both to one state. Places and
+/// messages do not count.
 pub fn check_collision<F: BlockFunction>(collision: &Collision<F::State>) -> bool
     ensures { IsTrue result
         ↔ ((pair_of collision.now.left ≢ pair_of collision.now.right)
@@ -102,7 +101,6 @@ fn state_at<F: BlockFunction>(message: &[u8], place: usize) -> F::State
     state
 }
 
-// A state, and the block at a place.
 fn meet<S: Copy>(message: &[u8], place: usize, state: S) -> Meeting<S>
     requires { place < length (blocks (padded_message message.now)) }
     ensures place { result.place ≡ place }
@@ -117,7 +115,6 @@ fn meet<S: Copy>(message: &[u8], place: usize, state: S) -> Meeting<S>
     }
 }
 
-// Whether two meetings have the same state and the same block.
 fn same_pair<F: BlockFunction>(left: &Meeting<F::State>, right: &Meeting<F::State>) -> bool
     ensures { IsTrue result ↔ (pair_of left.now ≡ pair_of right.now) }
 {

@@ -10,7 +10,7 @@ use Rattle.ripemd_block.specs.Laws.Blocks.{blocks_of_one}
 use Rattle.ripemd_batch.specs.Pbkdf2.{combined_tags}
 use Rattle.ripemd_batch.specs.Lanes.{padded_after, hash_after}
 
--- the hash after a block of a message that its padding makes one block
+-- the hash, after a block, of a message of one padded block
 pub hash_of_one : (step : List ℕ → List ℕ → List ℕ) (output : List ℕ → List ℕ) (first message last : List ℕ)
     → length (padded_after 64 message) ≡ 64 → last ≡ step first (padded_after 64 message)
     → output last ≡ hash_after 64 first step output message

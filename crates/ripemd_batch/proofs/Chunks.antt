@@ -20,13 +20,11 @@ joined_first n (suc k) xs =
     ∙ sym (take-add n (k * n) xs)
     ∙ ap (λ m. take m xs) (sym more)
 
--- so many there are of as many times n elements
 pub count_chunks : {A : Type 0} (n k : ℕ) (xs : List A) → 0 < n → length xs ≡ k * n → length (chunks n xs) ≡ k
 unfolding chunks
 count_chunks n k xs some size =
     length-first n (length xs / n) xs ∙ ap (λ (len : ℕ). len / n) size ∙ mul-div_left k some
 
--- joined, they are the elements
 pub joined_chunks : {A : Type 0} (n k : ℕ) (xs : List A) → 0 < n → length xs ≡ k * n
     → flat_map (λ (c : List A). c) (chunks n xs) ≡ xs
 unfolding chunks
@@ -36,7 +34,6 @@ joined_chunks n k xs some size =
     ∙ ap (λ (m : ℕ). take (m * n) xs) count
     ∙ take_all (k * n) xs (omega (arith, size))
 
--- chunk i lies within them
 pub chunk_end : {A : Type 0} (n i : ℕ) (xs : List A) → i < length (chunks n xs) → i * n + n ≤ length xs
 unfolding chunks
 chunk_end zero i xs few = omega arith

@@ -17,7 +17,7 @@ use Rattle.ripemd_block.specs.Laws.WordBytes.{length-word_bytes}
 use Rattle.ripemd_batch.proofs.OneLane.{lane_is, word_in, word_is}
 use Rattle.ripemd_batch.specs.Lanes.{HasWords, lane_at, lane_of, padded_after, padding_words}
 
--- byte k of an exclusive or is that of the bytes
+-- a byte of an exclusive or is that of the bytes
 xor_byte : (a b k : ℕ) → bit_xor a b / 2 ^ k % 2 ^ 8 ≡ bit_xor (a / 2 ^ k % 2 ^ 8) (b / 2 ^ k % 2 ^ 8)
 xor_byte a b k = ap (λ n. n % 2 ^ 8) (xor_shr a b k) ∙ xor_mod (a / 2 ^ k) (b / 2 ^ k) 8
 
@@ -27,7 +27,6 @@ four in_a in_b in_c in_d = rw (in_a, in_b, in_c, in_d) refl
 xor_bytes : (a b : ℕ) → to_le_bytes w32 (bit_xor a b) ≡ zip2 bit_xor (to_le_bytes w32 a) (to_le_bytes w32 b)
 xor_bytes a b = four (xor_mod a b 8) (xor_byte a b 8) (xor_byte a b 16) (xor_byte a b 24)
 
--- so it is of all words
 pub xor_word_bytes : (xs ys : List ℕ) → length xs ≡ length ys
     → word_bytes (zip2 bit_xor xs ys) ≡ zip2 bit_xor (word_bytes xs) (word_bytes ys)
 xor_word_bytes [] [] same = refl
@@ -37,7 +36,7 @@ xor_word_bytes (x ∷ xs) (y ∷ ys) same =
     ap (λ bs. bs ++ word_bytes (zip2 bit_xor xs ys)) (xor_bytes x y)
     ∙ ap (λ rest. zip2 bit_xor (to_le_bytes w32 x) (to_le_bytes w32 y) ++ rest) (xor_word_bytes xs ys (omega (arith, same)))
 
--- and of all words of a message
+-- so it is for all words of a message
 pub xor_lane : {V : Type 0} (words : V → List ℕ) (v a b : List V) (n j : ℕ) → length v ≡ n → length a ≡ n → length b ≡ n
     → ((i : ℕ) → i < n → (d : V) → slice_index (words (get_or v i d)) j
     ≡ bit_xor (slice_index (words (get_or a i d)) j) (slice_index (words (get_or b i d)) j))
@@ -62,9 +61,9 @@ message_word_of (w ∷ words) (suc i) within fits =
     let place : 4 * suc i ≡ suc (suc (suc (suc (4 * i)))) = omega arith in
     rw place (message_word_of words i (omega (arith, within)) fits)
 
--- ---- the last block of a message of some words after one block
+-- ---- the last block of a message of words, after one block
 
--- a vector's word in front of the padding, and one of the padding
+-- a word before the padding, and one of the padding
 pub word_in_front : {V : Type 0} (words : V → List ℕ) (vs : List V) (n j i : ℕ) (behind : List ℕ) (word : ℕ) → i < n
     → word ≡ lane_at (map words vs) i j → word ≡ slice_index (lane_of n j (map words vs) ++ behind) i
 word_in_front words vs n j i behind word within is =
@@ -81,7 +80,6 @@ word_behind words vs n j i behind word past is =
     is ∙ ap (λ k. slice_index behind (i - k)) (sym size)
     ∙ sym (get_or-append_right (lane_of n j v) behind i 0 (omega (arith, size, past)))
 
--- the bytes of zero words
 zero_words : (n : ℕ) → word_bytes (replicate n 0) ≡ replicate (4 * n) 0
 zero_words zero = refl
 zero_words (suc n) =
@@ -112,7 +110,7 @@ padded_words words n many few =
     rw (size, zeros, bits, flat_map-append (to_le_bytes w32) words (padding_words n), padding)
     (append_assoc (word_bytes words) (0x80 ∷ replicate (suc (suc (suc (4 * (13 - n))))) 0) (to_le_bytes w64 (512 + 32 * n)))
 
--- its words, where these vectors have them, and its size
+-- the words of these bytes, if these vectors have them, and their number
 pub has_padded_words : {V : Type 0} (words_of : V → List ℕ) (v : List V) (words : List ℕ) (n j : ℕ) → length v ≡ 16 → length words ≡ n → n ≤ 13
     → ((i : ℕ) → i < 16 → (d : V) → slice_index (words ++ padding_words n) i ≡ slice_index (words_of (get_or v i d)) j)
     → ((i : ℕ) → i < 16 → (d : V) → slice_index (words_of (get_or v i d)) j < 2 ^ 32)

@@ -1,7 +1,6 @@
--- What holds of each of some places.
+-- What holds of each of eight, four or sixteen places holds of all of them.
 use Rattle.std.proofs.Common.{◌≡◌, ℕ, zero, suc, ◌<◌, ◌+◌, ◌*◌, ◌/◌, ◌%◌, arith, subst}
 
--- what holds of each of the eight lanes
 pub below_eight : (P : ℕ → Type 0) → P 0 → P 1 → P 2 → P 3 → P 4 → P 5 → P 6 → P 7 → (j : ℕ) → j < 8 → P j
 below_eight P p0 p1 p2 p3 p4 p5 p6 p7 zero h = p0
 below_eight P p0 p1 p2 p3 p4 p5 p6 p7 (suc zero) h = p1
@@ -13,7 +12,6 @@ below_eight P p0 p1 p2 p3 p4 p5 p6 p7 (suc (suc (suc (suc (suc (suc zero)))))) h
 below_eight P p0 p1 p2 p3 p4 p5 p6 p7 (suc (suc (suc (suc (suc (suc (suc zero))))))) h = p7
 below_eight P p0 p1 p2 p3 p4 p5 p6 p7 (suc (suc (suc (suc (suc (suc (suc (suc n)))))))) h = absurd (omega arith)
 
--- what holds of each of the first four
 pub below_four : (P : ℕ → Type 0) → P 0 → P 1 → P 2 → P 3 → (j : ℕ) → j < 4 → P j
 below_four P p0 p1 p2 p3 zero h = p0
 below_four P p0 p1 p2 p3 (suc zero) h = p1
@@ -26,7 +24,6 @@ below_two P p0 p1 zero h = p0
 below_two P p0 p1 (suc zero) h = p1
 below_two P p0 p1 (suc (suc n)) h = absurd (omega arith)
 
--- what holds of each of the sixteen words
 pub below_sixteen : (P : ℕ → Type 0) → P 0 → P 1 → P 2 → P 3 → P 4 → P 5 → P 6 → P 7
     → P 8 → P 9 → P 10 → P 11 → P 12 → P 13 → P 14 → P 15 → (k : ℕ) → k < 16 → P k
 below_sixteen P a0 a1 a2 a3 a4 a5 a6 a7 b0 b1 b2 b3 b4 b5 b6 b7 k h =

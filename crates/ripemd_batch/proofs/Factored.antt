@@ -8,12 +8,12 @@ use Rattle.std.proofs.Math.Nat.{mod-eq_of_lt}
 use Rattle.ripemd_block.specs.Standard.Schedule.{f2, f3, f4}
 use Rattle.ripemd_block.proofs.Factoring.{f1_factored}
 
--- function 3 is function 1 with its words turned
+-- function 3 is function 1 with its words rotated
 pub f3_factored : (x y z : ℕ) → z < 2 ^ 32 → y < 2 ^ 32 → bit_xor (bit_and z (bit_xor x y)) y ≡ f3 x y z
 f3_factored x y z hz hy =
     rw (f1_factored z x y hz hy, and_comm z x, and_comm (bit_not w32 z) y) refl
 
--- functions 2 and 4 are the complements of these, in which a word is taken without another's bits
+-- functions 2 and 4 are complements
 pub f2_complemented : (x y z : ℕ) → x < 2 ^ 32 → y < 2 ^ 32 → z < 2 ^ 32
     → bit_not w32 (bit_xor (bit_and y (bit_not w32 x)) z) ≡ f2 x y z
 f2_complemented x y z hx hy hz =

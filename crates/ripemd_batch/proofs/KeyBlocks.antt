@@ -26,13 +26,13 @@ block_in_key PRF keys i b inside =
     let place : (count * i + b) % count ≡ b = mul-add-mod_self_left count i b ∙ mod-eq_of_lt inside in
     rw (key, place) refl
 
--- it is one of those of all keys
+-- a block of a key is one of all blocks
 pub inside_all : (count n i b : ℕ) → i < n → b < count → count * i + b < count * n
 inside_all count n i b key block =
     let all : count * (i + 1) ≤ count * n = mul-le-mul_left count (omega (arith, key)) in
     omega (arith, all, block)
 
--- the block in its group, and the group that the next block belongs to
+-- a block in its group, and the group that the next block is in
 pub in_group : (size : ℕ) (PRF : List ℕ → List ℕ → List ℕ) (keys : KeyList) (k : ℕ) (group : List (List ℕ))
     → HasBlocks size PRF keys (k - k % 8) group → k < total keys → IsFilled size (list_at group (k % 8)) (block_at PRF keys k)
 in_group size PRF keys k group has inside =
@@ -46,7 +46,7 @@ next_group size PRF keys k n group has next more j h within =
     let same : n - n % 8 ≡ k - k % 8 = omega (arith, next, more) in
     rw same (has j h (omega (arith, same, within)))
 
--- so many bytes have fewer than 2^32 blocks, and those of all keys are no more than the bytes of all
+-- a key has fewer than 2^32 blocks, and all keys have no more blocks than bytes
 pub count_fits : (size digest : ℕ) → 0 < digest → size ≤ (2 ^ 32 - 1) * digest → div_ceil size digest < 2 ^ 32
 count_fits size digest some most = go (cases_lt (div_ceil size digest) (2 ^ 32))
   where
@@ -71,12 +71,10 @@ module _ (start : List ℕ) (step : List ℕ → List ℕ → List ℕ) (output 
     (inner_size : length inner ≡ 64) (outer_size : length outer ≡ 64)
     (is_inner : inner ≡ masked 0x36 (key_block (hash start step output) password))
     (is_outer : outer ≡ masked 0x5c (key_block (hash start step output) password)) where
-  -- its tags are those of the password
   tags : tag_after step output (step start inner) (step start outer) ≡ hmac (hash start step output) password
   tags = fun_ext (tag_is start step output password inner outer (step start inner) (step start outer) inner_size outer_size
       is_inner is_outer refl refl)
 
-  -- the first tag
   first : (salt : List ℕ) (i : ℕ)
       → hash_after 64 (step start outer) step output (hash start step output (inner ++ salt ++ INT i))
       ≡ hmac (hash start step output) password (salt ++ INT i)

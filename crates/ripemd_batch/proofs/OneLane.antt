@@ -1,11 +1,10 @@
--- The words of one message, in some vectors. Beyond these stands any vector.
+-- The words of one message in vectors. Any vector may stand after these.
 use Rattle.std.proofs.Common.{◌≡◌, ℕ, ◌<◌, List, [], ◌∷◌, get_or, length, map, slice_index, zero-add, ap, sym, ◌∙◌, arith}
 use Rattle.std.proofs.lemmas.List.{get_or-map}
 use Rattle.std.proofs.lemmas.List.FromFn.{fill_by_all, length-map-range_with_len, get_or-map-range_with_len}
 use Rattle.ripemd_batch.specs.Lanes.{lane_at, lane_of}
 
 module _ {V : Type 0} (words : V → List ℕ) where
-  -- the word in vector i
   pub word_in : (v : List V) (i j : ℕ) (d : V) → i < length v → lane_at (map words v) i j ≡ slice_index (words (get_or v i d)) j
   word_in v i j d within = ap (λ (x : List ℕ). slice_index x j) (get_or-map words v i d [] within)
 
@@ -21,7 +20,7 @@ module _ {V : Type 0} (words : V → List ℕ) where
       fill_by_all (λ i. lane_at (map words v) i j) ws n 0 size
       (λ i h. word_is v i j (slice_index ws i) (omega (arith, count, h)) (same i h))
 
-  -- where the vectors have the same words, they have the same lane
+  -- vectors with the same words have the same lane
   pub same_lane : (v w : List V) (n j : ℕ) → length v ≡ n → length w ≡ n
       → ((i : ℕ) → i < n → (d : V) → slice_index (words (get_or v i d)) j ≡ slice_index (words (get_or w i d)) j)
       → lane_of n j (map words v) ≡ lane_of n j (map words w)

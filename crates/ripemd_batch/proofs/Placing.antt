@@ -7,12 +7,12 @@ use Rattle.std.proofs.Math.Seq.{take-add}
 use Rattle.std.specs.Borrow.{Bor}
 use Rattle.ripemd_batch.specs.Lanes.{PutFrom, list_at, targets}
 
--- the first j are in the places from `at` on, behind those before them
+-- the first j are in the places from `at` on, after those before
 abbrev pub Put : {A : Type 0} (list before made : List A) (at j : ℕ) → Type 0
 Put list before made at j = take (at + j) list ≡ before ++ take j made
 
--- where what is made of the first j messages is there, and what is made of the next is put behind it, that of the
--- first j + 1 is
+-- if the outputs of the first j messages are there, and the next one is put after them, so are those of the first j +
+-- 1
 pub put_next : (made : List ℕ → List ℕ) (messages : List (Bor (List ℕ))) (list before : List (List ℕ)) (at j : ℕ) (a : List ℕ)
     → at + j < length list → j < length messages → a ≡ made (list_at (targets messages) j)
     → Put list before (map made (targets messages)) at j
@@ -29,7 +29,7 @@ put_next made messages list before at j a in_list in_messages next so_far =
     ∙ ap (λ x. before ++ (take j outputs ++ x ∷ [])) (next ∙ sym (get_or-map made all j [] [] (omega (arith, many))))
     ∙ ap (λ xs. before ++ xs) (sym (take_more outputs j [] (omega (arith, many, length-map all made))))
 
--- the same of what is made of a part of the messages
+-- the outputs of a part of the messages
 pub put_part : (made : List ℕ → List ℕ) (messages : List (Bor (List ℕ))) (old new before : List (List ℕ)) (at j end : ℕ)
     → j ≤ end → end ≤ length messages
     → PutFrom (at + j) (map made (targets (take (end - j) (drop j messages)))) old new

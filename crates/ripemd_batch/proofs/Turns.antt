@@ -1,5 +1,5 @@
--- The turns of one message: its blocks one after another, and where there is a state for it, its output
--- hashed again from there.
+-- The turns of one message: its blocks one after another, and then, if there is a state for it, its output hashed
+-- again.
 use Rattle.std.proofs.Common.{◌≡◌, ℕ, ◌+◌, ◌<◌, ◌≤◌, arith, rules, refl, ap, ◌∙◌}
 use Rattle.std.proofs.Common.{List, [], length, take, get_or, Option, None, Some, true, false, sym}
 use Rattle.std.specs.Option.{IfSome, is_some, unwrap_or}
@@ -9,7 +9,7 @@ use Rattle.ripemd_block.specs.Standard.Hashing.{blocks, walk}
 use Rattle.ripemd_batch.specs.Lanes.{padded_after, hash_after, hashed_again, listed}
 use Rattle.ripemd_batch.proofs.Walking.{walk_on, output_after}
 
--- how many there are, of at most so many blocks
+-- the number of turns, for at most so many blocks
 abbrev pub turns_of : {S : Type 0} → Option S → ℕ → ℕ
 turns_of None most = most
 turns_of (Some outer) most = most + 1
@@ -26,7 +26,7 @@ turns_without (Some outer) most turns none are = absurd (false≢true (sym none)
 
 module _ (step : List ℕ → List ℕ → List ℕ) (output : List ℕ → List ℕ) {S : Type 0} (list : S → List ℕ)
     (first : List ℕ) (bs : List (List ℕ)) (most : ℕ) where
-  -- the words after so many turns
+  -- the words after i turns
   pub record Turned (outer : Option S) (i : ℕ) (words : List ℕ) : Type 0 where
     pub walked : i ≤ most → words ≡ walk step first (take i bs)
     pub again : IfSome outer (λ state. most < i
@@ -36,7 +36,6 @@ module _ (step : List ℕ → List ℕ → List ℕ) (output : List ℕ → List
   none_turned None words is = record { walked = λ _. is; again = search rules }
   none_turned (Some outer) words is = record { walked = λ _. is; again = λ h. absurd (omega (arith, h)) }
 
-  -- one more
   pub turn_on : (outer : Option S) (default second : S) (i : ℕ) (before after : List ℕ) → length bs ≤ most
       → i < turns_of outer most → second ≡ unwrap_or outer default
       → (i < most → i < length bs → after ≡ step before (get_or bs i []))
@@ -60,7 +59,6 @@ module _ (step : List ℕ → List ℕ → List ℕ) (output : List ℕ → List
         (rw is at more end) ∙ ap (λ (words : List ℕ). hash_after 64 (list outer) step output (output words)) all;
   }
 
-  -- after all
   pub all_turned : (outer : Option S) (before i : ℕ) (words message : List ℕ) → length bs ≤ most
       → i ≡ turns_of outer most → bs ≡ blocks (padded_after before message) → Turned outer i words
       → output words ≡ hashed_again step output (listed list outer) (hash_after before first step output) message

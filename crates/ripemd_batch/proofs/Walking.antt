@@ -30,13 +30,13 @@ unfolding hash_after
 output_after before first by step out output message words after same_step same_output =
     rw (after, same_step, same_output) refl
 
--- from the start, with no bytes before the message, it is the hash
+-- from the start it is the hash
 pub hash_after_start : (first start : List ℕ) (step : List ℕ → List ℕ → List ℕ) (output : List ℕ → List ℕ)
     → first ≡ start → (m : List ℕ) → hash_after 0 first step output m ≡ hash start step output m
 unfolding hash_after hash
 hash_after_start first start step output same m = rw (zero-add (length m), same) refl
 
--- the blocks of a block and a message are that one, and then those of the message
+-- a block and a message have this block and those of the message
 padded_on : (block m : List ℕ) (n : ℕ) → length block ≡ 64
     → blocks (with_padding (block ++ m) n) ≡ block ∷ blocks (with_padding m n)
 padded_on block m n size =

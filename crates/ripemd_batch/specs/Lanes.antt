@@ -16,7 +16,7 @@ use Rattle.ripemd_batch.specs.declared.lines.Side.TheVariants.{Left, Right}
 abbrev pub lane_at : List (List ℕ) → ℕ → ℕ → ℕ
 lane_at v i j = slice_index (slice_index_or v i []) j
 
--- lane j of the first n vectors: their words of message j
+-- lane j of the first n vectors: the words of message j
 abbrev pub lane_of : ℕ → ℕ → List (List ℕ) → List ℕ
 lane_of n j v = map (λ i. lane_at v i j) (range_with_len 0 n)
 
@@ -37,17 +37,16 @@ line_of rounds Right = right_line rounds
 abbrev pub targets : List (Bor (List ℕ)) → List (List ℕ)
 targets refs = map (λ r. r.now) refs
 
--- list j of some lists
 abbrev pub list_at : List (List ℕ) → ℕ → List ℕ
 list_at xs j = slice_index_or xs j []
 
--- the blocks of message j, of the blocks of each
+-- the blocks of message j
 abbrev pub blocks_of : List (List (List ℕ)) → ℕ → List (List ℕ)
 blocks_of blocks j = slice_index_or blocks j []
 
 -- ---- messages with bytes before them
 
--- a message with its padding, where so many bytes before it count in the length
+-- a message with its padding, whose length counts the bytes before it, too
 abbrev pub padded_after : ℕ → List ℕ → List ℕ
 padded_after before message = with_padding message (8 * (before + length message) % 2 ^ 64)
 
@@ -55,31 +54,30 @@ padded_after before message = with_padding message (8 * (before + length message
 abbrev pub padding_words : ℕ → List ℕ
 padding_words n = 0x80 ∷ replicate (13 - n) 0 ++ (512 + 32 * n) ∷ 0 ∷ []
 
--- the output of the state after the blocks of such a message, walked through from the state to which
--- the bytes before it led
+-- the output of the state after the blocks of such a message, from the state after the bytes before it
 unfoldable pub hash_after : ℕ → List ℕ → (List ℕ → List ℕ → List ℕ) → (List ℕ → List ℕ) → List ℕ → List ℕ
 hash_after before first step output message = output (walk step first (blocks (padded_after before message)))
 
 -- ---- what is made of the messages of a list
 
--- the state from which messages are hashed, to which so many bytes before them led; and, where the
--- output is hashed again, the state for that, to which a block led
+-- the state from which messages are hashed, and the number of bytes that led to it; and, if the output is hashed
+-- again, the state for that, after one block
 pub record ListStates : Type 0 where
   pub before : ℕ
   pub first : List ℕ
   pub outer : Option (List ℕ)
 
--- a function, and where there is a state for it, the output hashed again
+-- a function, with the output hashed again if there is a state for that
 abbrev pub hashed_again : (List ℕ → List ℕ → List ℕ) → (List ℕ → List ℕ) → Option (List ℕ)
     → (List ℕ → List ℕ) → List ℕ → List ℕ
 hashed_again step output None inner = inner
 hashed_again step output (Some outer) inner = λ m. hash_after 64 outer step output (inner m)
 
--- what these states make of a message
+-- the output of a message from these states
 abbrev pub made_by : (List ℕ → List ℕ → List ℕ) → (List ℕ → List ℕ) → ListStates → List ℕ → List ℕ
 made_by step output s = hashed_again step output s.outer (hash_after s.before s.first step output)
 
--- a list of as many places as before, with these elements in those from `at` on; those before hold what they held
+-- as many places as before, with these elements from `at` on; those before `at` stay
 abbrev pub PutFrom : {A : Type 0} → (at : ℕ) → (elements old new : List A) → Type 0
 PutFrom at elements old new =
     (length new ≡ length old) × (take (at + length elements) new ≡ take at old ++ elements)

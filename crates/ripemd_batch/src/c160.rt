@@ -8,7 +8,7 @@ ghost use Rattle.ripemd_batch.specs.Lanes.{HasWords, lane_of};
 use crate::lanes::Lanes;
 use crate::lines::{Lines, round};
 
-// The states that take the registers of both lines in.
+// The new states.
 #[tactic(auto, using(crate::proofs::OneLane::word_in))]
 #[inline(always)]
 fn joint_state<V: Lanes>(state: [V; 5], lines: Lines<[V; 5]>) -> [V; 5]
@@ -27,7 +27,7 @@ fn joint_state<V: Lanes>(state: [V; 5], lines: Lines<[V; 5]>) -> [V; 5]
     ]
 }
 
-/// The states after one more block of each message, of which these are the message words.
+/// The states after a block of each message, with these message words.
 pub(crate) fn compress<V: Lanes>(state: [V; 5], words: &[V; 16]) -> [V; 5]
     ensures { (j : ℕ) → j < V.COUNT → (block : List ℕ) → HasWords (map V.words words.now) j block
         → lane_of 5 j (map V.words result)

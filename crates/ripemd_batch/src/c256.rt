@@ -23,7 +23,7 @@ fn lines_from<V: Lanes>(state: [V; 8]) -> Lines<[V; 4]>
     }
 }
 
-// The states that take the registers of both lines in.
+// The new states.
 #[tactic(auto, using(crate::proofs::OneLane::word_in))]
 #[inline(always)]
 fn double_state<V: Lanes>(state: [V; 8], lines: Lines<[V; 4]>) -> [V; 8]
@@ -45,8 +45,8 @@ fn double_state<V: Lanes>(state: [V; 8], lines: Lines<[V; 4]>) -> [V; 8]
     ]
 }
 
-/// The states after one more block of each message, of which these are the message words. The registers
-/// that are exchanged are A, B, C and D in turn.
+/// The states after a block of each message, with these message words. The registers that are exchanged are A, B, C
+/// and D in turn.
 pub(crate) fn compress<V: Lanes>(state: [V; 8], words: &[V; 16]) -> [V; 8]
     ensures { (j : ℕ) → j < V.COUNT → (block : List ℕ) → HasWords (map V.words words.now) j block
         → lane_of 8 j (map V.words result)

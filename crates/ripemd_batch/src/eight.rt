@@ -109,7 +109,7 @@ impl Lanes for Eight {
 }
 
 impl Eight {
-    // The words of four messages, and those of the four behind them.
+    // The words of the first four messages, and those of the others.
     #[inline(always)]
     fn joined(low: Four, high: Four) -> Eight
         ensures { result ≡ low ++ high }

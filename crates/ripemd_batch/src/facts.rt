@@ -1,5 +1,5 @@
-//! What is proved of the definitions of lists of messages and of keys. The functions do nothing; their
-//! contracts are the facts.
+//! Facts of the definitions of lists of messages and of keys. The functions do nothing; their contracts are the
+//! facts.
 
 ghost use Rattle.std.specs.Prelude.{◌≡◌, ℕ, List, [], ◌∷◌, ◌++◌};
 ghost use Rattle.std.specs.Borrow.{Bor};
@@ -7,12 +7,12 @@ ghost use Rattle.ripemd_mac.specs.Pbkdf2.{pbkdf2};
 ghost use Rattle.ripemd_batch.specs.Pbkdf2.{pbkdf2_each};
 ghost use Rattle.ripemd_batch.specs.Lanes.{targets};
 
-/// Two messages are those that the two references point at, in order.
+/// The messages of two references are what these point at, in order.
 pub fn two_messages()
     ensures { (a b : Bor (List ℕ)) → targets (a ∷ b ∷ []) ≡ a.now ∷ b.now ∷ [] }
 {}
 
-/// Two keys are that of the first password and the first salt, and then that of the second ones.
+/// Two keys are that of the first password and salt, and then that of the second.
 pub fn two_keys()
     ensures { (PRF : List ℕ → List ℕ → List ℕ) → (P1 P2 S1 S2 : List ℕ) → (hLen c dkLen : ℕ)
         → pbkdf2_each PRF hLen (P1 ∷ P2 ∷ []) (S1 ∷ S2 ∷ []) c dkLen

@@ -20,7 +20,7 @@ use ripemd_block::block_api::{
     Ripemd256Function, Ripemd320Function, walk_message, walk_words,
 };
 
-/// A hash function of which four or eight messages can be hashed at once. It has no functions of its own.
+/// A hash function by which four or eight messages can be hashed at once. It has no functions of its own.
 pub trait BatchDigest: BlockDigest<Output: ByteArray> {
     /// The block function.
     type Function: ListBlockFunction<Digest = Self::Output>;
@@ -31,28 +31,25 @@ pub trait BatchDigest: BlockDigest<Output: ByteArray> {
     /// The states of eight messages.
     type Eight: LaneStates<Function = Self::Function>;
 
-    // So many messages have a word in their vectors.
+    // The numbers of messages.
     ghost four: { Self.Four.Vector.COUNT ≡ 4 };
 
     ghost eight: { Self.Eight.Vector.COUNT ≡ 8 };
 
-    // They start from the same words.
+    // The block function and the hash function have the same start, step and output.
     ghost same_start: { Self.Function.list Self.Function.start_of ≡ Self.start };
 
-    // They take a block in by the same function.
     ghost same_step: { Self.Function.step ≡ Self.step };
 
-    // They give the same output of their words.
     ghost same_output: { Self.Function.output ≡ Self.output };
 
-    // It has bytes.
+    // A digest has bytes.
     ghost some_bytes: { 0 < Self.Output.LEN };
 
-    // Its bytes are those of the digest.
     ghost same_bytes: { (d : Self.Output) → Self.Output.bytes d ≡ Self.bytes_of d };
 }
 
-// The states of its block function.
+// The states of the block function.
 pub(crate) type StateOf<D> = <<D as BatchDigest>::Function as BlockFunction>::State;
 
 impl<F: BatchFunction> BatchDigest for BlockHasher<F> {
@@ -150,7 +147,7 @@ impl BatchFunction for Ripemd320Function {
     ghost some_bytes = { omega arith };
 }
 
-// Where a group of at most `size` ends that begins at place `at`, of `len` in all.
+// The end of the group of at most `size` that begins at place `at`, of `len` places.
 #[inline(always)]
 pub(crate) fn group_end(len: usize, at: usize, size: usize) -> usize
     requires { at < len }
@@ -159,8 +156,8 @@ pub(crate) fn group_end(len: usize, at: usize, size: usize) -> usize
     if len - at < size { len } else { at + size }
 }
 
-// How many blocks some messages have together, and how many the longest has. It has no contract, since the
-// digests are the same at any answer: by this one it is seen which way is the faster.
+// The number of blocks of all messages, and that of the longest. It has no contract: it only chooses the faster way
+// to the same digests.
 pub(crate) fn count_blocks(messages: &[&[u8]]) -> (usize, usize) {
     let mut all: usize = 0;
     let mut longest = 0;
@@ -174,7 +171,7 @@ pub(crate) fn count_blocks(messages: &[&[u8]]) -> (usize, usize) {
     (all, longest)
 }
 
-// The digest of one message.
+// The digest of a message, from the state `first`, to which `before` bytes led.
 pub(crate) fn digest_one<D: BatchDigest>(
     first: StateOf<D>,
     before: u64,
@@ -187,7 +184,7 @@ pub(crate) fn digest_one<D: BatchDigest>(
     D::Function::output(last_state::<D>(first, before, message))
 }
 
-// The state whose output that is.
+// The state whose output is the digest that `digest_one` gives.
 pub(crate) fn last_state<D: BatchDigest>(
     first: StateOf<D>,
     before: u64,
@@ -209,7 +206,7 @@ pub(crate) fn digest_of_digest<D: BatchDigest>(first: StateOf<D>, digest: &[u8])
     D::Function::output(state_of_digest::<D>(first, digest))
 }
 
-// The state whose output that is.
+// The state whose output is the digest that `digest_of_digest` gives.
 #[inline(always)]
 pub(crate) fn state_of_digest<D: BatchDigest>(first: StateOf<D>, digest: &[u8]) -> StateOf<D>
     requires { D.Function.is_state first }
@@ -219,7 +216,6 @@ pub(crate) fn state_of_digest<D: BatchDigest>(first: StateOf<D>, digest: &[u8]) 
     walk_words::<D::Function>(first, 64, digest)
 }
 
-// Message `i`.
 #[inline(always)]
 pub(crate) fn message_at<'a>(messages: &[&'a [u8]], i: usize) -> &'a [u8]
     requires { i < length messages.now }
@@ -228,7 +224,7 @@ pub(crate) fn message_at<'a>(messages: &[&'a [u8]], i: usize) -> &'a [u8]
     messages[i]
 }
 
-// The blocks of message `j`; a block of zero bytes behind the last.
+// The blocks of message `j`, or a block of zero bytes if there is none.
 #[inline(always)]
 fn blocks_of_message<'a, 'b>(
     before: u64,
@@ -247,9 +243,9 @@ fn blocks_of_message<'a, 'b>(
     }
 }
 
-// The states whose outputs are those of some messages, walked through from a state to which so many bytes
-// before them led, and where there is a second state, the outputs of these from there. Each message has two
-// blocks here, in which its padding is made.
+// The states whose outputs are the digests of the messages, from the state `first`, to which `before` bytes led. If
+// there is a state `outer`, the outputs are hashed again from it. The padding of each message is made in two blocks
+// here.
 pub(crate) fn walk_group<S: LaneStates>(
     first: <S::Function as BlockFunction>::State,
     before: u64,
@@ -283,16 +279,17 @@ pub(crate) fn walk_group<S: LaneStates>(
     let counts = block_counts(&blocks);
     let most = most(&counts);
     let mut states = S::splat(first);
+    // A turn for each block of the longest message, and the last one if the outputs are hashed again.
     let turns = if outer.is_some() { most + 1 } else { most };
     let second = outer.unwrap_or(first);
     for i in 0..turns {
-        let next = next_states(states, &blocks, &counts, i, most <= i, second);
+        let again = i >= most;
+        let next = next_states(states, &blocks, &counts, i, again, second);
         states = next;
     }
     states
 }
 
-// How many blocks each message has.
 fn block_counts(blocks: &[MessageBlocks; 8]) -> [usize; 8]
     ensures fits { (j : ℕ) → j < 8 → slice_index result j < 2 ^ 64 - 1 }
     ensures value { (j : ℕ) → j < 8 → slice_index result j ≡ length (blocks_of blocks.now j) }
@@ -309,7 +306,6 @@ fn block_counts(blocks: &[MessageBlocks; 8]) -> [usize; 8]
     ]
 }
 
-// The greatest of eight counts.
 fn most(counts: &[usize; 8]) -> usize
     ensures fits { ((j : ℕ) → j < 8 → slice_index counts.now j < 2 ^ 64 - 1)
         → result < 2 ^ 64 - 1 }
@@ -324,8 +320,8 @@ fn most(counts: &[usize; 8]) -> usize
     most
 }
 
-// The states after block `i` of the messages that have one, where the others stay as they are; or, if the
-// outputs are hashed again, those after them, as messages after one block, which led to the state `second`.
+// The states after block `i` of the messages that have one; the others stay. Or, if `again`, the states after the
+// outputs, hashed as messages after one block, which led to the state `second`.
 #[inline(always)]
 fn next_states<S: LaneStates>(
     states: S,
@@ -346,7 +342,7 @@ fn next_states<S: LaneStates>(
         ≡ hash_after 64 (S.Function.list second) S.Function.step S.Function.output
         (S.Function.output (S.words_of j states)) }
 {
-    // One call for both, so that the steps stand once in a program.
+    // One call for both, so that a program has the steps once.
     let taken = taken_in(states, blocks, i, again, second);
     let next = taken.0.compress(&taken.1);
     if again {
@@ -383,7 +379,7 @@ fn taken_in<S: LaneStates>(
     }
 }
 
-// All bits in the words of the messages that have a block `i`, and 0 in the others.
+// All bits for the messages that have a block `i`, and 0 for the others.
 #[inline(always)]
 fn live_lanes(counts: &[usize; 8], i: usize) -> [u32; 8]
     ensures yes { (j : ℕ) → j < 8 → i < slice_index counts.now j
@@ -402,7 +398,6 @@ fn live_lanes(counts: &[usize; 8], i: usize) -> [u32; 8]
     ]
 }
 
-// All bits if block `i` is one of the `count` blocks, and 0 if it is not.
 #[inline(always)]
 fn is_live(count: usize, i: usize) -> u32
     ensures yes { i < count → result ≡ 0xffff_ffff }

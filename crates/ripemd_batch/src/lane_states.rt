@@ -1,5 +1,4 @@
-//! The states of many messages, and what differs between the variants: how many words a state has,
-//! and what a block does to them.
+//! The states of many messages: each variant has its own number of words and its own compression function.
 
 ghost use Rattle.std.specs.Prelude.{◌≡◌, ℕ, ◌<◌, ◌≤◌, ◌+◌, ◌-◌, ◌*◌, ◌^◌, List, [], ◌∷◌, ◌++◌, length, map, replicate, slice_index};
 ghost use Rattle.std.specs.Int.Bits.{bit_xor};
@@ -14,8 +13,7 @@ use ripemd_block::block_api::{
     Ripemd256Function, Ripemd320Function,
 };
 
-// The states of many messages: each variant has its own number of words. Not exported, so that no
-// other crate can call it.
+// The states of many messages. Not exported, so that no other crate can call it.
 pub trait LaneStates: Copy {
     // The vectors.
     type Vector: Lanes;
@@ -26,17 +24,17 @@ pub trait LaneStates: Copy {
     // The words of message `j`.
     ghost words_of: { ℕ → Self → List ℕ };
 
-    // The same words for each message.
+    // One state for each message.
     fn splat(words: <Self::Function as BlockFunction>::State) -> Self
         ensures { (j : ℕ) → j < Self.Vector.COUNT → words_of j result ≡ Self.Function.list words };
 
-    // The states after one more block of each message, of which these are the message words.
+    // The states after a block of each message, with these message words.
     fn compress(self, words: &[Self::Vector; 16]) -> Self
         ensures { (j : ℕ) → j < Self.Vector.COUNT → (block : List ℕ)
             → HasWords (map Self.Vector.words words.now) j block
             → words_of j result ≡ Self.Function.step (words_of j self) block };
 
-    // The message words of the outputs with their padding, as messages after one block: a block each.
+    // The message words of the outputs as messages after one block, with their padding: a block each.
     fn last_words(self) -> [Self::Vector; 16]
         ensures words { (j : ℕ) → j < Self.Vector.COUNT
             → HasWords (map Self.Vector.words result) j
@@ -44,14 +42,13 @@ pub trait LaneStates: Copy {
         ensures size { (j : ℕ) → j < Self.Vector.COUNT
             → length (padded_after 64 (Self.Function.output (words_of j self))) ≡ 64 };
 
-    // The states whose outputs have the bits in which those of the two differ.
+    // The states whose outputs are the exclusive or of the outputs.
     fn xor(self, other: Self) -> Self
         ensures { (j : ℕ) → j < Self.Vector.COUNT → Self.Function.output (words_of j result)
             ≡ zip2 bit_xor (Self.Function.output (words_of j self))
             (Self.Function.output (words_of j other)) };
 
-    // The new states of the messages whose word in `live` has all bits set, and the old ones of
-    // those where it is 0.
+    // The new states of the messages whose word in `live` has all bits set, and the old ones of those where it is 0.
     fn select(live: Self::Vector, new: Self, old: Self) -> Self
         ensures taken { (j : ℕ) → j < Self.Vector.COUNT
             → slice_index (Self.Vector.words live) j ≡ 0xffff_ffff
@@ -66,7 +63,6 @@ pub trait LaneStates: Copy {
         ensures { Self.Function.Digest.bytes result ≡ Self.Function.output (words_of j self.now) };
 }
 
-// The same words for each message.
 #[tactic(auto, using(crate::proofs::OneLane::lane_is))]
 #[inline(always)]
 fn splat_each<V: Lanes, const N: usize>(words: [u32; N]) -> [V; N]
@@ -79,8 +75,6 @@ fn splat_each<V: Lanes, const N: usize>(words: [u32; N]) -> [V; N]
     states
 }
 
-// The new words of the messages whose word in `live` has all bits set, and the old ones of those
-// where it is 0.
 #[tactic(auto, using(crate::proofs::OneLane::same_lane))]
 #[inline(always)]
 fn select_each<V: Lanes, const N: usize>(live: V, new: [V; N], old: [V; N]) -> [V; N]
@@ -96,7 +90,7 @@ fn select_each<V: Lanes, const N: usize>(live: V, new: [V; N], old: [V; N]) -> [
     states
 }
 
-// The message words of the outputs of the states with their padding, as messages after one block.
+// What `last_words` gives.
 #[inline(always)]
 fn last_words_of<V: Lanes, const N: usize>(states: [V; N]) -> [V; 16]
     requires { N ≤ 13 }
@@ -113,7 +107,7 @@ fn last_words_of<V: Lanes, const N: usize>(states: [V; N]) -> [V; 16]
     words
 }
 
-// Word `i` of them.
+// Word `i` of `last_words`.
 #[inline(always)]
 fn last_word<V: Lanes, const N: usize>(states: &[V; N], i: usize) -> V
     requires few { N ≤ 13 }
@@ -129,7 +123,7 @@ fn last_word<V: Lanes, const N: usize>(states: &[V; N], i: usize) -> V
     }
 }
 
-// Word `i` of the last block of a message of one block and `n` words, behind these.
+// Word `i` of the last block of a message of one block and `n` words, after these words.
 #[inline(always)]
 fn padding_word(n: usize, i: usize) -> u32
     requires few { n ≤ 13 }
@@ -146,7 +140,6 @@ fn padding_word(n: usize, i: usize) -> u32
     }
 }
 
-// The bits in which the words differ.
 #[tactic(auto, using(crate::proofs::DigestWords::xor_lane))]
 #[inline(always)]
 fn xor_each<V: Lanes, const N: usize>(a: [V; N], b: [V; N]) -> [V; N]

@@ -8,10 +8,8 @@ ghost use Rattle.ripemd_batch.specs.Lanes.{lane_at, list_at, targets};
 
 /// Vectors with a word of each message. Not exported, so that no other crate can call it.
 pub trait Lanes: Copy {
-    // Its words.
     ghost words: { Self → List ℕ };
 
-    // How many there are.
     ghost COUNT: { ℕ };
 
     /// The first words of an array.
@@ -27,7 +25,7 @@ pub trait Lanes: Copy {
     fn splat(word: u32) -> Self
         ensures { (j : ℕ) → j < COUNT → slice_index (words result) j ≡ word };
 
-    /// The same words, of which contracts then know that they are below 2^32.
+    /// The words, of which contracts then know that they are below 2^32.
     fn known(self) -> Self
         ensures same { result ≡ self }
         ensures words { (j : ℕ) → j < COUNT → slice_index (words result) j < 2 ^ 32 };
@@ -37,20 +35,20 @@ pub trait Lanes: Copy {
         ensures { (j : ℕ) → j < COUNT → slice_index (words result) j
             ≡ slice_index (words self) j ⊞ slice_index (words other) j };
 
-    /// The bits that differ between the words.
+    /// The exclusive or of the words.
     fn xor(self, other: Self) -> Self
         ensures value { (j : ℕ) → j < COUNT → slice_index (words result) j
             ≡ bit_xor (slice_index (words self) j) (slice_index (words other) j) }
         ensures words { (j : ℕ) → j < COUNT → slice_index (words self) j < 2 ^ 32 }
         ensures other_words { (j : ℕ) → j < COUNT → slice_index (words other) j < 2 ^ 32 };
 
-    /// The bits that both words have.
+    /// The bitwise and of the words.
     fn and(self, other: Self) -> Self
         ensures value { (j : ℕ) → j < COUNT → slice_index (words result) j
             ≡ bit_and (slice_index (words self) j) (slice_index (words other) j) }
         ensures words { (j : ℕ) → j < COUNT → slice_index (words self) j < 2 ^ 32 };
 
-    /// The other bits of each word.
+    /// The complement of each word.
     fn not(self) -> Self
         ensures value { (j : ℕ) → j < COUNT → slice_index (words result) j
             ≡ bit_not w32 (slice_index (words self) j) }
@@ -68,7 +66,7 @@ pub trait Lanes: Copy {
         ensures { (k : ℕ) → k < 4 → (j : ℕ) → j < COUNT → lane_at (map words result) k j
             ≡ message_word (list_at (targets blocks.now) j) (4 * i + k) };
 
-    // There are at most eight.
+    // There are at most eight words.
     ghost few: { COUNT ≤ 8 };
 
     // Sixteen vectors can lie in memory.

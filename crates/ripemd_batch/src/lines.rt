@@ -29,7 +29,7 @@ pub(crate) trait LineRegisters: Copy {
     /// The vectors.
     type Vector: Lanes;
 
-    // Those of message `j`.
+    // The registers of message `j`.
     ghost lane: { ℕ → Self → List ℕ };
 
     ghost ROUNDS: { ℕ };
@@ -116,7 +116,7 @@ impl<V: Lanes> LineRegisters for [V; 5] {
     }
 }
 
-// The Boolean function of round `r` of a line of so many rounds.
+// The Boolean function of round `r` of a line of `rounds` rounds.
 #[inline(always)]
 fn function<V: Lanes>(side: Side, rounds: usize, r: usize, x: V, y: V, z: V) -> V
     requires round { r < rounds }
@@ -131,8 +131,8 @@ fn function<V: Lanes>(side: Side, rounds: usize, r: usize, x: V, y: V, z: V) -> 
     }
 }
 
-// Boolean function number `k` of the words of each message (1996, functions), by few operations: 1
-// and 3 are factored, and 2 and 4 are complements.
+// Boolean function `k` of the words of each message (1996, functions), by few operations: 1 and 3 are factored, and 2
+// and 4 are complements.
 #[inline(always)]
 fn boolean_function<V: Lanes>(k: usize, x: V, y: V, z: V) -> V
     requires { k < 5 }
@@ -149,7 +149,7 @@ fn boolean_function<V: Lanes>(k: usize, x: V, y: V, z: V) -> V
     }
 }
 
-// The number of the message word that step `i` of round `r` of a line takes, of however many rounds.
+// The number of the message word that step `i` of round `r` of a line takes, for any number of rounds.
 #[inline(always)]
 fn word_number(side: Side, r: usize, i: usize) -> usize
     requires round { r < 5 }
@@ -211,8 +211,7 @@ fn four_steps<R: LineRegisters>(
     registers
 }
 
-/// Round `N` of both lines: sixteen steps, by fours of one line and of the other, which do not wait
-/// for each other.
+/// Round `N` of both lines: four steps of the one and four of the other in turn, since neither waits for the other.
 #[inline(always)]
 pub(crate) fn round<R: LineRegisters, const N: usize>(
     words: &[R::Vector; 16],

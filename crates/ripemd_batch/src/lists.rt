@@ -16,6 +16,14 @@ use ripemd_block::block_api::{BlockFunction, walk};
 use ripemd_mac::hmac::masked_keys;
 use std::marker::Model;
 
+// Eight messages go at once if together they have at least so many times the blocks of the longest: five of one length
+// take less time in eight lanes of AVX2 than four at once and one alone (docs/measured).
+const FOR_EIGHT: usize = 5;
+
+// Four messages go at once if together they have more than so many times the blocks of the longest: four of one length
+// take nearly as long in four lanes as two one after another.
+const FOR_FOUR: usize = 2;
+
 /// Writes the digest of each message to the place in `digests` that the message has in `messages`.
 /// There must be as many places as messages. Nothing is allocated.
 ///
@@ -44,16 +52,16 @@ pub fn tag_each<D: BatchDigest>(key: &[u8], texts: &[&[u8]], tags: &mut [D::Outp
     ListHasher::<D>::keyed(key).hash_each(texts, tags);
 }
 
-/// Makes the digest of each message of a list, or its tag under a key (RFC 2104), for any number of
-/// lists. Contracts see the states from which it hashes, by what these make of a message.
+/// Makes the digest of each message of a list, or its tag under a key (RFC 2104), for any number of lists. Contracts
+/// see the states from which it hashes.
 #[derive(Drop)]
 pub struct ListHasher<D: BatchDigest> {
     // The state from which messages are hashed, and how many bytes led to it.
     first: StateOf<D>,
     before: u64,
-    // Of tags, the state after the outer masked key.
+    // For tags, the state after the outer masked key.
     outer: Option<StateOf<D>>,
-    // Whether at most four messages go at once, and not eight.
+    // Whether at most four messages go at once.
     by_fours: bool,
 }
 
@@ -74,7 +82,7 @@ impl<D: BatchDigest> Model for ListHasher<D> {
 }
 
 impl<D: BatchDigest> ListHasher<D> {
-    /// Of digests.
+    /// A hasher that makes digests.
     pub fn new() -> ListHasher<D>
         ensures { made_by D.step D.output result ≡ hash D.start D.step D.output }
     {
@@ -86,7 +94,7 @@ impl<D: BatchDigest> ListHasher<D> {
         }
     }
 
-    /// Of tags under a key of any length, which is hashed here, once for all lists.
+    /// A hasher that makes tags under a key of any length. The key is hashed here, once for all lists.
     pub fn keyed(key: &[u8]) -> ListHasher<D>
         ensures { made_by D.step D.output result ≡ hmac (hash D.start D.step D.output) key.now }
     {
@@ -99,8 +107,8 @@ impl<D: BatchDigest> ListHasher<D> {
         }
     }
 
-    /// The same for a processor whose vectors have so many words. With fewer than eight, at most four
-    /// messages go at once: on a Xeon of Cascade Lake eight took longer than two times four.
+    /// The hasher for a processor whose vectors have so many words. With fewer than eight, at most four messages go
+    /// at once: on a Xeon of Cascade Lake eight took longer than two times four.
     pub fn in_vectors_of(self, words: u32) -> ListHasher<D>
         ensures { result ≡ self }
     {
@@ -134,8 +142,8 @@ impl<D: BatchDigest> ListHasher<D> {
         self.put_each::<Bytes>(messages, bytes);
     }
 
-    // Puts what is made of each message in its place. One or two go one after another, since they leave most lanes
-    // without work.
+    // Puts the output of each message in its place. One or two messages go one after another: they would leave most
+    // lanes idle.
     #[inline(always)]
     fn put_each<P: Places<D::Output>>(&self, messages: &[&[u8]], places: &mut [P::Element])
         requires { length (P.list places.old) ≡ length messages.now }
@@ -148,8 +156,8 @@ impl<D: BatchDigest> ListHasher<D> {
         }
     }
 
-    // Puts what is made of the messages in the places from `at` on, in groups of eight. Not inlined, so that few
-    // messages take none of its stack; without the loop over groups in it, the compiler does not inline the rounds.
+    // Puts the outputs in the places from `at` on, in groups of eight. Not inlined, so that few messages take none of
+    // its stack; without the loop over groups in it, the compiler does not inline the rounds.
     #[inline(never)]
     fn put_groups<P: Places<D::Output>>(
         &self,
@@ -168,7 +176,7 @@ impl<D: BatchDigest> ListHasher<D> {
         }
     }
 
-    // The same of at most eight messages: at once where that is faster, or else by fours.
+    // Puts the outputs of at most eight messages: at once if that is faster, or else by fours.
     fn put_group<P: Places<D::Output>>(
         &self,
         messages: &[&[u8]],
@@ -183,7 +191,7 @@ impl<D: BatchDigest> ListHasher<D> {
     {
         if !self.by_fours {
             let (all, longest) = count_blocks(messages);
-            if all / 5 >= longest {
+            if all >= longest.saturating_mul(FOR_EIGHT) {
                 self.put_lanes::<P, D::Eight>(messages, at, places);
                 return;
             }
@@ -194,7 +202,7 @@ impl<D: BatchDigest> ListHasher<D> {
         }
     }
 
-    // The same of at most four messages: at once where that is faster, or else one by one.
+    // Puts the outputs of at most four messages: at once if that is faster, or else one by one.
     fn put_four<P: Places<D::Output>>(
         &self,
         messages: &[&[u8]],
@@ -208,14 +216,14 @@ impl<D: BatchDigest> ListHasher<D> {
             (P.list places.old) (P.list places.new) }
     {
         let (all, longest) = count_blocks(messages);
-        if all.div_ceil(2) > longest {
+        if all > longest.saturating_mul(FOR_FOUR) {
             self.put_lanes::<P, D::Four>(messages, at, places);
         } else {
             self.put_one_by_one::<P>(messages, at, places);
         }
     }
 
-    // The same of some messages, all at once.
+    // Puts the outputs of messages that are hashed at once.
     fn put_lanes<P: Places<D::Output>, S: LaneStates<Function = D::Function>>(
         &self,
         messages: &[&[u8]],
@@ -229,7 +237,7 @@ impl<D: BatchDigest> ListHasher<D> {
             (P.list places.old) (P.list places.new) }
     {
         let states: S = walk_group(self.first, self.before, self.outer, messages);
-        // Eight turns, so that the compiler knows the lane of each.
+        // Eight turns: so the compiler knows the lane of each.
         for j in 0..8 {
             if j < messages.len() {
                 let output = states.digest_of(j);
@@ -238,7 +246,7 @@ impl<D: BatchDigest> ListHasher<D> {
         }
     }
 
-    // The same, one message after another.
+    // Puts the outputs of messages that are hashed one after another.
     #[inline(always)]
     fn put_one_by_one<P: Places<D::Output>>(
         &self,
@@ -257,7 +265,7 @@ impl<D: BatchDigest> ListHasher<D> {
         }
     }
 
-    // What is made of one message.
+    // The output of one message.
     #[inline(always)]
     fn hash_one(&self, message: &[u8]) -> D::Output
         ensures { D.bytes_of result ≡ made_by D.step D.output self.now message.now }
@@ -270,7 +278,7 @@ impl<D: BatchDigest> ListHasher<D> {
     }
 }
 
-// The state after one block.
+// The state after a block, from the start.
 pub(crate) fn state_after<D: BatchDigest>(block: [u8; 64]) -> StateOf<D>
     ensures value { D.Function.list result ≡ D.step D.start block }
     ensures valid { D.Function.is_state result }

@@ -1,4 +1,4 @@
-//! The blocks of a message with its padding, of which the whole ones stay where they lie.
+//! The blocks of a message with its padding; the whole blocks are not copied.
 
 ghost use Rattle.std.specs.Prelude.{◌≡◌, ◌-◌, ◌^◌, ◌<◌, [], ◌∷◌, ◌++◌, length, take, replicate, slice_index_or};
 ghost use Rattle.ripemd_block.specs.Standard.Words.{block_size, eight_bytes};
@@ -8,8 +8,7 @@ ghost use Rattle.ripemd_batch.specs.Lanes.{padded_after};
 use ripemd::padding::{last_blocks, whole_blocks};
 use std::marker::Model;
 
-/// The blocks of a message with its padding: the whole ones, and the last one or two. Contracts see
-/// the list of them.
+/// The blocks of a message with its padding: the whole ones, and the last one or two. Contracts see the list of them.
 #[derive(Drop)]
 pub(crate) struct MessageBlocks<'a, 'b> {
     whole: &'a [[u8; 64]],
@@ -27,8 +26,8 @@ impl<'a, 'b> Model for MessageBlocks<'a, 'b> {
 }
 
 impl<'a, 'b> MessageBlocks<'a, 'b> {
-    /// The blocks of a message with so many bytes before it, which count in its length. The last
-    /// ones are made in the place of two blocks of zero bytes.
+    /// The blocks of a message with its padding. The length counts also the `before` bytes before it. The last blocks
+    /// are made in place of two blocks of zero bytes.
     #[inline(always)]
     pub(crate) fn of(
         before: u64,
@@ -46,7 +45,7 @@ impl<'a, 'b> MessageBlocks<'a, 'b> {
         }
     }
 
-    /// Where there is no message, a block of zero bytes.
+    /// A block of zero bytes, if there is no message.
     #[inline(always)]
     pub(crate) fn none(zeros: &'b mut [[u8; 64]; 2]) -> MessageBlocks<'a, 'b>
         requires { zeros.old ≡ replicate 2 (replicate block_size 0) }
@@ -57,7 +56,7 @@ impl<'a, 'b> MessageBlocks<'a, 'b> {
         }
     }
 
-    /// How many there are.
+    /// The number of blocks.
     #[inline(always)]
     pub(crate) fn count(&self) -> usize
         ensures value { result ≡ length self.now }

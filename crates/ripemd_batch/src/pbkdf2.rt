@@ -19,8 +19,8 @@ use ripemd_mac::hmac::{filled, masked_keys};
 use ripemd_mac::pbkdf2::{allowed, combined, write_front};
 use std::marker::Model;
 
-/// Derives a key from a password and a salt as [`ripemd_mac::pbkdf2_hmac`] does, by so many rounds,
-/// and writes it to `key`: up to eight blocks at once. Nothing is allocated.
+/// Derives a key from a password and a salt as [`ripemd_mac::pbkdf2_hmac`] does, up to eight blocks at
+/// once, and writes it to `key`. Nothing is allocated.
 ///
 /// # Errors
 ///
@@ -45,9 +45,9 @@ pub fn pbkdf2_hmac<D: BatchDigest>(
     pbkdf2_hmac_each::<D>(&[password], &[salt], rounds, size, key)
 }
 
-/// Derives a key of `size` bytes from each password and the salt in its place, by so many rounds, and
-/// writes one after another to `keys`: up to eight of all their blocks at once. There must be as many
-/// salts as passwords, and room for so many keys. Nothing is allocated.
+/// Derives a key of `size` bytes from each password and the salt in its place, up to eight blocks at
+/// once, and writes the keys one after another to `keys`. There must be as many salts as passwords, and
+/// room for as many keys. Nothing is allocated.
 ///
 /// # Errors
 ///
@@ -88,8 +88,7 @@ pub fn pbkdf2_hmac_each<D: BatchDigest>(
     Ok(())
 }
 
-// The blocks of the keys of a list, one key after another: so many of each, of which there are not too
-// many. Contracts see the list.
+// The blocks of the keys of a list, one key after another: `count` of each.
 #[derive(Drop)]
 struct KeyBlocks<'a> {
     passwords: &'a [&'a [u8]],
@@ -117,7 +116,7 @@ impl<'a> Model for KeyBlocks<'a> {
 }
 
 impl<'a> KeyBlocks<'a> {
-    // How many there are.
+    // The number of blocks.
     fn total(&self) -> usize
         ensures value { result ≡ total self.now }
         ensures fits { result < 2 ^ 63 }
@@ -125,8 +124,7 @@ impl<'a> KeyBlocks<'a> {
         self.count * self.passwords.len()
     }
 
-    // Writes key `i`. The group of eight is that which the next block belongs to, unless it begins with that
-    // block.
+    // Writes key `i`. `group` has the eight blocks among which the next one is, unless a group begins with it.
     fn write_key<D: BatchDigest>(&self, i: usize, group: &mut [[u8; 64]; 8], key: &mut [u8])
         requires pair { i < length self.now.passwords }
         requires count { self.now.count ≡ div_ceil (length key.old) D.OUTPUT_SIZE }
@@ -147,8 +145,8 @@ impl<'a> KeyBlocks<'a> {
         }
     }
 
-    // Derives the group of eight that block `k` is in where it begins with this block. The last block of all, if it is
-    // alone, is derived without lanes.
+    // Derives the group of eight that begins with block `k`, if one does. A last block that is alone is derived
+    // without lanes.
     fn begin_group<D: BatchDigest>(&self, k: usize, group: &mut [[u8; 64]; 8])
         requires { k < total self.now }
         ensures { InGroup D.OUTPUT_SIZE (hmac (hash D.start D.step D.output)) self.now k group.old
@@ -171,8 +169,8 @@ impl<'a> KeyBlocks<'a> {
         }
     }
 
-    // The blocks from block `k` on, at most eight, filled with zeros, all at once: one in each lane. Where
-    // there are fewer, the rest is any.
+    // The blocks from block `k` on, at most eight, filled with zeros: one in each lane. If there are fewer, the rest
+    // is any.
     fn blocks_at_once<D: BatchDigest, S: LaneStates<Function = D::Function>>(
         &self,
         k: usize,
@@ -199,7 +197,7 @@ impl<'a> KeyBlocks<'a> {
         blocks_of(&sums, live)
     }
 
-    // What block `k` is made of.
+    // The chain of block `k`.
     fn chain_at<D: BatchDigest>(&self, k: usize) -> Chain<D>
         requires { k < total self.now }
         ensures inner { D.Function.is_state result.inner }
@@ -229,7 +227,7 @@ fn only_lane<V: Lanes>(j: usize) -> V
     V::of(lanes)
 }
 
-// What a block is made of: the states after the two masked keys, and that whose output is the first tag.
+// The chain of tags of a block: the states after the two masked keys, and the state whose output is the first tag.
 #[derive(Drop)]
 struct Chain<D: BatchDigest> {
     inner: StateOf<D>,
@@ -237,7 +235,7 @@ struct Chain<D: BatchDigest> {
     first: StateOf<D>,
 }
 
-// That of block `number` of the key of one password.
+// The chain of block `number` of the key of a password.
 fn chain_of<D: BatchDigest>(password: &[u8], salt: &[u8], number: u32) -> Chain<D>
     ensures inner { D.Function.is_state result.inner }
     ensures outer { D.Function.is_state result.outer }
@@ -256,7 +254,6 @@ fn chain_of<D: BatchDigest>(password: &[u8], salt: &[u8], number: u32) -> Chain<
     }
 }
 
-// The digest of the inner masked key, the salt and the number of a block.
 fn inner_digest<D: Digest>(inner_key: &[u8; 64], salt: &[u8], number: u32) -> D::Output
     ensures { D.bytes_of result ≡ hash D.start D.step D.output
         (inner_key.now ++ salt.now ++ to_be_bytes w32 number) }
@@ -267,7 +264,7 @@ fn inner_digest<D: Digest>(inner_key: &[u8; 64], salt: &[u8], number: u32) -> D:
     hasher.finalize()
 }
 
-// The exclusive or of so many tags of a chain, the first one's tag and so on, filled with zeros.
+// The exclusive or of the first `rounds` tags of a chain, filled with zeros.
 fn one_by_one<D: BatchDigest>(chain: Chain<D>, rounds: u32) -> [u8; 64]
     requires rounds { 0 < rounds }
     requires inner { D.Function.is_state chain.inner }
@@ -320,7 +317,7 @@ fn blocks_of<S: LaneStates>(states: &S, live: usize) -> [[u8; 64]; 8]
     ]
 }
 
-// The digest of message `j`, filled with zeros; zeros alone behind the first `live`.
+// The digest of message `j`, filled with zeros, or zeros if it is none of the first `live`.
 #[inline(never)]
 fn digest_block<S: LaneStates>(states: &S, j: usize, live: usize) -> [u8; 64]
     requires { live ≤ S.Vector.COUNT }
@@ -334,8 +331,8 @@ fn digest_block<S: LaneStates>(states: &S, j: usize, live: usize) -> [u8; 64]
     }
 }
 
-// The states whose outputs are the exclusive or of so many tags: those that are the outputs of `first`,
-// their tags, the tags of these, and so on, from the states after the masked keys.
+// The states whose outputs are the exclusive or of `rounds` tags: the outputs of `first`, their tags, the tags of
+// these, and so on.
 #[inline(never)]
 fn combined_tags<S: LaneStates>(inner: S, outer: S, first: S, rounds: u32) -> S
     requires { 0 < rounds }
@@ -354,7 +351,7 @@ fn combined_tags<S: LaneStates>(inner: S, outer: S, first: S, rounds: u32) -> S
     sum
 }
 
-// The states whose outputs are the tags of those of `text`. Both halves go through one call, so that the
+// The states whose outputs are the tags of the outputs of `text`. Both halves go through one call, so that the
 // compiler writes out the rounds of it.
 #[inline(always)]
 fn tag_after<S: LaneStates>(inner: S, outer: S, text: S) -> S
@@ -370,7 +367,7 @@ fn tag_after<S: LaneStates>(inner: S, outer: S, text: S) -> S
     digest
 }
 
-// The states from which a half of a tag starts.
+// The states from which the inner or the outer half of a tag starts.
 #[inline(always)]
 fn first_of_half<S: LaneStates>(half: usize, inner: S, outer: S) -> S
     ensures inner { (j : ℕ) → j < S.Vector.COUNT → half ≡ 0
@@ -381,8 +378,8 @@ fn first_of_half<S: LaneStates>(half: usize, inner: S, outer: S) -> S
     if half == 0 { inner } else { outer }
 }
 
-// The states whose outputs are the digests of those of `digest`, as messages after one block, which led
-// to the states `first`.
+// The states whose outputs are the digests of the outputs of `digest`, as messages after one block, which led to
+// `first`.
 #[inline(always)]
 fn digest_after<S: LaneStates>(first: S, digest: S) -> S
     ensures { (j : ℕ) → j < S.Vector.COUNT → S.Function.output (S.words_of j result)

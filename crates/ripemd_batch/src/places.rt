@@ -7,7 +7,7 @@ use ripemd_block::block_api::ByteArray;
 
 // Places of outputs, in order.
 pub(crate) trait Places<O: ByteArray> {
-    // What they are made of.
+    // An element of the places.
     type Element;
 
     // The bytes at each place.
@@ -32,7 +32,7 @@ impl<O: ByteArray> Places<O> for Arrays {
     }
 }
 
-// As many bytes for each output as it has.
+// Bytes for each output.
 pub(crate) struct Bytes;
 
 impl<O: ByteArray> Places<O> for Bytes {

@@ -1,4 +1,4 @@
--- The Boolean functions, as the code computes them where that is not as they are defined.
+-- A Boolean function that the code computes otherwise than it is defined.
 use Rattle.std.proofs.Common.{◌≡◌, ℕ, ◌<◌, ◌+◌, ◌^◌, bit_and, bit_xor, arith}
 use Rattle.std.specs.Int.{w32, bit_not}
 use Rattle.std.proofs.lemmas.Nat.{or_disjoint, and_le_l, and_le_r, or_of_32, xor_of_32}

@@ -5,7 +5,7 @@ use Rattle.ripemd_block.specs.Standard.Hashing.{with_padding, blocks, partial_bl
 use Rattle.ripemd_block.specs.Laws.Pieces.{with_padding_rest}
 use Rattle.ripemd_block.specs.States.{HashState, with_tail, finish}
 
--- the blocks are those of the tail with its padding, and the length is that of the whole message
+-- if the blocks are those of the tail with its padding, and the length that of the whole message
 pub finish_of_blocks : {D : Type 0} (step : List ℕ → List ℕ → List ℕ) (output : List ℕ → D) (h : HashState)
     (tail : List ℕ) {bit_length : ℕ} {bs : List (List ℕ)} → bs ≡ blocks (with_padding tail bit_length)
     → bit_length ≡ 8 * (length tail + 64 * h.count) % 2 ^ 64

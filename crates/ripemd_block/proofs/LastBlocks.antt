@@ -25,7 +25,7 @@ marked_block tail ys byte short same =
 
 -- ---- a tail with its padding
 
--- after a short tail the length has its place in the same block
+-- after a short tail the length is in the same block
 with_padding_one : (tail : List ℕ) (n : ℕ) → length tail < 56
     → ((tail ++ 0x80 ∷ replicate (55 - length tail) 0) ++ eight_bytes n) ∷ [] ≡ blocks (with_padding tail n)
 unfolding with_padding
@@ -48,7 +48,7 @@ with_padding_short tail n h =
     rw (more, ← replicate-append-replicate {A = ℕ} (55 - length tail) 8 0, append_assoc tail mark (replicate 8 0)) in
     rw (split, take_at (tail ++ mark) (replicate 8 0) 56 front) (with_padding_one tail n h)
 
--- after a long one it has its place in a second block
+-- after a long one it is in a second block
 pub with_padding_long : (tail : List ℕ) (n : ℕ) → 56 ≤ length tail → length tail < 64
     → (tail ++ 0x80 ∷ replicate (63 - length tail) 0) ∷ (replicate 56 0 ++ eight_bytes n) ∷ []
     ≡ blocks (with_padding tail n)
@@ -64,7 +64,7 @@ with_padding_long tail n low high =
     (append_assoc (tail ++ mark) (replicate 56 0) (eight_bytes n)) in
     rw (count, split) (sym (blocks_of_two (tail ++ mark) end front refl))
 
--- ---- the same, put together in words
+-- ---- a block assembled from words
 
 zero_bytes : (k : ℕ) → word_bytes (replicate k 0) ≡ replicate (4 * k) 0
 zero_bytes zero = refl
@@ -83,7 +83,7 @@ words_padded tail n front behind last of_front short words is_behind of_last =
     (ap (λ (bs : List ℕ). bs ∷ []) (sym (append_assoc tail (0x80 ∷ replicate (55 - length tail) 0) (eight_bytes n)))
     ∙ with_padding_one tail n short)
 
--- of sixteen zeros behind n words and before the last two, the first becomes the mark
+-- of sixteen zero words, after n words and before the last two, the first becomes the mark
 pub words_marked : (n k : ℕ) (behind : List ℕ) → n < 14 → k ≡ 14 - n → behind ≡ take k (drop n (replicate 16 0))
     → slice_set behind 0 0x80 ≡ 0x80 ∷ replicate (13 - n) 0
 words_marked n k behind few count is =

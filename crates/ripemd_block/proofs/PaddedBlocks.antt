@@ -13,7 +13,6 @@ use Rattle.ripemd_block.specs.Standard.Hashing.{zero_count, with_padding, padded
 use Rattle.ripemd_block.specs.Laws.Blocks.{length-blocks}
 use Rattle.ripemd_block.specs.Laws.Pieces.{with_padding_rest}
 
--- how many bytes a message has with its padding
 pub length-padded_message : (m : List ℕ) → length (padded_message m) ≡ length m + 9 + zero_count (length m)
 unfolding with_padding
 length-padded_message m =
@@ -22,21 +21,18 @@ length-padded_message m =
     let count = length-replicate {A = ℕ} (zero_count (length m)) 0 in
     omega (arith, length-append (m ++ 0x80 ∷ zeros) end, length-append m (0x80 ∷ zeros), count)
 
--- how many blocks those are
 pub length-padded_blocks : (m : List ℕ)
     → length (blocks (padded_message m)) ≡ (length m + 9 + zero_count (length m)) / 64
 length-padded_blocks m = length-blocks (padded_message m) ∙ ap (λ n. n / 64) (length-padded_message m)
 
 -- ---- an element of two joined lists
 
--- one of the first list
 slice_get-append-first : {X : Type 0} (xs ys : List X) (i : ℕ) → i < length xs
     → slice_get (xs ++ ys) i ≡ slice_get xs i
 slice_get-append-first [] ys i h = absurd (omega arith)
 slice_get-append-first (x ∷ xs) ys zero h = refl
 slice_get-append-first (x ∷ xs) ys (suc i) h = slice_get-append-first xs ys i (omega arith)
 
--- one of the second, or none
 slice_get-append-second : {X : Type 0} (xs ys : List X) (i j : ℕ) → i ≡ length xs + j
     → slice_get (xs ++ ys) i ≡ slice_get ys j
 slice_get-append-second [] ys i j h = let same : i ≡ j = omega arith in rw same refl
@@ -65,9 +61,8 @@ last_block m place last of_last tail_is length_is behind =
     rw (with_padding_rest m n, slice_get-append-second (blocks m) rest place j (omega arith))
     (rw (of_last, tail_is, length_is) refl)
 
--- ---- what a padded message begins with and ends in, and whole blocks
+-- ---- the parts of a padded message, and whole blocks
 
--- it begins with the message
 start-padded_message : (m : List ℕ) → take (length m) (padded_message m) ≡ m
 unfolding with_padding
 start-padded_message m =
@@ -86,11 +81,9 @@ end-padded_message m =
     let place : length front ≡ length (front ++ end) - 8 = omega (arith, length-append front end) in
     drop_at front end (length (front ++ end) - 8) place
 
--- it is whole blocks
 pub whole-padded_message : (m : List ℕ) → length (padded_message m) ≡ 64 * length (blocks (padded_message m))
 whole-padded_message m = omega (arith, length-padded_message m, length-padded_blocks m)
 
--- the chunk at a place
 get_or-first_chunks : (k i : ℕ) (xs : List ℕ) → i < k → get_or (first_chunks 64 k xs) i [] ≡ take 64 (drop (64 * i) xs)
 get_or-first_chunks zero i xs h = absurd (omega arith)
 get_or-first_chunks (suc k) zero xs h = refl
@@ -98,7 +91,7 @@ get_or-first_chunks (suc k) (suc i) xs h =
     let place : 64 + 64 * i ≡ 64 * suc i = omega arith in
     get_or-first_chunks k i (drop 64 xs) (omega arith) ∙ rw (drop-drop (64 * i) 64 xs, place) refl
 
--- the end of whole blocks is that of the last of them
+-- the last 8 bytes of whole blocks are those of the last block
 end_of_last_block : (xs : List ℕ) (n : ℕ) → length xs ≡ 64 * suc n
     → drop 56 (get_or (blocks xs) (length (blocks xs) - 1) []) ≡ drop (length xs - 8) xs
 unfolding blocks
@@ -109,7 +102,7 @@ end_of_last_block xs n size =
     let all = take_all 64 (drop (64 * n) xs) (omega (arith, length-drop (64 * n) xs)) in
     rw (place, count, get_or-first_chunks (suc n) n xs (omega arith), all, drop-drop 56 (64 * n) xs, end) refl
 
--- lists with the same chunks are the same
+-- lists with equal chunks are equal
 one_list_of_chunks : (k : ℕ) (xs ys : List ℕ) → length xs ≡ 64 * k → length ys ≡ 64 * k
     → first_chunks 64 k xs ≡ first_chunks 64 k ys → xs ≡ ys
 one_list_of_chunks zero [] [] hx hy same = refl
@@ -124,12 +117,11 @@ one_list_of_chunks (suc k) xs ys hx hy same =
 
 -- ---- messages with the same padding
 
--- the number that eight bytes are of
+-- eight bytes determine their number
 one_number : (n k : ℕ) → n < 2 ^ 64 → k < 2 ^ 64 → eight_bytes n ≡ eight_bytes k → n ≡ k
 one_number n k hn hk same =
     sym (from_le_bytes-to_le_bytes_8 n hn) ∙ ap (from_le_bytes w64) same ∙ from_le_bytes-to_le_bytes_8 k hk
 
--- messages with one padded message are one
 pub one_message : (a b : List ℕ) → padded_message a ≡ padded_message b → a ≡ b
 one_message a b same =
     let size : length (padded_message a) ≡ length (padded_message b) = ap length same in
@@ -139,7 +131,7 @@ one_message a b same =
     let count : length a ≡ length b = omega (arith, length-padded_message a, length-padded_message b) in
     sym (start-padded_message a) ∙ rw (same, count) (start-padded_message b)
 
--- messages whose padding has the same blocks are one
+-- messages whose padded messages have the same blocks are equal
 pub one_message_of_blocks : (a b : List ℕ) → blocks (padded_message a) ≡ blocks (padded_message b) → a ≡ b
 unfolding blocks
 one_message_of_blocks a b same =
@@ -151,7 +143,7 @@ one_message_of_blocks a b same =
     let chunks = rw (count_a, count_b) at same in
     one_message a b (one_list_of_chunks n (padded_message a) (padded_message b) size size_b chunks)
 
--- messages shorter than 2 ^ 61 bytes whose last blocks are the same have the same length
+-- messages shorter than 2 ^ 61 bytes with the same last block have the same length
 pub one_length : (a b : List ℕ) → length a < 2 ^ 61 → length b < 2 ^ 61
     → get_or (blocks (padded_message a)) (length (blocks (padded_message a)) - 1) []
     ≡ get_or (blocks (padded_message b)) (length (blocks (padded_message b)) - 1) [] → length a ≡ length b

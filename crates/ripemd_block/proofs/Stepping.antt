@@ -52,7 +52,7 @@ unfolding registers_after
 one_more_step line block r n start before after j x k s number word constant amount so_far made =
     rw (add-one, ← so_far, ← number, ← word, ← constant, ← amount) made
 
--- the same, where the constant is added to the message word
+-- one more step of a line, where the constant is added to the message word
 pub one_more_joined_step : (line : Line) (block : List ℕ) (r n : ℕ) (start before after : List ℕ) (j x s : ℕ)
     → j ≡ line.word_number r n
     → x ≡ message_word block j ⊞ line.constant r
@@ -70,7 +70,7 @@ one_more_joined_step line block r n start before after j x s number word amount 
 pub record AfterRounds (v : Parameters) (start : Lines) (block : List ℕ) (n : ℕ) (lines : Lines) : Type 0 where
   pub same : lines ≡ lines_after v block n start
 
--- before the first round, where the state has them start
+-- before the first round the lines are where the state has them start
 pub no_rounds : {lines : Lines} (v : Parameters) (state block : List ℕ) → lines ≡ lines_from v state
     → AfterRounds v (lines_from v state) block 0 lines
 unfolding lines_after

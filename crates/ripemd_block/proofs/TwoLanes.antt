@@ -6,7 +6,7 @@ use Rattle.ripemd_block.specs.Code.Lines.{both_lines}
 use Rattle.ripemd_block.specs.Code.Lanes.{lane}
 use Rattle.ripemd_block.proofs.Stepping.{compress_from}
 
--- what holds of both lanes holds of each
+-- what holds of lanes 0 and 1 holds of each lane
 pub each_lane : (P : ℕ → Type 0) → P 0 → P 1 → (j : ℕ) → j < 2 → P j
 each_lane P left right zero small = left
 each_lane P left right (suc zero) small = right

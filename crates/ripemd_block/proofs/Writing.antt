@@ -5,7 +5,7 @@ use Rattle.std.proofs.Math.Seq.{drop-append-add}
 use Rattle.ripemd_block.specs.Standard.Words.{word_bytes}
 use Rattle.std.proofs.lemmas.List.{append_assoc, drop-append-le, take-append-drop, length-drop, length-take-le, drop-drop}
 
--- those from m on, which are n, are written, and then the first n
+-- the n bytes from m on are written, and then the first n
 pub ends_written : (n m : ℕ) (place bytes : List ℕ) → m + n ≡ length bytes → length bytes ≤ 2 * n → length bytes ≤ length place
     → take n bytes ++ drop n (take m place ++ (drop m bytes ++ drop n (drop m place))) ≡ bytes ++ drop (length bytes) place
 ends_written n m place bytes all most room =

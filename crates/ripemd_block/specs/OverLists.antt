@@ -1,10 +1,10 @@
--- A block function over lists of numbers, in place of states of its own (this repository's own): for
--- arrays, which are their lists, it is the block function itself.
+-- A block function over lists of numbers, in place of states of its own (this repository's own). Over arrays, which
+-- are their lists, it is the block function itself.
 use Rattle.std.proofs.Common.{◌≡◌, ℕ, refl, ap, ◌∙◌}
 use Rattle.std.proofs.Common.{List, [], ◌∷◌, length}
 use Rattle.ripemd_block.specs.Standard.Hashing.{padded_message, blocks, walk, hash}
 
--- the lists of states, their step and the bytes of their output are those of a block function
+-- list, step and output are those of a block function
 pub record IsOverLists {S D : Type 0} (list : S → List ℕ) (is_state : S → Type 0) (step_of : S → List ℕ → S)
     (output_of : S → D) (bytes : D → List ℕ)
     (are_words : List ℕ → Type 0) (step : List ℕ → List ℕ → List ℕ) (output : List ℕ → List ℕ) : Type 0 where
@@ -17,7 +17,7 @@ pub of_arrays : {is_state : List ℕ → Type 0} {step : List ℕ → List ℕ �
     → IsOverLists (λ state. state) is_state step output (λ digest. digest) is_state step output
 of_arrays = record { of_state = λ state valid. valid; of_step = λ state block. refl; of_output = λ state. refl }
 
--- an output of n bytes, which different words never share
+-- outputs have n bytes, and those of different words differ
 pub record IsInjectiveOutput (are_words : List ℕ → Type 0) (output : List ℕ → List ℕ) (n : ℕ) : Type 0 where
   pub size : (xs : List ℕ) → are_words xs → length (output xs) ≡ n
   pub injective : (xs ys : List ℕ) → are_words xs → are_words ys → output xs ≡ output ys → xs ≡ ys
@@ -25,12 +25,12 @@ pub record IsInjectiveOutput (are_words : List ℕ → Type 0) (output : List �
 module _ {S D : Type 0} {list : S → List ℕ} {is_state : S → Type 0} {step_of : S → List ℕ → S} {output_of : S → D}
     {bytes : D → List ℕ} {are_words : List ℕ → Type 0} {step : List ℕ → List ℕ → List ℕ} {output : List ℕ → List ℕ}
     (lists : IsOverLists list is_state step_of output_of bytes are_words step output) where
-  -- the walk from the list of a state leads to the list of the state to which the walk from it leads
+  -- a walk over lists leads to the list of the last state
   pub walk_over_lists : (s : S) (bs : List (List ℕ)) → list (walk step_of s bs) ≡ walk step (list s) bs
   walk_over_lists s [] = refl
   walk_over_lists s (b ∷ bs) = walk_over_lists (step_of s b) bs ∙ ap (λ (xs : List ℕ). walk step xs bs) (lists.of_step s b)
 
-  -- so the hash by states has the bytes of the hash by lists
+  -- the hash by states has the bytes of the hash by lists
   pub hash_over_lists : (start : S) (message : List ℕ)
       → bytes (hash start step_of output_of message) ≡ hash (list start) step output message
   unfolding hash

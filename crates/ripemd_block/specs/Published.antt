@@ -123,7 +123,7 @@ SavedHasher =
     hasher_bytes (fed (compress ripemd160) (new_state ripemd160) (codes "abc"))
     ≡ core_bytes (new_state ripemd160) ++ 3 ∷ codes "abc" ++ replicate 60 0
 
--- after the words, those of one that was fed 65 times the byte 0x61: the count 1 in eight bytes, the
+-- the saved bytes, after the words, of one that was fed 65 times the byte 0x61: the count 1 in eight bytes, the
 -- length 1, the one byte, and 62 zero bytes
 abbrev pub SavedBlockAndTail : Type 0
 SavedBlockAndTail =

@@ -19,7 +19,7 @@ pub record HashState : Type 0 where
 abbrev pub initial_state : List ℕ → HashState
 initial_state start = record { words = start; count = 0; tail = [] }
 
--- the same for a variant
+-- the state of a variant before the first byte
 abbrev pub new_state : Parameters → HashState
 new_state v = initial_state v.start
 
@@ -65,7 +65,7 @@ pub record IsHashState (are_words : List ℕ → Type 0) (h : HashState) : Type 
   pub count : h.count < 2 ^ 64
   pub tail : IsTail h.tail
 
--- those of a variant: it has so many words
+-- the valid states of a hasher of a variant, which has so many words
 abbrev pub IsState : Parameters → HashState → Type 0
 IsState v = IsHashState (AreWords (length v.start))
 
@@ -74,13 +74,13 @@ pub record IsWithoutTail (are_words : List ℕ → Type 0) (h : HashState) : Typ
   pub state : IsHashState are_words h
   pub no_tail : h.tail ≡ []
 
--- those of a variant
+-- the valid states of a core of a variant
 abbrev pub IsCoreState : Parameters → HashState → Type 0
 IsCoreState v = IsWithoutTail (AreWords (length v.start))
 
 -- ---- saved bytes
 
--- the saved bytes of a core: the output of its words, from which these can be recovered, and its count
+-- the saved bytes of a core: the output of its words, from which they can be recovered, and its count
 unfoldable pub output_and_count : (List ℕ → List ℕ) → HashState → List ℕ
 output_and_count output h = output h.words ++ eight_bytes h.count
 
@@ -92,7 +92,7 @@ tail_bytes tail = length tail ∷ tail ++ replicate (63 - length tail) 0
 unfoldable pub core_and_tail : (List ℕ → List ℕ) → HashState → List ℕ
 core_and_tail output h = output_and_count output h ++ tail_bytes h.tail
 
--- those of the four variants, whose output is the bytes of the words
+-- the saved bytes of the four variants, whose output is the bytes of the words
 abbrev pub core_bytes : HashState → List ℕ
 core_bytes = output_and_count word_bytes
 

@@ -6,15 +6,13 @@ ghost use Rattle.ripemd_block.specs.Standard.Words.{word_bytes, eight_bytes};
 
 /// An array of bytes: `[u8; N]`, for any length `N`.
 pub trait ByteArray: Copy {
-    // Its bytes.
     ghost bytes: { Self → List ℕ };
 
-    // Arrays of equal bytes are equal.
     ghost same_array: { (a b : Self) → bytes a ≡ bytes b → a ≡ b };
 
     ghost LEN: { ℕ };
 
-    /// How many bytes it has.
+    /// The number of bytes.
     const LEN: usize;
 
     /// The array of zero bytes.
@@ -26,13 +24,12 @@ pub trait ByteArray: Copy {
         ensures same { IfSome result (λ array. bytes array ≡ slice.now) }
         ensures some { IsSome result ↔ (length slice.now ≡ LEN) };
 
-    /// The array of some bytes and then others; `None` exactly if there are more or fewer than `LEN`
-    /// in all.
+    /// The array of `front` and then `back`; `None` exactly if together they are more or fewer than `LEN`.
     fn from_slices(front: &[u8], back: &[u8]) -> Option<Self>
         ensures same { IfSome result (λ array. bytes array ≡ front.now ++ back.now) }
         ensures some { IsSome result ↔ (length front.now + length back.now ≡ LEN) };
 
-    /// Its bytes.
+    /// The bytes of the array.
     fn as_bytes(&self) -> &[u8]
         ensures bytes { result.now ≡ bytes self.now }
         ensures size { length result.now ≡ LEN };
@@ -69,8 +66,8 @@ impl<const N: usize> ByteArray for [u8; N] {
     }
 }
 
-/// Writes at most 64 bytes to the front of a place that has room for them. It calls no `memcpy`, which takes
-/// longer than so few bytes.
+/// Writes at most 64 bytes to the front of `place`, which has room for them, without a call of `memcpy`, which takes
+/// longer.
 #[inline(always)]
 pub fn write_short(place: &mut [u8], bytes: &[u8])
     requires few { length bytes.now ≤ 64 }
@@ -95,8 +92,8 @@ pub fn write_short(place: &mut [u8], bytes: &[u8])
     }
 }
 
-// The same of `N` to `2 * N` bytes: the last `N` and the first, which may overlap. The first come last, so that one
-// store has them all: who reads as many waits long for bytes of two.
+// Writes `N` to `2 * N` bytes as two arrays, which may overlap. The first `N` come last, so that one store has them
+// all: a load of bytes from two recent stores waits long.
 #[inline(always)]
 fn write_ends<const N: usize>(place: &mut [u8], bytes: &[u8])
     requires few { (N ≤ length bytes.now) × (length bytes.now ≤ 2 * N) }
@@ -108,7 +105,7 @@ fn write_ends<const N: usize>(place: &mut [u8], bytes: &[u8])
     write_array::<N>(&mut place[..N], &bytes[..N]);
 }
 
-// Writes `N` bytes as an array, which the compiler copies without asking whether the places overlap.
+// Writes `N` bytes as an array: the compiler copies it without checking for overlap.
 #[inline(always)]
 fn write_array<const N: usize>(place: &mut [u8], bytes: &[u8])
     requires { (length place.old ≡ N) × (length bytes.now ≡ N) }
@@ -119,7 +116,6 @@ fn write_array<const N: usize>(place: &mut [u8], bytes: &[u8])
     }
 }
 
-// Writes some bytes and then others.
 fn write_slices(front: &[u8], back: &[u8], out: &mut [u8])
     requires { length out.old ≡ length front.now + length back.now }
     ensures { out.new ≡ front.now ++ back.now }
@@ -129,7 +125,7 @@ fn write_slices(front: &[u8], back: &[u8], out: &mut [u8])
     last.copy_from_slice(back);
 }
 
-// Writes the bytes of words in order, four for each, least first.
+// Writes words as bytes, four each, least significant first.
 pub(crate) fn write_words(words: &[u32], out: &mut [u8])
     requires { length out.old ≡ 4 * length words.now }
     ensures bytes { out.new ≡ word_bytes words.now }
@@ -140,7 +136,6 @@ pub(crate) fn write_words(words: &[u32], out: &mut [u8])
     }
 }
 
-// Reads the words that have these bytes.
 pub(crate) fn read_words(bytes: &[u8], words: &mut [u32])
     requires { length bytes.now ≡ 4 * length words.old }
     ensures bytes { word_bytes words.new ≡ bytes.now }
@@ -163,7 +158,6 @@ fn words_in_range(words: &[u32])
     ensures { All (λ w. w < 2 ^ 32) words.now }
 {}
 
-// Reads the count that has these bytes.
 pub(crate) fn read_count(bytes: &[u8]) -> u64
     requires { length bytes.now ≡ 8 }
     ensures { eight_bytes result ≡ bytes.now }

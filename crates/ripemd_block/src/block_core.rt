@@ -1,4 +1,4 @@
-//! The block core: a state of a block function, and the count of the blocks that it took in.
+//! The block core of a block function.
 
 ghost use Rattle.std.specs.Prelude.{◌≡◌, ◌+◌, ◌*◌, ◌%◌, ◌^◌, ◌<◌, List, [], length, ⊤};
 ghost use Rattle.ripemd_block.specs.Standard.Words.{block_size};
@@ -19,9 +19,8 @@ use std::fmt;
 use std::marker::Model;
 use std::slice::from_ref;
 
-/// The block core of a block function: it takes in the whole blocks of a message, and leaves its
-/// tail to a [`Buffer`]. It has a state, and the count of the blocks so far, modulo 2^64. Contracts
-/// see these, with an empty tail.
+/// Takes in the whole blocks of a message, and leaves its tail to a [`Buffer`]. Contracts see the state of the block
+/// function and the count of the blocks so far, modulo 2^64, with an empty tail.
 #[derive(Drop)]
 pub struct BlockCore<F: ListBlockFunction> {
     state: F::State,
@@ -37,7 +36,7 @@ impl<F: ListBlockFunction> Model for BlockCore<F> {
 }
 
 impl<F: ListBlockFunction> BlockCore<F> {
-    /// A core with the same state and count.
+    /// A copy of the core.
     pub fn duplicate(&self) -> Self
         ensures { result ≡ self.now }
     {
@@ -69,7 +68,7 @@ impl<F: ListBlockFunction> Clone for BlockCore<F> {
     }
 }
 
-/// Writes the name of the hash function and no more, as `Ripemd160Core { ... }`.
+/// Writes only the name, as `Ripemd160Core { ... }`.
 impl<F: ListBlockFunction + AlgorithmName> fmt::Debug for BlockCore<F> {
     fn fmt<W: fmt::Write>(&self, f: &mut fmt::Formatter<W>) -> fmt::Result {
         F::write_alg_name(f)?;
@@ -179,7 +178,7 @@ pub fn walk<F: ListBlockFunction>(state: F::State, blocks: &[[u8; 64]]) -> F::St
     last
 }
 
-// Takes the one or two last blocks into a state of a message that has this tail and so many bits.
+// Takes the last one or two blocks of a message into `state`: its tail and the padding, with `bit_len` as its length.
 fn walk_tail<F: ListBlockFunction>(state: &mut F::State, tail: &[u8], bit_len: u64)
     requires valid { F.is_state state.old }
     requires short { length tail.now < block_size }
@@ -202,8 +201,8 @@ pub fn digest_message<F: ListBlockFunction>(message: &[u8]) -> F::Digest
     digest
 }
 
-/// The state after the blocks of a message with its padding, from a state to which so many bytes
-/// before the message led, which count in its length.
+/// The state after the blocks of `message` with its padding. The length counts also the `before` bytes that led to
+/// `first`.
 #[inline(always)]
 pub fn walk_message<F: ListBlockFunction>(first: F::State, before: u64, message: &[u8]) -> F::State
     requires { F.is_state first }
@@ -218,8 +217,8 @@ pub fn walk_message<F: ListBlockFunction>(first: F::State, before: u64, message:
     state
 }
 
-/// The same, which takes less time of a message, as a digest, whose length the compiler knows, and that is fewer than
-/// fourteen whole words.
+/// What [`walk_message`] gives, faster for a message whose length the compiler knows, as that of a digest, and that
+/// is fewer than fourteen whole words.
 #[inline(always)]
 pub fn walk_words<F: ListBlockFunction>(first: F::State, before: u64, message: &[u8]) -> F::State
     requires { F.is_state first }
@@ -276,8 +275,7 @@ impl<F: ResumableFunction> SerializableState for BlockCore<F> {
     ghost same_saved = { F.SavedCore.same_array };
 }
 
-/// Takes blocks in order into the core that is saved as these bytes, in place. Of bytes that no core is saved as it
-/// says nothing.
+/// Takes blocks in order into a saved core, in place. Nothing is known of the result if no core is saved as `saved`.
 #[inline(always)]
 pub fn update_saved<F: ResumableFunction>(saved: &mut [u8], blocks: &[[u8; 64]])
     requires size { length saved.old ≡ F.SavedCore.LEN }
@@ -296,7 +294,6 @@ pub fn update_saved<F: ResumableFunction>(saved: &mut [u8], blocks: &[[u8; 64]])
     behind.copy_from_slice(&count.to_le_bytes());
 }
 
-/// The block function of the core.
 impl<F: ListBlockFunction> BlockFunction for BlockCore<F> {
     type State = F::State;
 

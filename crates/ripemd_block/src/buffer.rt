@@ -1,4 +1,4 @@
-//! The tail of a message, which is its bytes after the last whole block, and how it grows and ends.
+//! The tail of a message: the bytes after its last whole block.
 
 ghost use Rattle.std.specs.Prelude.{◌≡◌, ℕ, ◌+◌, ◌<◌, ◌≤◌, ◌↔◌, List, [], ◌∷◌, ◌++◌, length, take, drop, IfSome, SomeIff, IsSome};
 ghost use Rattle.std.specs.Option.{option_to_list};
@@ -49,9 +49,9 @@ impl Buffer {
         Buffer::try_front(bytes, bytes.len())
     }
 
-    /// A buffer that holds the first `len` of these bytes; `None` exactly if that is 64 or more, if there are
-    /// fewer, or if there are more than 64. All of them are copied, which takes less time than a part where
-    /// the compiler knows their number.
+    /// A buffer that holds the first `len` of `bytes`; `None` exactly if `len` is 64 or more, or there are fewer than
+    /// `len` bytes, or more than 64. It copies all of `bytes`, which is faster than a part if the compiler knows
+    /// their number.
     #[inline(always)]
     pub fn try_front(bytes: &[u8], len: usize) -> Option<Buffer>
         ensures value { SomeIff result ((len < block_size) × (len ≤ length bytes.now)
@@ -96,9 +96,8 @@ impl Buffer {
         data
     }
 
-    /// Takes bytes in behind those that it holds: all whole blocks of both go into the core, in
-    /// order, and the buffer holds what is left, 0 to 63 bytes. The core's count of blocks is taken
-    /// modulo 2^64.
+    /// Appends `bytes`: the whole blocks of all bytes go into the core, in order, and the buffer keeps the 0 to 63
+    /// bytes after them. The core's count of blocks is taken modulo 2^64.
     pub fn absorb<C: UpdateCore>(&mut self, core: &mut C, bytes: &[u8])
         ensures core { core.new ≡ C.after core.old (blocks (self.old ++ bytes.now)) }
         ensures buffer { self.new ≡ partial_block (self.old ++ bytes.now) }
@@ -144,8 +143,8 @@ impl Buffer {
     }
 }
 
-// Takes a tail and the bytes behind it, which fill a block or more, into the core: all whole blocks of both,
-// in order. Gives what is left, 0 to 63 of the bytes. The tail is the first `len` bytes of `front`.
+// Takes the whole blocks of a tail and then `bytes` into the core, in order; there is at least one. Gives the 0 to 63
+// bytes after them. The tail is the first `len` bytes of `front`.
 #[inline(always)]
 fn take_blocks<'a, C: UpdateCore>(
     core: &mut C,
@@ -174,8 +173,8 @@ fn take_blocks<'a, C: UpdateCore>(
     rest
 }
 
-/// Fills a block with a tail and the first of the bytes behind it. Gives the bytes behind the block. The tail is
-/// the first `len` bytes of `front`, all of which are copied as by `try_front`.
+/// Fills a block with a tail and the first of `bytes`, and gives the rest of these. The tail is the first `len` bytes
+/// of `front`, which is copied whole, as by `try_front`.
 #[inline(always)]
 pub fn fill_block<'a>(block: &mut [u8; 64], front: &[u8], len: usize, bytes: &'a [u8]) -> &'a [u8]
     requires short { len < block_size }
@@ -190,7 +189,7 @@ pub fn fill_block<'a>(block: &mut [u8; 64], front: &[u8], len: usize, bytes: &'a
     behind
 }
 
-// Puts bytes at the front of a block, which stays where it is.
+// Writes bytes to the front of a block.
 #[inline(always)]
 fn put_front(block: &mut [u8; 64], bytes: &[u8])
     requires { length bytes.now ≤ block_size }
@@ -206,7 +205,7 @@ fn bytes_in_range(tail: &[u8])
     ensures { IsTail tail.now }
 {}
 
-// Puts bytes behind the first `len` of a block.
+// Writes bytes after the first `len` of a block.
 fn put_behind(block: &mut [u8; 64], len: usize, bytes: &[u8])
     requires { len + length bytes.now ≤ block_size }
     ensures { block.new

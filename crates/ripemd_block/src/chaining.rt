@@ -8,7 +8,6 @@ ghost use Rattle.ripemd_block.specs.Code.Lines.{both_lines};
 
 use std::simd::prelude::*;
 
-/// Where the left and the right line of RIPEMD-128 start.
 #[inline(always)]
 pub(crate) fn lines_of_128(state: [u32; 4]) -> ([u32; 4], [u32; 4])
     ensures { both_lines result.0 result.1 ≡ lines_from ripemd128 state }
@@ -16,7 +15,6 @@ pub(crate) fn lines_of_128(state: [u32; 4]) -> ([u32; 4], [u32; 4])
     (state, state)
 }
 
-/// Where the left and the right line of RIPEMD-160 start.
 #[inline(always)]
 pub(crate) fn lines_of_160(state: [u32; 5]) -> ([u32; 5], [u32; 5])
     ensures { both_lines result.0 result.1 ≡ lines_from ripemd160 state }
@@ -24,7 +22,6 @@ pub(crate) fn lines_of_160(state: [u32; 5]) -> ([u32; 5], [u32; 5])
     (state, state)
 }
 
-/// Where the left and the right line of RIPEMD-256 start.
 #[inline(always)]
 pub(crate) fn lines_of_256(state: [u32; 8]) -> ([u32; 4], [u32; 4])
     ensures { both_lines result.0 result.1 ≡ lines_from ripemd256 state }
@@ -33,7 +30,6 @@ pub(crate) fn lines_of_256(state: [u32; 8]) -> ([u32; 4], [u32; 4])
     ([s0, s1, s2, s3], [s4, s5, s6, s7])
 }
 
-/// Where the left and the right line of RIPEMD-320 start.
 #[inline(always)]
 pub(crate) fn lines_of_320(state: [u32; 10]) -> ([u32; 5], [u32; 5])
     ensures { both_lines result.0 result.1 ≡ lines_from ripemd320 state }
@@ -42,8 +38,7 @@ pub(crate) fn lines_of_320(state: [u32; 10]) -> ([u32; 5], [u32; 5])
     ([s0, s1, s2, s3, s4], [s5, s6, s7, s8, s9])
 }
 
-/// The state of RIPEMD-128 that takes the last registers of both lines in. It is one vector, so that it
-/// needs none of the general registers: of them the lines may need nearly all.
+/// The new state of RIPEMD-128, as one vector: the lines may need nearly all general registers.
 #[inline(always)]
 pub(crate) fn joint_state_of_four(state: [u32; 4], left: [u32; 4], right: [u32; 4]) -> [u32; 4]
     ensures { result ≡ joint_state state left right }
@@ -57,7 +52,7 @@ pub(crate) fn joint_state_of_four(state: [u32; 4], left: [u32; 4], right: [u32; 
     sums.to_array()
 }
 
-/// The state of RIPEMD-160 that takes the last registers of both lines in.
+/// The new state of RIPEMD-160.
 #[inline(always)]
 pub(crate) fn joint_state_of_five(state: [u32; 5], left: [u32; 5], right: [u32; 5]) -> [u32; 5]
     ensures { result ≡ joint_state state left right }
@@ -73,7 +68,7 @@ pub(crate) fn joint_state_of_five(state: [u32; 5], left: [u32; 5], right: [u32; 
     ]
 }
 
-/// The state of RIPEMD-256 that takes the last registers of both lines in.
+/// The new state of RIPEMD-256.
 #[inline(always)]
 pub(crate) fn double_state_of_four(state: [u32; 8], left: [u32; 4], right: [u32; 4]) -> [u32; 8]
     ensures { result ≡ double_state state left right }
@@ -92,7 +87,7 @@ pub(crate) fn double_state_of_four(state: [u32; 8], left: [u32; 4], right: [u32;
     ]
 }
 
-/// The state of RIPEMD-320 that takes the last registers of both lines in.
+/// The new state of RIPEMD-320.
 #[inline(always)]
 pub(crate) fn double_state_of_five(state: [u32; 10], left: [u32; 5], right: [u32; 5]) -> [u32; 10]
     ensures { result ≡ double_state state left right }

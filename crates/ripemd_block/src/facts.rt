@@ -1,5 +1,5 @@
-//! What is proved of the definitions themselves: that they give what the authors published, and
-//! their laws. The functions do nothing; their contracts are the facts.
+//! Facts of the definitions: what the authors published, and laws. The functions do nothing; their contracts are the
+//! facts.
 
 ghost use Rattle.std.specs.Prelude.{◌≡◌, ℕ, ◌+◌, ◌-◌, ◌*◌, ◌%◌, ◌^◌, ◌<◌, List, [], ◌++◌, length, drop};
 ghost use Rattle.std.specs.Prelude.{slice_index_or};
@@ -81,9 +81,9 @@ pub fn padding_laws()
         → length a ≡ length b }
 {}
 
-/// However a message is cut, its state is that of the whole message, and finishing that state gives
-/// its hash: for every start, step and output of a block function over lists of numbers, and for
-/// messages of every length. So for each of the four variants it gives the digest.
+/// However a message is cut into pieces, its state is that of the whole message, and finishing that state gives its
+/// hash: for every block function over lists of numbers and messages of every length. For the four variants this is
+/// the digest.
 pub fn state_laws()
     ensures nothing { (step : List ℕ → List ℕ → List ℕ) (h : HashState)
         → h.count < 2 ^ 64 → length h.tail < block_size → fed step h [] ≡ h }

@@ -24,7 +24,6 @@ pub(crate) trait Registers: Copy {
     /// How many rounds a line runs.
     const ROUNDS: usize;
 
-    /// The constants of round `r`.
     fn constants(r: usize) -> u32x2
         requires { r < ROUNDS }
         ensures { (j : ℕ) → j < 2
@@ -62,7 +61,6 @@ fn boolean_function(k: usize, x: u32x2, y: u32x2, z: u32x2) -> u32x2
     }
 }
 
-// Boolean function `left` in lane 0, and function `right` in lane 1.
 #[inline(always)]
 fn functions(left: usize, right: usize, x: u32x2, y: u32x2, z: u32x2) -> u32x2
     requires left { left < 5 }
@@ -78,7 +76,6 @@ fn functions(left: usize, right: usize, x: u32x2, y: u32x2, z: u32x2) -> u32x2
     is_left.select(lefts, rights)
 }
 
-// The sums of two words, modulo 2^32, in each lane.
 #[inline(always)]
 fn sum(x: u32x2, y: u32x2) -> u32x2
     ensures { (j : ℕ) → j < 2 → slice_index result j ≡ slice_index x j ⊞ slice_index y j }
@@ -86,7 +83,6 @@ fn sum(x: u32x2, y: u32x2) -> u32x2
     x + y
 }
 
-// Each word rotated to the left by the amount in its lane.
 #[inline(always)]
 fn rotate(words: u32x2, amounts: u32x2) -> u32x2
     requires { (j : ℕ) → j < 2
@@ -97,7 +93,6 @@ fn rotate(words: u32x2, amounts: u32x2) -> u32x2
     (words << amounts) | (words >> (u32x2::splat(32) - amounts))
 }
 
-// The two lanes of a vector, swapped.
 #[inline(always)]
 fn swap(words: u32x2) -> u32x2
     ensures left { slice_index result 0 ≡ slice_index words 1 }
@@ -169,7 +164,6 @@ impl Registers for [u32x2; 5] {
     }
 }
 
-/// The registers of both lines, of four each.
 #[inline(always)]
 pub(crate) fn lanes_of_four(left: [u32; 4], right: [u32; 4]) -> [u32x2; 4]
     ensures left { lane result 0 ≡ left }
@@ -185,7 +179,6 @@ pub(crate) fn lanes_of_four(left: [u32; 4], right: [u32; 4]) -> [u32x2; 4]
     ]
 }
 
-/// The registers of both lines, of five each.
 #[inline(always)]
 pub(crate) fn lanes_of_five(left: [u32; 5], right: [u32; 5]) -> [u32x2; 5]
     ensures left { lane result 0 ≡ left }
@@ -202,7 +195,6 @@ pub(crate) fn lanes_of_five(left: [u32; 5], right: [u32; 5]) -> [u32x2; 5]
     ]
 }
 
-/// The four registers of the line in lane `j`.
 #[inline(always)]
 pub(crate) fn lane_of_four(registers: [u32x2; 4], j: usize) -> [u32; 4]
     requires { j < 2 }
@@ -217,7 +209,6 @@ pub(crate) fn lane_of_four(registers: [u32x2; 4], j: usize) -> [u32; 4]
     ]
 }
 
-/// The five registers of the line in lane `j`.
 #[inline(always)]
 pub(crate) fn lane_of_five(registers: [u32x2; 5], j: usize) -> [u32; 5]
     requires { j < 2 }

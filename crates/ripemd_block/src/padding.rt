@@ -1,5 +1,5 @@
-//! The padding, which is that of MD4: the whole blocks of a message, the last blocks, which its tail
-//! and the padding make up, and each of its blocks by its place, so that nothing has to be stored.
+//! The padding, which is that of MD4 (RFC 1320): the whole blocks of a message, its last one or two blocks, and each
+//! block of the padded message by its place. Nothing has to be stored.
 
 ghost use Rattle.std.specs.Prelude.{◌≡◌, ◌-◌, ◌%◌, ◌<◌, ◌≤◌, ◌↔◌, ◌∷◌, ◌++◌, length, take, replicate, []};
 ghost use Rattle.std.specs.List.{slice_get};
@@ -15,12 +15,11 @@ use std::simd::prelude::*;
 pub struct Padded {
     /// The block that begins with the tail.
     pub first: [u8; 64],
-    /// The block after it, where the tail has 56 bytes or more.
+    /// The block after it, if the tail has 56 bytes or more.
     pub second: Option<[u8; 64]>,
 }
 
-/// The whole blocks of a message, in order, and its tail: the 0 to 63 bytes after them. Both stay
-/// where they lie.
+/// The whole blocks of a message, in order, and its tail, the 0 to 63 bytes after them. Neither is copied.
 #[inline(always)]
 pub fn whole_blocks(message: &[u8]) -> (&[[u8; 64]], &[u8])
     ensures whole { result.0.now ≡ blocks message.now }
@@ -61,7 +60,7 @@ pub fn pad_block(message: &[u8], place: usize) -> Option<[u8; 64]>
 
 /// The one or two blocks of the tail of a message whose length is `bit_len` bits: the tail, the byte 0x80, the fewest
 /// zero bytes that leave room for the length, and the length in 8 bytes, least first (RFC 1320, sections 3.1 and
-/// 3.2). They are made in the place of two blocks of zero bytes.
+/// 3.2). They are made in place of two blocks of zero bytes.
 #[inline(always)]
 pub fn last_blocks<'a>(tail: &[u8], bit_len: u64, zeros: &'a mut [[u8; 64]; 2]) -> &'a [[u8; 64]]
     requires short { length tail.now < block_size }
@@ -92,7 +91,7 @@ fn write_marked(block: &mut [u8; 64], tail: &[u8])
     block[len] = 0x80;
 }
 
-// Writes the length of a message in bits in place of the last 8 bytes of a block.
+// Writes a length in bits to the last 8 bytes of a block.
 #[inline(always)]
 fn write_length(block: &mut [u8; 64], bit_len: u64)
     ensures { block.new ≡ take length_place block.old ++ eight_bytes bit_len }
@@ -100,8 +99,8 @@ fn write_length(block: &mut [u8; 64], bit_len: u64)
     block[56..].copy_from_slice(&bit_len.to_le_bytes());
 }
 
-// The block that a tail of whole words, fewer than fourteen, makes up with its padding. It is put together in
-// words: who reads a block waits long for small parts that were only just stored.
+// The last block of a message whose tail is fewer than fourteen whole words. It is assembled from words: a load of a
+// block waits long for recent stores of smaller parts.
 #[inline(always)]
 pub(crate) fn padded_words(tail: &[u8], bit_len: u64) -> [u8; 64]
     requires words { length tail.now % 4 ≡ 0 }
@@ -117,8 +116,7 @@ pub(crate) fn padded_words(tail: &[u8], bit_len: u64) -> [u8; 64]
     block_of(&words)
 }
 
-// The block of sixteen message words. By vectors: of sixteen words that it writes one by one, the compiler makes no
-// larger parts.
+// The block of sixteen message words, by vectors: the compiler does not join stores of single words.
 #[inline(always)]
 fn block_of(words: &[u32]) -> [u8; 64]
     requires { length words.now ≡ 16 }

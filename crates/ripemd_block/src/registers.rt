@@ -1,5 +1,5 @@
-//! Blocks in order, with the lines side by side in general registers: these have a rotation in one
-//! instruction, and so many blocks take less time than by the steps of the block function.
+//! Walks over blocks with both lines in general registers. These rotate in one instruction, so many blocks take less
+//! time than by the steps of the block function.
 
 ghost use Rattle.std.specs.Prelude.{◌≡◌};
 ghost use Rattle.ripemd_block.specs.Standard.Hashing.{walk};
@@ -14,14 +14,13 @@ use crate::traits::BlockFunction;
 use crate::variants::{Ripemd128Function, Ripemd160Function, Ripemd256Function, Ripemd320Function};
 use std::simd::prelude::*;
 
-/// A block function whose step there is in general registers, too.
+/// A block function that has a step in general registers, too.
 pub(crate) trait InRegisters: BlockFunction {
     /// The state after a block.
     fn compress(state: Self::State, block: &[u8; 64]) -> Self::State
         ensures value { result ≡ Self.step_of state block.now }
         ensures valid { Self.is_state result };
 
-    /// Writes a state to its place.
     #[inline(always)]
     fn put(state: Self::State, place: &mut Self::State)
         ensures { place.new ≡ state }
@@ -56,8 +55,8 @@ impl InRegisters for Ripemd160Function {
         c160::compress(state, block)
     }
 
-    // Four words go into one store: else the compiler makes a vector of them that goes from block to block, and the next
-    // block waits for its words. Of the states of the other functions it makes none.
+    // One store of four words: otherwise the compiler keeps them in a vector from block to block, and the next block
+    // waits for its words. It makes no vector of the states of the other functions.
     #[inline(always)]
     fn put(state: [u32; 5], place: &mut [u32; 5]) {
         let [s0, s1, s2, s3, s4] = state;

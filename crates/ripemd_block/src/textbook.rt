@@ -31,7 +31,7 @@ static ROTATIONS: [[u32; 16]; 5] = [
     [15, 12, 13, 13, 9, 5, 8, 6, 14, 11, 12, 11, 8, 6, 5, 5],
 ];
 
-// The same amounts by round, line and step (1996, pseudo-code).
+// The amounts of the rotations, by round, line and step (1996, pseudo-code).
 static AMOUNTS: [[[u32; 16]; 2]; 5] = [
     [
         [11, 14, 15, 12, 5, 8, 7, 9, 11, 13, 14, 15, 6, 7, 9, 8],
@@ -58,7 +58,7 @@ static AMOUNTS: [[[u32; 16]; 2]; 5] = [
 // The constants of the left line's rounds (1996, constants).
 static LEFT_CONSTANTS: [u32; 5] = [0, 0x5a82_7999, 0x6ed9_eba1, 0x8f1b_bcdc, 0xa953_fd4e];
 
-// The constants of the right line's rounds but the last, which has none.
+// The constants of the right line's rounds, except the last, which has none.
 static RIGHT_CONSTANTS: [u32; 4] = [0x50a2_8be6, 0x5c4d_d124, 0x6d70_3ef3, 0x7a6d_76e9];
 
 /// The number of the message word that step `i` of round `r` of the left line takes.
@@ -72,8 +72,7 @@ pub fn left_number(r: usize, i: usize) -> usize
     LEFT_ORDER[r][i]
 }
 
-/// The number of the message word that step `i` of round `r` of the right line takes, of however
-/// many rounds.
+/// The number of the message word that step `i` of round `r` of the right line takes, for any number of rounds.
 #[inline(always)]
 pub fn right_number(r: usize, i: usize) -> usize
     requires round { r < 5 }
@@ -118,7 +117,7 @@ pub fn left_constant(r: usize) -> u32
     LEFT_CONSTANTS[r]
 }
 
-/// The constant of round `r` of the right line, of so many rounds.
+/// The constant of round `r` of the right line, which has `rounds` rounds.
 #[inline(always)]
 pub fn right_constant(rounds: usize, r: usize) -> u32
     requires round { r < rounds }

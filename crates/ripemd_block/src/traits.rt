@@ -31,7 +31,6 @@ pub trait OutputSizeUser {
     /// The digest, an array of bytes.
     type Output: Copy;
 
-    // The bytes of a digest.
     ghost bytes_of: { Self.Output → List ℕ };
 
     ghost OUTPUT_SIZE: { ℕ };
@@ -39,7 +38,6 @@ pub trait OutputSizeUser {
     /// How many bytes a digest has.
     const OUTPUT_SIZE: usize;
 
-    // Equal bytes are equal digests.
     ghost same_digest: { (a b : Self.Output) → bytes_of a ≡ bytes_of b → a ≡ b };
 }
 
@@ -66,24 +64,22 @@ pub trait AlgorithmName {
 
 /// A core or a hasher that contracts see as a hash state: chaining value, count of blocks, tail.
 pub trait HashMeaning {
-    // What it stands for.
     ghost meaning: { Self → HashState };
 
-    // What can occur of that.
+    // The hash states that can occur.
     ghost is_valid: { HashState → Type 0 };
 }
 
-/// The error of bytes that no state is saved as.
+/// The error of loading bytes that no state is saved as.
 #[derive(Clone, Copy, PartialEq, Eq, Debug, Error)]
 #[error("Deserialization error")]
 pub struct DeserializeStateError;
 
-/// A core or a hasher that can be saved as bytes, and made from them again.
+/// A core or a hasher that can be saved as bytes, and loaded from them.
 pub trait SerializableState: HashMeaning {
     /// The saved bytes, an array.
     type Saved: Copy;
 
-    // The bytes of a saved array.
     ghost saved_bytes: { Self.Saved → List ℕ };
 
     // The bytes that a state is saved as.
@@ -94,7 +90,7 @@ pub trait SerializableState: HashMeaning {
         ensures bytes { saved_bytes result ≡ state_bytes (Self.meaning self.now) }
         ensures valid { Self.is_valid (Self.meaning self.now) };
 
-    /// Makes the state that was saved as these bytes.
+    /// Loads the state that is saved as these bytes.
     ///
     /// # Errors
     ///
@@ -106,30 +102,28 @@ pub trait SerializableState: HashMeaning {
         ensures err { IfErr result
             (λ _. (h : HashState) → Self.is_valid h → state_bytes h ≢ saved_bytes saved.now) };
 
-    /// Makes the state that was saved as these bytes, which are all the bytes of the array.
+    /// Loads the state that is saved as these bytes, as many as the array has.
     ///
     /// # Errors
     ///
-    /// `DeserializeStateError` if no state is saved as these bytes, so for any other number of them
-    /// than the array has.
+    /// `DeserializeStateError` if no state is saved as these bytes, so for any other number of them.
     fn load_slice(bytes: &[u8]) -> Result<Self, DeserializeStateError>
         ensures ok { IfOk result (λ value. state_bytes (Self.meaning value) ≡ bytes.now) }
         ensures valid { IfOk result (λ value. Self.is_valid (Self.meaning value)) }
         ensures err { IfErr result
             (λ _. (h : HashState) → Self.is_valid h → state_bytes h ≢ bytes.now) };
 
-    // States that are saved as the same bytes are the same: what was saved loads to the state that
-    // it was.
+    // States saved as the same bytes are equal: a saved state loads as itself.
     ghost state_injective: { (g h : HashState) → Self.is_valid g → Self.is_valid h
         → state_bytes g ≡ state_bytes h → g ≡ h };
 
-    // Equal bytes are equal arrays: what was loaded saves to the array that it was.
+    // Arrays of equal bytes are equal: a loaded array saves as itself.
     ghost same_saved: { (a b : Self.Saved) → saved_bytes a ≡ saved_bytes b → a ≡ b };
 }
 
-/// A value that can be made new again.
+/// A value that can be reset.
 pub trait Reset: Default {
-    /// Makes the value as new: as `default()` gives it.
+    /// Makes the value what `default()` gives.
     fn reset(&mut self)
         ensures { Self.is_default self.new };
 }
@@ -154,10 +148,8 @@ pub trait UpdateCore: BlockSizeUser {
         ensures valid_old { is_core self.old }
         ensures valid_new { is_core self.new };
 
-    // No blocks change nothing.
     ghost after_none: { (core : Self) → is_core core → after core [] ≡ core };
 
-    // Some blocks and then others are both, joined.
     ghost after_joined: { (core : Self) (xs ys : List (List ℕ)) → is_core core
         → after (after core xs) ys ≡ after core (xs ++ ys) };
 }
@@ -167,9 +159,8 @@ pub trait FixedOutputCore: UpdateCore + BufferKindUser + OutputSizeUser {
     // The bytes of the digest of a core and the tail of the message after its blocks.
     ghost digest_of: { Self → List ℕ → List ℕ };
 
-    /// Writes to `out` the digest of the message that the core's blocks and then the buffer's bytes
-    /// make up; its length in bits is taken modulo 2^64. The core stays as it was, so that more
-    /// blocks can follow, and the buffer is empty afterwards.
+    /// Writes to `out` the digest of the message that is the core's blocks and then the buffer's bytes; its length in
+    /// bits is taken modulo 2^64. The core stays as it was, and the buffer is empty afterwards.
     fn finalize_fixed_core(&mut self, buffer: &mut Buffer, out: &mut Self::Output)
         ensures digest { Self.bytes_of out.new ≡ digest_of self.old buffer.old }
         ensures size { length (Self.bytes_of out.new) ≡ Self.OUTPUT_SIZE }
@@ -179,27 +170,23 @@ pub trait FixedOutputCore: UpdateCore + BufferKindUser + OutputSizeUser {
         ensures valid_tail { IsTail buffer.old };
 }
 
-/// A block function: a state to start from, a step that takes a state and a block to a state, and
-/// an output of the last state. The hash of a message is the output after an iteration over the
-/// blocks of the message with its padding. Its calls are functions of what they are given, and none
-/// allocates.
+/// A block function: a state to start from, a step that takes a state and a block to a state, and an output of the
+/// last state. The hash of a message is the output after the steps over the blocks of the padded message. The calls
+/// depend on their arguments alone and allocate nothing.
 pub trait BlockFunction {
     /// A state.
     type State: Copy + Eq;
 
-    /// What it gives of the last state.
+    /// The output.
     type Digest;
 
     // The states that can occur.
     ghost is_state: { Self.State → Type 0 };
 
-    // The state to start from.
     ghost start_of: { Self.State };
 
-    // The state after a block.
     ghost step_of: { Self.State → List ℕ → Self.State };
 
-    // The output of a state.
     ghost output_of: { Self.State → Self.Digest };
 
     /// The state to start from.
@@ -218,11 +205,10 @@ pub trait BlockFunction {
         ensures value { result ≡ output_of state }
         ensures valid { is_state state };
 
-    // States with one output are one.
+    // States with equal outputs are equal.
     ghost output_injective: { (s t : Self.State) → is_state s → is_state t
         → output_of s ≡ output_of t → s ≡ t };
 
-    // States that are equal by `==` are one.
     ghost same_state: { (s t : Self.State) → Self.State.eq s t ≡ true → s ≡ t };
 }
 
@@ -255,17 +241,16 @@ pub trait ListBlockFunction: BlockFunction<Digest: ByteArray> {
         *first = state;
     }
 
-    // They are those of the block function.
+    // Over these lists the block function is the same.
     ghost over_lists: { IsOverLists list Self.is_state Self.step_of Self.output_of
         Self.Digest.bytes are_words step output };
 
-    // A digest is a block's size at most.
+    // A digest is no longer than a block.
     ghost digest_most: { Self.Digest.LEN ≤ 64 };
 }
 
-/// A block function that gives a state back from its output, so that a hash state can be saved as
-/// bytes and loaded: it is saved as its chaining value's output, the count of its blocks, and its
-/// tail.
+/// A block function whose states can be recovered from their outputs, so that a hash state can be saved as bytes: the
+/// output of its chaining value, the count of its blocks, and its tail.
 pub trait ResumableFunction: ListBlockFunction {
     /// The saved bytes of a core: 8 more than a digest has.
     type SavedCore: ByteArray;
@@ -283,9 +268,9 @@ pub trait ResumableFunction: ListBlockFunction {
         ensures none { IfNone result ((words : List ℕ) → Self.are_words words
             → Self.output words ≢ Self.Digest.bytes output) };
 
-    /// Takes blocks in order into the state that has this output, and writes the output of the last in its place. Of
-    /// bytes that are the output of no state it says nothing. Never inlined: the state is loaded from there and stored
-    /// there, and lies in registers in between.
+    /// Replaces the output of a state by that of the state after these blocks. Nothing is known of the result if the
+    /// bytes are the output of no state. Never inlined: the state is loaded and stored once, and lies in registers in
+    /// between.
     #[inline(never)]
     final fn walk_output(output: &mut [u8], blocks: &[[u8; 64]])
         requires size { length output.old ≡ Self.Digest.LEN }
@@ -305,12 +290,9 @@ pub trait ResumableFunction: ListBlockFunction {
     // An output has the size of a digest, and different words have different outputs.
     ghost injective_output: { IsInjectiveOutput Self.are_words Self.output Self.Digest.LEN };
 
-    // A core is saved in 8 bytes more than a digest has.
     ghost saved_core_size: { Self.SavedCore.LEN ≡ Self.Digest.LEN + 8 };
 
-    // A hasher is saved in 64 bytes more than a core.
     ghost saved_hasher_size: { Self.SavedHasher.LEN ≡ Self.SavedCore.LEN + 64 };
 
-    // An HMAC state is saved in the bytes of two hashers.
     ghost saved_hmac_size: { Self.SavedHmac.LEN ≡ Self.SavedHasher.LEN + Self.SavedHasher.LEN };
 }

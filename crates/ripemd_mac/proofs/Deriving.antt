@@ -41,7 +41,6 @@ module _ (PRF : List ℕ → List ℕ → List ℕ) (P S : List ℕ) (i : ℕ) w
       (ap (fold (zip2 bit_xor) (U PRF P S i 1)) (map-range_with_len_more (U PRF P S i) 2 c (suc c + 1) (omega arith))
       ∙ fold-append (zip2 bit_xor) (U PRF P S i 1) (map (U PRF P S i) (range_with_len 2 c)) (U PRF P S i (suc c + 1) ∷ []))
 
-  -- the first ones
   pub first_U : U PRF P S i 1 ≡ PRF P (S ++ INT i)
   unfolding U
   first_U = refl
@@ -65,12 +64,11 @@ next_joined f a n j last =
     ap (flat_map f) (range_more a n j last) ∙ flat_map-append f (range_with_len a n) (j ∷ [])
     ∙ ap (λ x. flat_map f (range_with_len a n) ++ x) (append-nil (f j))
 
--- one more block
 pub next_block : (f : ℕ → List ℕ) (n : ℕ)
     → flat_map f (range_with_len 1 (n + 1)) ≡ flat_map f (range_with_len 1 n) ++ f (n + 1)
 next_block f n = next_joined f 1 n (n + 1) (omega arith)
 
--- what a part that is written over makes of the front
+-- the front of a list after a part is written over
 pub front_put : (xs part rest : List ℕ) (at n : ℕ) → at ≤ length xs → n ≡ at + length part
     → take n (take at xs ++ (part ++ rest)) ≡ take at xs ++ part
 front_put xs part rest at n inside size =
@@ -99,7 +97,7 @@ put_size xs part at k many inside =
       length-drop at xs,
     )
 
--- one more block in the key, of which there are as many as the key takes: the last one may be cut
+-- the first b blocks are in the key, as far as it reaches: the last one may be cut
 pub record Written (f : ℕ → List ℕ) (h n b : ℕ) (key : List ℕ) : Type 0 where
   pub len : length key ≡ n
   pub many : length (flat_map f (range_with_len 1 b)) ≡ h * b
@@ -172,7 +170,7 @@ blocks_end n h some = go (cases_lt 0 (n % h))
         let count : div_ceil n h ≡ n / h = omega (arith, none) in
         rw count (omega (arith, div-add-mod n h, none))
 
--- the key when no blocks and when all of them are written
+-- the key before the first block is written, and after the last
 pub none_written : (f : ℕ → List ℕ) (h n : ℕ) (key : List ℕ) → length key ≡ n → Written f h n 0 key
 none_written f h n key len =
     let none : h * 0 ≡ 0 = omega arith in
@@ -188,7 +186,6 @@ pub no_key : (key bytes : List ℕ) → length key ≡ 0 → key ≡ take (lengt
 no_key [] bytes none = refl
 no_key (x ∷ key) bytes none = absurd (omega (arith, none))
 
--- blocks that are filled with zeros
 zeros : (m : ℕ) → zip2 bit_xor (replicate m 0) (replicate m 0) ≡ replicate m 0
 zeros zero = refl
 zeros (suc m) = ap (λ xs. 0 ∷ xs) (zeros m)

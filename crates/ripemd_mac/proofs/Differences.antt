@@ -1,4 +1,4 @@
--- Bytes compared by the `or` of their differences.
+-- Bytes compared by the bitwise or of their differences.
 use Rattle.std.proofs.Common.{◌≡◌, ℕ, ◌+◌, ◌≤◌, ◌<◌, ◌↔◌, inl, inr, IsTrue, nat_eq}
 use Rattle.std.proofs.Common.{List, length, get_or, bit_or, sym, ap, ◌∙◌, arith, rules}
 use Rattle.std.specs.Int.Bits.{bit_xor, xor_assoc, xor_self, xor_zero_l, xor_zero_r, or_zero_l}
@@ -35,7 +35,7 @@ difference_more d n a b before =
           rw (so_far, agree n (omega arith), xor_self y) (or_zero_l 0)),
     )
 
--- of as many bytes, compared to the end
+-- equal lengths, compared to the end
 pub same_or_none : (d n : ℕ) (a b : List ℕ) → length a ≡ length b → length a ≤ n → (d ≡ 0) ↔ AgreeTo n a b
     → IsTrue (nat_eq d 0) ↔ (a ≡ b)
 same_or_none d n a b size end agree = (

@@ -18,8 +18,8 @@ moved start step x y x' y' c left right is =
     subst (λ (m : List ℕ). IsCollision start step x' m c) right
     (subst (λ (m : List ℕ). IsCollision start step m y c) left is)
 
--- two messages with one front are equal, or their hashes differ, exactly if it is so of what follows, and of another
--- hash whose bytes are those
+-- whether two messages with one front are equal, or their hashes differ, is so of what follows the front, and of
+-- another hash with the same bytes
 pub after_front : {O : Type 0} (other : List ℕ → O) (bytes : O → List ℕ) (hash : List ℕ → List ℕ)
     → ((m : List ℕ) → bytes (other m) ≡ hash m) → ((c d : O) → bytes c ≡ bytes d → c ≡ d) → (front a b : List ℕ)
     → ((front ++ a ≡ front ++ b) ⊎ (other (front ++ a) ≢ other (front ++ b)))
@@ -46,7 +46,7 @@ inner_hash hash key masked_key text digest bytes is hashed same =
     same ∙ hashed ∙ ap (λ (k : List ℕ). hash (k ++ text)) is
 
 module _ (hash : List ℕ → List ℕ) (key a b : List ℕ) where
-  -- when there is nothing to be found
+  -- when there is no collision
   abbrev pub Nothing : Type 0
   Nothing = (a ≡ b) ⊎ (hmac hash key a ≢ hmac hash key b)
 
@@ -70,14 +70,14 @@ module _ (hash : List ℕ → List ℕ) (key a b : List ℕ) where
   )
 
   module _ {S : Type 0} (start : S) (step : S → List ℕ → S) where
-    -- the answer where memory suffices
+    -- the answer if memory suffices
     pub record IsAnswer (E : Type 0) (answer : Option (MacCollision S)) : Type 0 where
       pub none : (◌≡◌ {A = Result (Option (MacCollision S)) E} (Ok answer) (Ok None)) ↔ Nothing
       pub some : IfSome answer (IsMacCollision hash start step key a b)
       pub only : IfSome answer (λ found. (other : MacCollision S)
           → IsMacCollision hash start step key a b other → other ≡ found)
 
-    -- it is that of two messages whose collisions, wrapped, are those of the tags
+    -- it is the answer for two messages if their collisions, wrapped, are those of the tags
     wrapped : {E : Type 0} (wrap : Collision S → MacCollision S) (x y : List ℕ)
         → ((c : Collision S) → IsCollision start step x y c → IsMacCollision hash start step key a b (wrap c))
         → ((m : MacCollision S) → IsMacCollision hash start step key a b m
@@ -99,7 +99,7 @@ module _ (hash : List ℕ → List ℕ) (key a b : List ℕ) where
           from.1 ∙ ap wrap (search (rules, same)) ∙ sym is;
     }
 
-    -- of the inner messages, whose hashes agree
+    -- for the inner messages, if their hashes agree
     of_inner : (x y : List ℕ) → inner_message hash key a ≡ x → inner_message hash key b ≡ y → (m : MacCollision S)
         → IsMacCollision hash start step key a b m → InnerAgree hash key a b
         → (c : Collision S) × (m ≡ Inner c) × IsCollision start step x y c
@@ -130,7 +130,7 @@ module _ (hash : List ℕ → List ℕ) (key a b : List ℕ) where
         )
         some only
 
-    -- of the outer messages, where the hashes of the inner ones differ
+    -- for the outer messages, if the hashes of the inner ones differ
     of_outer : (x y : List ℕ) → outer_message hash key a ≡ x → outer_message hash key b ≡ y → (m : MacCollision S)
         → IsMacCollision hash start step key a b m → ¬ InnerAgree hash key a b
         → (c : Collision S) × (m ≡ Outer c) × IsCollision start step x y c

@@ -14,7 +14,7 @@ filled bytes = bytes ++ replicate (64 - length bytes) 0
 unfoldable pub key_block : (List ℕ → List ℕ) → List ℕ → List ℕ
 key_block hash key = filled (if nat_le (length key) 64 then key else hash key)
 
--- bytes with each combined with a mask, by exclusive or (steps 2 and 5: ipad is 0x36, opad 0x5c)
+-- each byte combined with a mask, by exclusive or (steps 2 and 5: ipad is 0x36, opad 0x5c)
 abbrev pub masked : ℕ → List ℕ → List ℕ
 masked mask bytes = map (λ b. bit_xor b mask) bytes
 
@@ -37,15 +37,15 @@ pub record KeyedState : Type 0 where
   pub inner : HashState
   pub outer : HashState
 
--- after more bytes of the text: the inner hash has taken them in
+-- the state after more bytes of the text: the inner hash has taken them in
 abbrev pub fed_text : (List ℕ → List ℕ → List ℕ) → KeyedState → List ℕ → KeyedState
 fed_text step state bytes = record state { inner = fed step state.inner bytes }
 
--- the tag that they give: the digest of the outer hash after it has taken in the digest of the inner one
+-- the tag of a state: the digest of the outer hash after it has taken in the digest of the inner one
 abbrev pub tag_of : (List ℕ → List ℕ → List ℕ) → (List ℕ → List ℕ) → KeyedState → List ℕ
 tag_of step output state = finish step output (fed step state.outer (finish step output state.inner))
 
--- those of a key and the empty text: each has taken in a masked key block
+-- the HMAC state of a key and the empty text: each hash state has taken in a masked key block
 unfoldable pub keyed_state : List ℕ → (List ℕ → List ℕ → List ℕ) → (List ℕ → List ℕ) → List ℕ → KeyedState
 keyed_state start step output key =
     let block : List ℕ = key_block (hash start step output) key in
@@ -54,7 +54,7 @@ keyed_state start step output key =
       outer = fed step (initial_state start) (masked 0x5c block);
     }
 
--- they stand for a key and a text: they are those of the key, after the text
+-- a state that stands for a key and a text: that of the key, after the text
 pub record StandsFor (start : List ℕ) (step : List ℕ → List ℕ → List ℕ) (output : List ℕ → List ℕ)
     (key text : List ℕ) (state : KeyedState) : Type 0 where
   pub is : state ≡ fed_text step (keyed_state start step output key) text

@@ -1,4 +1,4 @@
--- The laws of HMAC states, for callers: proved, not to be believed.
+-- The laws of HMAC states, for callers.
 use Rattle.std.proofs.Common.{◌≡◌, ℕ, ◌+◌, List, [], ◌++◌, length, take, drop, length-append, refl, sym, ap, ◌∙◌, arith}
 use Rattle.std.proofs.lemmas.List.{append-nil}
 use Rattle.std.proofs.Math.Seq.{take-append_seam, drop-append_seam}
@@ -11,14 +11,12 @@ use Rattle.ripemd_mac.specs.Hmac.{key_block, masked, inner_message, outer_messag
 use Rattle.ripemd_mac.specs.Hmac.{KeyedState, fed_text, tag_of, keyed_state, StandsFor}
 use Rattle.ripemd_mac.specs.Saved.{IsKeyedState, hmac_bytes}
 
--- HMAC states of the same two hash states are the same
 same_states : (s t : KeyedState) → s.inner ≡ t.inner → s.outer ≡ t.outer → s ≡ t
 same_states s t inner outer =
     ap (λ (h : HashState). record s { inner = h }) inner ∙ ap (λ (h : HashState). record t { outer = h }) outer
 
 -- ---- texts
 
--- some bytes and then others are both, joined
 pub fed_twice : (step : List ℕ → List ℕ → List ℕ) (s : KeyedState) (x y : List ℕ)
     → fed_text step (fed_text step s x) y ≡ fed_text step s (x ++ y)
 fed_twice step s x y = ap (λ (h : HashState). record s { inner = h }) (laws.fed_twice step s.inner x y)
@@ -32,7 +30,7 @@ module _ (start : List ℕ) (step : List ℕ → List ℕ → List ℕ) (output 
   unfolding keyed_state
   keyed_by_blocks state inner outer = same_states state (keyed_state start step output key) inner outer
 
-  -- no bytes leave it as it is
+  -- no bytes leave the state of a key as it is
   pub fed_nothing : fed_text step (keyed_state start step output key) [] ≡ keyed_state start step output key
   unfolding keyed_state
   fed_nothing =
@@ -78,13 +76,12 @@ module _ {are_words : List ℕ → Type 0} {output : List ℕ → List ℕ} {n :
   first_size : length (core_and_tail output s.inner) ≡ n + 8 + 64
   first_size = length-core_and_tail tells s.inner valid.inner
 
-  -- how many there are
   pub length-hmac_bytes : length (hmac_bytes output s) ≡ (n + 8 + 64) + (n + 8 + 64)
   length-hmac_bytes =
       let both = length-append (core_and_tail output s.inner) (core_and_tail output s.outer) in
       omega (arith, both, first_size, length-core_and_tail tells s.outer valid.outer)
 
-  -- the first of them are those of the inner state, and the others those of the outer one
+  -- the first are those of the inner state, and the others those of the outer one
   pub inner_part : (bytes : List ℕ) → hmac_bytes output s ≡ bytes → core_and_tail output s.inner ≡ take (n + 8 + 64) bytes
   inner_part bytes same =
       sym (take-append_seam (core_and_tail output s.inner) (core_and_tail output s.outer)) ∙ rw (first_size, same) refl
@@ -93,7 +90,6 @@ module _ {are_words : List ℕ → Type 0} {output : List ℕ → List ℕ} {n :
   outer_part bytes same =
       sym (drop-append_seam (core_and_tail output s.inner) (core_and_tail output s.outer)) ∙ rw (first_size, same) refl
 
--- states that are saved as the same bytes are the same
 pub hmac_bytes_injective : {are_words : List ℕ → Type 0} {output : List ℕ → List ℕ} {n : ℕ} → IsInjectiveOutput are_words output n
     → (s t : KeyedState) → IsKeyedState are_words s → IsKeyedState are_words t
     → hmac_bytes output s ≡ hmac_bytes output t → s ≡ t

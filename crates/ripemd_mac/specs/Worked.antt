@@ -20,7 +20,7 @@ use Rattle.ripemd_mac.specs.Pbkdf2.{F, pbkdf2}
 abbrev pub long_key_text : List ℕ
 long_key_text = codes "Test Using Larger Than Block-Size Key - Hash Key First"
 
--- those of RFC 2286 under keys of 16, 20 and 80 bytes, and under a key of 64 bytes the one that OpenSSL gives
+-- the tags of RFC 2286 under keys of 16, 20 and 80 bytes, and one by OpenSSL under a key of 64 bytes
 pub record WorkedTags : Type 0 where
   pub of128 : hexadecimal (hmac (ripemd ripemd128) (replicate 16 0x0b) (codes "Hi There"))
       ≡ codes "fbf61f9492aa4bbf81c172e84e0734db"
@@ -39,7 +39,7 @@ pub record WorkedTags : Type 0 where
 abbrev pub saved_after_a_block : List ℕ → List ℕ → List ℕ
 saved_after_a_block words tail = words ++ 1 ∷ replicate 7 0 ++ length tail ∷ tail ++ replicate (63 - length tail) 0
 
--- those of "Hi There" under 20 bytes 0x0b: the words are OpenSSL's after each masked key
+-- the bytes for "Hi There" under 20 bytes 0x0b: the words are OpenSSL's after each masked key
 abbrev pub saved_inner : List ℕ
 saved_inner = saved_after_a_block (0xb3 ∷ 0x1c ∷ 0x08 ∷ 0xe6 ∷ 0xad ∷ 0xb5 ∷ 0xb8 ∷ 0xf2 ∷ 0xc4 ∷ 0x21
     ∷ 0x54 ∷ 0x70 ∷ 0xfd ∷ 0xaf ∷ 0x49 ∷ 0xb0 ∷ 0x4e ∷ 0xe8 ∷ 0xf0 ∷ 0x16 ∷ []) (codes "Hi There")
@@ -53,7 +53,7 @@ abbrev pub SavedForHiThere : List ℕ → Type 0
 SavedForHiThere =
     IsSavedFor ripemd160.start (compress ripemd160) word_bytes (AreWords 5) (replicate 20 0x0b) (codes "Hi There")
 
--- these are, and exchanged they are not; and the tag of RFC 2286 that the state gives
+-- the bytes are such, and exchanged they are not; and the tag of RFC 2286 that the state gives
 pub record WorkedSaved : Type 0 where
   pub saved : SavedForHiThere (saved_inner ++ saved_outer)
   pub exchanged : ¬ SavedForHiThere (saved_outer ++ saved_inner)
@@ -82,8 +82,8 @@ second_blocks state a b = record {
   right = record { place = 1; state = state; block = slice_index_or (blocks (padded_message b)) 1 [] };
 }
 
--- of the texts with the bytes 1 and 3, whose inner hashes agree, and 0 and 2, whose inner hashes do not; and two
--- whose inner hashes agree at another state
+-- collisions of the texts with the bytes 1 and 3, whose inner hashes agree, and 0 and 2, whose inner hashes do not;
+-- and two whose inner hashes agree at another state
 pub record WorkedMacCollisions : Type 0 where
   pub agree : InnerAgree small_hash [] (block_of 1) (block_of 3)
   pub agree_again : InnerAgree small_hash [] (block_of 0) (block_of 4)
@@ -100,7 +100,7 @@ pub record WorkedMacCollisions : Type 0 where
 abbrev pub derived : (P S : List ℕ) → (c dkLen : ℕ) → List ℕ
 derived P S c dkLen = hexadecimal (pbkdf2 (hmac (ripemd ripemd160)) 20 P S c dkLen)
 
--- those that OpenSSL gives
+-- keys that OpenSSL gives
 pub record WorkedKeys : Type 0 where
   pub one : derived (codes "password") (codes "salt") 1 20 ≡ codes "b725258b125e0bacb0e2307e34feb16a4d0d6aed"
   pub two : derived (codes "password") (codes "salt") 2 45 ≡ codes "768dcc27b7bfdef794a1ff9d935090fcf598555e66913180b9ce363c615e9ed953b95fd07169be535e38afbea2"

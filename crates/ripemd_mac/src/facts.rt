@@ -1,10 +1,9 @@
-//! Worked examples of the definitions, proved. The functions do nothing; their contracts are the
-//! facts.
+//! Worked examples of the definitions. The functions do nothing; their contracts are the facts.
 
 ghost use Rattle.ripemd_mac.specs.Worked.{WorkedTags, WorkedSaved, WorkedKeys, WorkedMacCollisions};
 
-/// The definition gives the tags of RFC 2286 under keys shorter and longer than a block, and what
-/// OpenSSL gives under a key of a whole block.
+/// The definition gives the tags of RFC 2286 under keys shorter and longer than a block, and that of OpenSSL under a
+/// key of a whole block.
 pub fn tags()
     ensures { WorkedTags }
 {}

@@ -23,9 +23,8 @@ use ripemd::{BlockHasher, ListBlockFunction, ResumableFunction};
 use std::alloc::AllocError;
 use std::marker::Model;
 
-/// An HMAC state: the tag of a text under a key, by any hash function (RFC 2104). The text comes in
-/// pieces, and how it is cut makes no difference. No call allocates, and only `load` and `load_slice`
-/// can fail.
+/// An HMAC state of a key and a text, by any hash function (RFC 2104). The text comes in pieces, and how it is cut
+/// makes no difference. No call allocates, and only `load` and `load_slice` can fail.
 #[derive(Drop)]
 pub struct Hmac<D: Digest> {
     inner: D,
@@ -52,7 +51,7 @@ impl<D: BlockDigest> Hmac<D> {
         }
     }
 
-    /// The state of two hashers: the inner one takes in the text, and the outer one then the digest of the inner.
+    /// The state of two hashers: the inner one takes in the text, and the outer one the digest of the inner.
     #[inline(always)]
     pub fn from_hashers(inner: D, outer: D) -> Hmac<D>
         ensures inner { result.inner ≡ D.meaning inner }
@@ -79,8 +78,8 @@ impl<D: BlockDigest> Hmac<D> {
         self.inner.update(bytes);
     }
 
-    /// A second state of the same key and text, independent of this one. Copies of a state of the
-    /// empty text spare hashing the key again for each of many texts.
+    /// A second state of the same key and text, independent of this one. To tag many texts under one key, copy the
+    /// state of the empty text: the key is then hashed once.
     pub fn duplicate(&self) -> Hmac<D>
         ensures { result ≡ self.now }
     {
@@ -101,9 +100,8 @@ impl<D: BlockDigest> Hmac<D> {
         self.outer.chain_update(D::output_bytes(&inner)).finalize()
     }
 
-    /// Whether these bytes are the tag, all of them. It compares all bytes of a tag of the right
-    /// length, whatever they are, and refuses a tag of another length at once. That the time is
-    /// always the same is not proved.
+    /// Whether these bytes are the tag, all of them. It compares all bytes of a tag of the right length, whatever
+    /// they are, and refuses a tag of another length at once. Constant time is not proved.
     pub fn verify(self, tag: &[u8]) -> bool
         ensures state { IsTrue result ↔ (tag.now ≡ tag_of D.step D.output self) }
         ensures text { (key text : List ℕ) → StandsFor D.start D.step D.output key text self
@@ -155,9 +153,8 @@ impl<F: ListBlockFunction> Incremental for Hmac<BlockHasher<F>> {
 }
 
 impl<F: ResumableFunction> Hmac<BlockHasher<F>> {
-    /// Saves the state, to be loaded later, here or elsewhere: the bytes that its inner hasher is saved
-    /// as, and then those of its outer one. They are as secret as the key: whoever has them can make
-    /// tags under it.
+    /// Saves the state: the saved bytes of its inner hasher, and then those of its outer one. They are as
+    /// secret as the key: whoever has them can make tags under it.
     pub fn save(&self) -> F::SavedHmac
         ensures bytes { F.SavedHmac.bytes result ≡ hmac_bytes F.output self.now }
         ensures valid { IsKeyedState F.are_words self.now }
@@ -171,7 +168,7 @@ impl<F: ResumableFunction> Hmac<BlockHasher<F>> {
         F::SavedHmac::from_slices(inner.as_bytes(), outer.as_bytes()).unwrap()
     }
 
-    /// Makes the state that was saved as these bytes.
+    /// Loads the state that is saved as these bytes.
     ///
     /// # Errors
     ///
@@ -189,12 +186,11 @@ impl<F: ResumableFunction> Hmac<BlockHasher<F>> {
         Self::load_slice(saved.as_bytes())
     }
 
-    /// Makes the state that was saved as these bytes, which are all the bytes of the array.
+    /// Loads the state that is saved as these bytes, as many as the array has.
     ///
     /// # Errors
     ///
-    /// `DeserializeStateError` if no state is saved as these bytes, so for any other number of them
-    /// than the array has.
+    /// `DeserializeStateError` if no state is saved as these bytes, so for any other number of them.
     pub fn load_slice(bytes: &[u8]) -> Result<Hmac<BlockHasher<F>>, DeserializeStateError>
         ensures ok { IfOk result (λ mac. hmac_bytes F.output mac ≡ bytes.now) }
         ensures valid { IfOk result (IsKeyedState F.are_words) }
@@ -215,7 +211,7 @@ impl<F: ResumableFunction> Hmac<BlockHasher<F>> {
     }
 }
 
-/// Whether bytes are equal. Where both are as many, it compares all of them, whatever they are.
+/// Whether bytes are equal. If both have the same length, it compares all of them, whatever they are.
 pub fn all_equal(a: &[u8], b: &[u8]) -> bool
     ensures { IsTrue result ↔ (a.now ≡ b.now) }
 {
@@ -229,18 +225,18 @@ pub fn all_equal(a: &[u8], b: &[u8]) -> bool
     difference == 0
 }
 
-/// A key as the two blocks that are hashed before anything else. They are as secret as the key.
+/// A key as the two blocks that are hashed first. They are as secret as the key.
 #[derive(Clone, Copy)]
 pub struct MaskedKeys {
     /// The block before the text.
     pub inner: [u8; 64],
-    /// The block before the digest of the first and the text.
+    /// The block before the inner digest.
     pub outer: [u8; 64],
 }
 
-/// The key, filled with zeros to 64 bytes, or its digest if it is longer than that, with each byte
-/// masked by 0x36, and by 0x5c (RFC 2104). The hash of the one block and a text, hashed after the
-/// other block, is the tag of the text.
+/// The key, or its digest if it is longer than 64 bytes, filled with zeros to 64 bytes, with each byte
+/// masked by 0x36, and by 0x5c (RFC 2104). The tag of a text is the hash of the outer block and the hash
+/// of the inner block and the text.
 pub fn masked_keys<D: BlockDigest>(key: &[u8]) -> MaskedKeys
     ensures inner { result.inner
         ≡ masked 0x36 (key_block (hash D.start D.step D.output) key.now) }
@@ -266,7 +262,7 @@ fn key_block<D: BlockDigest>(key: &[u8]) -> [u8; 64]
     }
 }
 
-/// Bytes, at most 64, and zeros after them to a block.
+/// At most 64 bytes, filled with zeros to a block.
 #[inline(always)]
 pub fn filled(bytes: &[u8]) -> [u8; 64]
     requires { length bytes.now ≤ 64 }
@@ -277,7 +273,7 @@ pub fn filled(bytes: &[u8]) -> [u8; 64]
     block
 }
 
-// A block, each byte combined with a mask.
+// A block with each byte masked, by exclusive or.
 fn masked(block: &[u8; 64], mask: u8) -> [u8; 64]
     ensures { result ≡ masked mask block.now }
 {

@@ -23,7 +23,7 @@ pub enum Pbkdf2Error {
     KeyTooLong,
 }
 
-/// Derives a key from a password and a salt, each of any length, by so many rounds, and writes it to
+/// Derives a key from a password and a salt, each of any length, by `rounds` rounds, and writes it to
 /// `key`, which may have any length up to 2^32 - 1 digests. Nothing is allocated.
 ///
 /// # Errors
@@ -59,7 +59,7 @@ pub fn pbkdf2_hmac<D: BlockDigest>(
     Ok(())
 }
 
-/// Whether a key of so many bytes may be derived by so many rounds, where a digest has `size` bytes.
+/// Whether a key of `len` bytes may be derived by `rounds` rounds, if a digest has `size` bytes.
 ///
 /// # Errors
 ///
@@ -79,7 +79,7 @@ pub fn allowed(rounds: u32, size: usize, len: usize) -> Result<(), Pbkdf2Error>
     Ok(())
 }
 
-/// Writes the front of a block, as much as there is room for.
+/// Writes the front of a block, as much as fits into `part`.
 pub fn write_front(block: &[u8; 64], part: &mut [u8])
     requires { length part.old ≤ 64 }
     ensures { part.new ≡ take (length part.old) block.now }
@@ -87,8 +87,8 @@ pub fn write_front(block: &[u8; 64], part: &mut [u8])
     part.copy_from_slice(&block[..part.len()]);
 }
 
-// The block of the key with this number, counted from 1, filled with zeros, where `keyed` is the state
-// of a password and the empty text.
+// Block `number` of the key, counted from 1, filled with zeros; `keyed` is the state of the password and the empty
+// text.
 fn derived_block<D: BlockDigest>(keyed: &Hmac<D>, salt: &[u8], rounds: u32, number: u32) -> [u8; 64]
     requires { 0 < rounds }
     ensures block { (password : List ℕ) → StandsFor D.start D.step D.output password [] keyed.now
@@ -110,7 +110,6 @@ fn derived_block<D: BlockDigest>(keyed: &Hmac<D>, salt: &[u8], rounds: u32, numb
     block
 }
 
-// The tag of a tag.
 fn tag_of<D: BlockDigest>(keyed: &Hmac<D>, tag: &D::Output) -> D::Output
     ensures tag { (password : List ℕ) → StandsFor D.start D.step D.output password [] keyed.now
         → D.bytes_of result ≡ hmac (hash D.start D.step D.output) password (D.bytes_of tag.now) }
@@ -121,8 +120,8 @@ fn tag_of<D: BlockDigest>(keyed: &Hmac<D>, tag: &D::Output) -> D::Output
     text.finalize()
 }
 
-/// The exclusive or of two blocks. Not inlined: of blocks that it sees put together the compiler makes single bytes,
-/// and a round of PBKDF2 by RIPEMD-128 takes 30 ns more.
+/// The exclusive or of two blocks. Not inlined: if the compiler sees how a block is assembled, it works on single
+/// bytes, and a round of PBKDF2 by RIPEMD-128 takes 30 ns more.
 #[inline(never)]
 pub fn combined(a: &[u8; 64], b: &[u8; 64]) -> [u8; 64]
     ensures { result ≡ zip2 bit_xor a.now b.now }

@@ -14,19 +14,18 @@ use ripemd::digest::BlockDigest;
 use ripemd::witness::{BlockFunction, Collision, collision_witness};
 use std::alloc::{AllocError, Global};
 
-/// A collision of the block function, met while the messages are hashed that the tags of two texts
-/// are made of.
+/// A collision of the block function in the hashing of two texts with the same tag.
 #[derive(Clone, Copy, PartialEq, Eq, Debug)]
 pub enum MacCollision<S> {
-    /// It is met inside the inner messages: the masked key, and then the text.
+    /// In the inner messages: the masked key, and then the text.
     Inner(Collision<S>),
-    /// It is met inside the outer messages: the masked key, and then the digest of the inner one.
+    /// In the outer messages: the masked key, and then the inner digest.
     Outer(Collision<S>),
 }
 
 /// Gives, for two different texts with the same tag under one key, the collision of the block function
-/// to which they lead: that of the inner messages where these have one digest, and else that of the
-/// outer ones, as `collision_witness` gives it.
+/// to which they lead: what `collision_witness` gives for the inner messages if their digests are equal,
+/// and otherwise for the outer ones.
 ///
 /// `None` exactly if the texts are equal or their tags differ. The key has any length. Each text
 /// has fewer than 2^61 - 64 bytes, so that its inner message has fewer than 2^61.
@@ -77,7 +76,7 @@ pub fn mac_collision<D: BlockDigest>(
     Ok(collision.map(MacCollision::Outer))
 }
 
-// The digest of a masked key and then some bytes.
+// The digest of a masked key and then `bytes`.
 fn prefixed_digest<D: BlockDigest>(masked_key: &[u8; 64], bytes: &[u8]) -> D::Output
     ensures { D.bytes_of result ≡ hash D.start D.step D.output (masked_key.now ++ bytes.now) }
 {
@@ -86,8 +85,7 @@ fn prefixed_digest<D: BlockDigest>(masked_key: &[u8; 64], bytes: &[u8]) -> D::Ou
         .finalize()
 }
 
-// The collision of two messages, each a masked key and then some bytes. It writes them to `left` and
-// `right`.
+// The collision of two messages, each a masked key and then some bytes, which it writes to `left` and `right`.
 fn prefixed_collision<D: BlockDigest>(
     masked_key: &[u8; 64],
     a: &[u8],
@@ -112,7 +110,6 @@ fn prefixed_collision<D: BlockDigest>(
     collision_witness::<D::Core>(left, right)
 }
 
-// Writes a masked key and then some bytes.
 fn join(masked_key: &[u8; 64], bytes: &[u8], out: &mut [u8])
     requires { length out.old ≡ 64 + length bytes.now }
     ensures { out.new ≡ masked_key.now ++ bytes.now }

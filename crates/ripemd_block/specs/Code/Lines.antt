@@ -13,15 +13,15 @@ both_lines l r = record { left = l; right = r }
 unfoldable pub message_words : List ℕ → List ℕ
 message_words block = map (message_word block) (range_with_len 0 16)
 
--- these, each with k added
+-- the message words of a block, each with k added
 unfoldable pub words_with : ℕ → List ℕ → List ℕ
 words_with k block = map (λ w. w ⊞ k) (message_words block)
 
--- these with the constant of each round of a line
+-- the message words with the constant of each round of a line added
 unfoldable pub words_of_rounds : Line → ℕ → List ℕ → List (List ℕ)
 words_of_rounds line rounds block = map (λ r. words_with (line.constant r) block) (range_with_len 0 rounds)
 
--- the words of both lines of a variant with this many rounds are those of a block
+-- ls and rs are the words of both lines, of a variant with this many rounds, for a block
 pub record HasWords (rounds : ℕ) (ls rs : List (List ℕ)) (block : List ℕ) : Type 0 where
   pub left : ls ≡ words_of_rounds left_line rounds block
   pub right : rs ≡ words_of_rounds (right_line rounds) rounds block

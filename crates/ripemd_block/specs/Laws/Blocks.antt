@@ -20,7 +20,7 @@ first_chunks-append (suc k) j a b h =
 
 -- ---- bytes that begin with whole blocks
 
--- their blocks are those, and then the blocks of the bytes that follow
+-- their blocks, and then those of the bytes that follow
 pub blocks_joined : (k : ℕ) (a b : List ℕ) → length a ≡ k * 64 → blocks (a ++ b) ≡ blocks a ++ blocks b
 unfolding blocks
 blocks_joined k a b h =
@@ -28,7 +28,6 @@ blocks_joined k a b h =
     let front : length a / 64 ≡ k = omega arith in
     rw (both, front) (first_chunks-append k (length b / 64) a b h)
 
--- what is left over is what the bytes that follow leave over
 pub left_over_joined : (k : ℕ) (a b : List ℕ) → length a ≡ k * 64 → partial_block (a ++ b) ≡ partial_block b
 unfolding partial_block
 left_over_joined k a b h =
@@ -37,33 +36,27 @@ left_over_joined k a b h =
 
 -- ---- fewer bytes than a block, one block, and two
 
--- fewer bytes than a block have no block
 pub blocks_of_short : (a : List ℕ) → length a < 64 → blocks a ≡ []
 unfolding blocks
 blocks_of_short a h = let none : length a / 64 ≡ 0 = omega arith in rw none refl
 
--- fewer bytes than a block are all left over
 pub left_over_of_short : (a : List ℕ) → length a < 64 → partial_block a ≡ a
 unfolding partial_block
 left_over_of_short a h = let none : length a / 64 * 64 ≡ 0 = omega arith in rw none refl
 
--- the bytes of a block have that one block
 pub blocks_of_one : (a : List ℕ) → length a ≡ 64 → blocks a ≡ a ∷ []
 unfolding blocks
 blocks_of_one a h = rw (h, take_all 64 a (omega arith)) refl
 
--- the bytes of a block leave nothing over
 pub left_over_of_one : (a : List ℕ) → length a ≡ 64 → partial_block a ≡ []
 unfolding partial_block
 left_over_of_one a h = rw h (drop_all 64 a (omega arith))
 
--- the bytes of two blocks have those two
 pub blocks_of_two : (a b : List ℕ) → length a ≡ 64 → length b ≡ 64 → blocks (a ++ b) ≡ a ∷ b ∷ []
 blocks_of_two a b ha hb = rw (blocks_joined 1 a b ha, blocks_of_one a ha, blocks_of_one b hb) refl
 
 -- ---- bytes taken apart
 
--- how many whole blocks there are
 pub length-blocks : (a : List ℕ) → length (blocks a) ≡ length a / 64
 unfolding blocks
 length-blocks a = length-first_chunks (length a / 64) a
@@ -72,7 +65,6 @@ length-blocks a = length-first_chunks (length a / 64) a
     length-first_chunks zero a = refl
     length-first_chunks (suc k) a = ap suc (length-first_chunks k (drop 64 a))
 
--- how many bytes follow the whole blocks
 pub length-partial_block : (a : List ℕ) → length (partial_block a) ≡ length a % 64
 unfolding partial_block
 length-partial_block a = omega (arith, length-drop (length a / 64 * 64) a)
@@ -81,12 +73,10 @@ length-partial_block a = omega (arith, length-drop (length a / 64 * 64) a)
 whole_part : List ℕ → List ℕ
 whole_part a = take (length a / 64 * 64) a
 
--- how many bytes these are
 length-whole_part : (a : List ℕ) → length (whole_part a) ≡ length a / 64 * 64
 unfolding whole_part
 length-whole_part a = length-take-le (length a / 64 * 64) a (omega arith)
 
--- the whole part and the bytes after it are all
 whole_part-append : (a : List ℕ) → whole_part a ++ partial_block a ≡ a
 unfolding whole_part partial_block
 whole_part-append a = take-append-drop (length a / 64 * 64) a
@@ -96,20 +86,19 @@ append-whole_part : (a b : List ℕ) → a ++ b ≡ whole_part a ++ (partial_blo
 append-whole_part a b =
     ap (λ (x : List ℕ). x ++ b) (sym (whole_part-append a)) ∙ append_assoc (whole_part a) (partial_block a) b
 
--- the blocks of the whole part are those of all
 blocks-whole_part : (a : List ℕ) → blocks (whole_part a) ≡ blocks a
 blocks-whole_part a =
     let short : length (partial_block a) < 64 = omega (arith, length-partial_block a) in
     let split = blocks_joined (length a / 64) (whole_part a) (partial_block a) (length-whole_part a) in
     sym (rw (whole_part-append a, blocks_of_short (partial_block a) short, append-nil (blocks (whole_part a))) at split)
 
--- of the bytes so far only those after the whole blocks matter to the blocks that follow
+-- only the bytes after the whole blocks so far count for the blocks that follow
 pub blocks-append : (a b : List ℕ) → blocks (a ++ b) ≡ blocks a ++ blocks (partial_block a ++ b)
 blocks-append a b =
     let split = blocks_joined (length a / 64) (whole_part a) (partial_block a ++ b) (length-whole_part a) in
     rw (append-whole_part a b) (rw (blocks-whole_part a) at split)
 
--- of the bytes so far only those after the whole blocks matter to what is left over in the end
+-- and for what is left over in the end
 pub partial_block-append : (a b : List ℕ) → partial_block (a ++ b) ≡ partial_block (partial_block a ++ b)
 partial_block-append a b =
     let split = left_over_joined (length a / 64) (whole_part a) (partial_block a ++ b) (length-whole_part a) in

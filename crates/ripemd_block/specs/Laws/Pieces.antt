@@ -1,5 +1,5 @@
--- Laws of hash states, for every block function: however bytes come in, the
--- state is that of all of them, and a finished state gives the hash.
+-- Laws of hash states, for every block function: however bytes come in, the state is that of all of them, and a
+-- finished state gives the hash.
 use Rattle.std.proofs.Common.{◌≡◌, ℕ, ◌+◌, ◌*◌, ◌%◌, ◌^◌, ◌<◌, refl, ap, arith}
 use Rattle.std.proofs.Common.{List, [], ◌∷◌, ◌++◌, length, replicate}
 use Rattle.std.proofs.lemmas.List.{append_assoc, append-nil}
@@ -15,14 +15,12 @@ use Rattle.ripemd_block.specs.Laws.Walking.{after_joined_blocks}
 -- ---- bytes
 
 module _ (step : List ℕ → List ℕ → List ℕ) (h : HashState) where
-  -- no bytes change nothing
   pub fed_nothing : h.count < 2 ^ 64 → length h.tail < 64 → fed step h [] ≡ h
   unfolding fed
   fed_nothing count short =
       let same : (h.count + 0) % 2 ^ 64 ≡ h.count = omega arith in
       rw (append-nil h.tail, blocks_of_short h.tail short, left_over_of_short h.tail short, same) refl
 
-  -- some bytes and then others are both, joined
   pub fed_twice : (x y : List ℕ) → fed step (fed step h x) y ≡ fed step h (x ++ y)
   unfolding fed
   fed_twice x y =
@@ -59,8 +57,8 @@ with_padding_rest m n =
     let split = blocks-append m (padding ++ eight_bytes n) in
     rw (zeros, append_assoc m padding (eight_bytes n), append_assoc rest padding (eight_bytes n)) split
 
--- a state that was fed a whole message from the start finishes as its hash: the count may have
--- wrapped, and 8 * 64 * 2 ^ 64 is a multiple of 2 ^ 64
+-- a state fed a whole message from the start finishes as its hash: if the count wrapped, 8 * 64 * 2 ^ 64 is a
+-- multiple of 2 ^ 64
 pub finish_fed : {D : Type 0} (start : List ℕ) (step : List ℕ → List ℕ → List ℕ) (output : List ℕ → D)
     (m : List ℕ) → finish step output (fed step (initial_state start) m) ≡ hash start step output m
 unfolding finish fed hash

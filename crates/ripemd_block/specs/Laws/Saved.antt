@@ -1,4 +1,4 @@
--- The laws of saved bytes: how many there are, and that no two states have the same.
+-- The laws of saved bytes: their number, and that different states have different ones.
 use Rattle.std.proofs.Common.{◌≡◌, ◌≢◌, ℕ, ◌+◌, ◌*◌, ◌-◌, ◌^◌, ◌<◌, rules, refl, sym, ap, ◌∙◌, arith}
 use Rattle.std.proofs.Common.{List, [], ◌∷◌, ◌++◌, length, take, drop, get_or, replicate, length-append}
 use Rattle.std.specs.Int.{w64, from_le_bytes}
@@ -14,16 +14,15 @@ use Rattle.ripemd_block.specs.States.{output_and_count, tail_bytes, core_and_tai
 use Rattle.ripemd_block.specs.OverLists.{IsInjectiveOutput}
 use Rattle.ripemd_block.specs.Laws.WordBytes.{words_of, words_read, words_in_range, bytes_of_words, word_bytes_injective}
 
--- n words are told by their bytes
+-- the bytes of n words determine them
 pub word_bytes_output : (n : ℕ) → IsInjectiveOutput (AreWords n) word_bytes (4 * n)
 word_bytes_output n = record { size = bytes_of_words n; injective = word_bytes_injective n }
 
--- a count is told by its bytes
+-- the bytes of a count determine it
 pub eight_bytes_injective : (m n : ℕ) → m < 2 ^ 64 → n < 2 ^ 64 → eight_bytes m ≡ eight_bytes n → m ≡ n
 eight_bytes_injective m n of_m of_n same =
     sym (from_le_bytes-to_le_bytes_8 m of_m) ∙ ap (from_le_bytes w64) same ∙ from_le_bytes-to_le_bytes_8 n of_n
 
--- tails that are saved as the same bytes are the same
 tail_bytes_injective : (s t : List ℕ) → tail_bytes s ≡ tail_bytes t → s ≡ t
 tail_bytes_injective s t same =
     let size : length s ≡ length t = ap (λ (bs : List ℕ). get_or bs 0 0) same in
@@ -31,13 +30,11 @@ tail_bytes_injective s t same =
     sym (take-append_seam s (replicate (63 - length s) 0)) ∙ ap (take (length s)) behind
     ∙ rw size (take-append_seam t (replicate (63 - length t) 0))
 
--- a hasher is saved as its core and its tail
 pub core_and_tail-split : (output : List ℕ → List ℕ) (h : HashState)
     → core_and_tail output h ≡ output_and_count output h ++ tail_bytes h.tail
 unfolding core_and_tail
 core_and_tail-split output h = refl
 
--- states of the same words, count and tail are the same
 same_meaning : (g h : HashState) → g.words ≡ h.words → g.count ≡ h.count → g.tail ≡ h.tail → g ≡ h
 same_meaning g h words count tail =
     ap (λ (w : List ℕ). record g { words = w }) words
@@ -58,7 +55,6 @@ module _ {are_words : List ℕ → Type 0} {output : List ℕ → List ℕ} {n :
     same_size : length (output g.words) ≡ length (output h.words)
     same_size = tells.size g.words of_g.words ∙ sym (tells.size h.words of_h.words)
 
-    -- the words are the same
     same_words : g.words ≡ h.words
     same_words =
         let same_output : output g.words ≡ output h.words =
@@ -71,25 +67,21 @@ module _ {are_words : List ℕ → Type 0} {output : List ℕ → List ℕ} {n :
         sym (drop-append_seam (output g.words) (eight_bytes g.count ++ a)) ∙ ap (drop (length (output g.words))) parted
         ∙ rw same_size (drop-append_seam (output h.words) (eight_bytes h.count ++ b))
 
-    -- the count is the same
     same_count : g.count ≡ h.count
     same_count =
         eight_bytes_injective g.count h.count of_g.count of_h.count (ap (take 8) after_words)
 
-    -- what follows is the same
     same_rest : a ≡ b
     same_rest = ap (drop 8) after_words
 
   -- ---- cores
 
-  -- how many bytes a core is saved as
   pub length-output_and_count : (h : HashState) → IsHashState are_words h → length (output_and_count output h) ≡ n + 8
   unfolding output_and_count
   length-output_and_count h valid =
       let both = length-append (output h.words) (eight_bytes h.count) in
       omega (arith, both, tells.size h.words valid.words)
 
-  -- the first of them are the output of its words
   pub output_front : (h : HashState) (bytes : List ℕ) → IsHashState are_words h → output_and_count output h ≡ bytes
       → output h.words ≡ take n bytes
   unfolding output_and_count
@@ -97,7 +89,6 @@ module _ {are_words : List ℕ → Type 0} {output : List ℕ → List ℕ} {n :
       let size = tells.size h.words valid.words in
       sym (take-append_seam (output h.words) (eight_bytes h.count)) ∙ rw (size, same) refl
 
-  -- the others are those of its count
   pub output_back : (h : HashState) (bytes : List ℕ) → IsHashState are_words h → output_and_count output h ≡ bytes
       → eight_bytes h.count ≡ drop n bytes
   unfolding output_and_count
@@ -105,7 +96,6 @@ module _ {are_words : List ℕ → Type 0} {output : List ℕ → List ℕ} {n :
       let size = tells.size h.words valid.words in
       sym (drop-append_seam (output h.words) (eight_bytes h.count)) ∙ rw (size, same) refl
 
-  -- cores that are saved as the same bytes are the same
   pub output_and_count_injective : (g h : HashState) → IsWithoutTail are_words g → IsWithoutTail are_words h
       → output_and_count output g ≡ output_and_count output h → g ≡ h
   output_and_count_injective g h of_g of_h same =
@@ -117,7 +107,6 @@ module _ {are_words : List ℕ → Type 0} {output : List ℕ → List ℕ} {n :
 
   -- ---- hashers
 
-  -- how many bytes a hasher is saved as
   pub length-core_and_tail : (h : HashState) → IsHashState are_words h → length (core_and_tail output h) ≡ n + 8 + 64
   length-core_and_tail h valid =
       let core : length (output_and_count output h) ≡ n + 8 = length-output_and_count h valid in
@@ -133,7 +122,6 @@ module _ {are_words : List ℕ → Type 0} {output : List ℕ → List ℕ} {n :
         tail,
       )
 
-  -- hashers that are saved as the same bytes are the same
   pub core_and_tail_injective : (g h : HashState) → IsHashState are_words g → IsHashState are_words h
       → core_and_tail output g ≡ core_and_tail output h → g ≡ h
   core_and_tail_injective g h of_g of_h same =
@@ -146,7 +134,6 @@ module _ {are_words : List ℕ → Type 0} {output : List ℕ → List ℕ} {n :
 
 -- ---- the four variants
 
--- hashers of a variant that are saved as the same bytes are the same
 pub hasher_bytes_injective : (v : Parameters) (g h : HashState) → IsState v g → IsState v h → hasher_bytes g ≡ hasher_bytes h → g ≡ h
 hasher_bytes_injective v = core_and_tail_injective (word_bytes_output (length v.start))
 
@@ -164,7 +151,7 @@ count_of_eight (a ∷ b ∷ c ∷ d ∷ e ∷ f ∷ g ∷ h ∷ []) size small =
     omega (arith, small 0, small 1, small 2, small 3, small 4, small 5, small 6, small 7)
 count_of_eight (a ∷ b ∷ c ∷ d ∷ e ∷ f ∷ g ∷ h ∷ i ∷ bs) size small = absurd (omega arith)
 
--- so many bytes are not those of no core
+-- bytes of this number are those of some core: not of none
 every_core : (v : Parameters) (bytes : List ℕ) → length bytes ≡ 4 * length v.start + 8
     → ((i : ℕ) → get_or bytes i 0 < 256) → ¬ ((h : HashState) → IsCoreState v h → core_bytes h ≢ bytes)
 unfolding output_and_count
@@ -185,7 +172,7 @@ every_core v bytes size small refused =
     refused (record { words = words_of n bytes; count = from_le_bytes w64 last; tail = [] })
     (record { state = state; no_tail = refl }) (rw (words, count) (take-append-drop (4 * n) bytes))
 
--- so whoever refuses only what no core is saved as takes any bytes, if there are so many
+-- so a load that refuses only the bytes of no core takes any bytes of this number
 pub takes_every_core : {T E : Type 0} (v : Parameters) (bytes : List ℕ) (loaded : Result T E)
     → IfErr loaded (λ _. (h : HashState) → IsCoreState v h → core_bytes h ≢ bytes)
     → length bytes ≡ 4 * length v.start + 8 → ((i : ℕ) → get_or bytes i 0 < 256) → IsOk loaded

@@ -1,17 +1,15 @@
--- The laws of taking blocks in, which each core keeps.
+-- The laws of `UpdateCore`: no blocks change nothing, and blocks may come in parts.
 use Rattle.std.proofs.Common.{◌≡◌, ℕ, ◌+◌, ◌%◌, ◌^◌, refl, arith}
 use Rattle.std.proofs.Common.{List, [], ◌++◌, length, length-append}
 use Rattle.std.proofs.lemmas.List.Sums.{fold-append}
 use Rattle.ripemd_block.specs.States.{HashState, IsWithoutTail, after_blocks}
 
--- no blocks change nothing
 pub after_no_blocks : (step : List ℕ → List ℕ → List ℕ) (are_words : List ℕ → Type 0) (h : HashState)
     → IsWithoutTail are_words h → after_blocks step h [] ≡ h
 after_no_blocks step are_words h valid =
     let count : (h.count + 0) % 2 ^ 64 ≡ h.count = omega (arith, valid.state.count) in
     rw count refl
 
--- some blocks and then others are both, joined
 pub after_joined_blocks : (step : List ℕ → List ℕ → List ℕ) (h : HashState) (xs ys : List (List ℕ))
     → after_blocks step (after_blocks step h xs) ys ≡ after_blocks step h (xs ++ ys)
 after_joined_blocks step h xs ys =

@@ -1,4 +1,4 @@
--- Words and their bytes, four for each: different words have different ones.
+-- Words and their bytes, four each: different words have different bytes.
 use Rattle.std.proofs.Common.{◌≡◌, ℕ, zero, suc, ◌*◌, ◌^◌, ◌<◌, ◌≤◌, rules, refl, sym, ap, ◌∙◌, arith}
 use Rattle.std.proofs.Common.{List, [], ◌∷◌, ◌++◌, length, take, drop, get_or}
 use Rattle.std.specs.Int.{w32, from_le_bytes, to_le_bytes}
@@ -8,12 +8,10 @@ use Rattle.std.proofs.lemmas.Nat.{le_bytes_4, from_le_bytes-to_le_bytes_4}
 use Rattle.ripemd_block.specs.Standard.Words.{word_bytes}
 use Rattle.ripemd_block.specs.States.{AreWords}
 
--- a word has four bytes
 pub length-word_bytes : (words : List ℕ) → length (word_bytes words) ≡ 4 * length words
 length-word_bytes [] = refl
 length-word_bytes (w ∷ words) = omega (arith, length-word_bytes words)
 
--- so n words have 4 * n
 pub bytes_of_words : (n : ℕ) (words : List ℕ) → AreWords n words → length (word_bytes words) ≡ 4 * n
 bytes_of_words n words fit = omega (arith, length-word_bytes words, fit.count)
 
@@ -22,7 +20,6 @@ pub words_of : ℕ → List ℕ → List ℕ
 words_of zero bytes = []
 words_of (suc n) bytes = from_le_bytes w32 (take 4 bytes) ∷ words_of n (drop 4 bytes)
 
--- words are what is read from their bytes
 words_of_bytes : (words : List ℕ) → All (λ w. w < 2 ^ 32) words → words_of (length words) (word_bytes words) ≡ words
 unfolding words_of
 words_of_bytes [] fit = refl
@@ -30,7 +27,6 @@ words_of_bytes (w ∷ words) fit =
     let first = from_le_bytes-to_le_bytes_4 w (All-head (λ w. w < 2 ^ 32) w words fit) in
     rw (first, words_of_bytes words (All-tail (λ w. w < 2 ^ 32) w words fit)) refl
 
--- words with the same bytes are the same
 pub word_bytes_injective : (n : ℕ) (xs ys : List ℕ) → AreWords n xs → AreWords n ys → word_bytes xs ≡ word_bytes ys → xs ≡ ys
 word_bytes_injective n xs ys of_xs of_ys same =
     sym (words_of_bytes xs of_xs.fit) ∙ rw (of_xs.count, same, ← of_ys.count) (words_of_bytes ys of_ys.fit)
@@ -42,7 +38,7 @@ word_of_four : (a b c d : ℕ) → a < 256 → b < 256 → c < 256 → d < 256
     → from_le_bytes w32 (a ∷ b ∷ c ∷ d ∷ []) < 2 ^ 32
 word_of_four a b c d fit_a fit_b fit_c fit_d = omega arith
 
--- the bytes of the words that are read are those that they were read from
+-- reading bytes as words keeps the bytes
 pub words_read : (n : ℕ) (bytes : List ℕ) → 4 * n ≤ length bytes → ((i : ℕ) → get_or bytes i 0 < 256)
     → word_bytes (words_of n bytes) ≡ take (4 * n) bytes
 unfolding words_of
@@ -68,7 +64,6 @@ words_read (suc n) (a ∷ b ∷ c ∷ d ∷ bytes) fits small =
     small_four a b c d fit_a fit_b fit_c fit_d (suc (suc (suc zero))) = fit_d
     small_four a b c d fit_a fit_b fit_c fit_d (suc (suc (suc (suc i)))) = omega arith
 
--- the words read are in range
 pub words_in_range : (n : ℕ) (bytes : List ℕ) → 4 * n ≤ length bytes → ((i : ℕ) → get_or bytes i 0 < 256)
     → AreWords n (words_of n bytes)
 unfolding words_of

@@ -20,7 +20,7 @@ pub record Parameters : Type 0 where
 abbrev pub start_words : List ℕ
 start_words = 0x67452301 ∷ 0xefcdab89 ∷ 0x98badcfe ∷ 0x10325476 ∷ 0xc3d2e1f0 ∷ []
 
--- those of the right line, where it has its own (1996, extensions to 256 and 320 bits)
+-- the start words of the right line, where it has its own (1996, extensions to 256 and 320 bits)
 abbrev pub second_start_words : List ℕ
 second_start_words = 0x76543210 ∷ 0xfedcba98 ∷ 0x89abcdef ∷ 0x01234567 ∷ 0x3c2d1e0f ∷ []
 

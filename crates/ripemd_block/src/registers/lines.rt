@@ -17,8 +17,7 @@ pub(crate) trait LineRegisters: Copy {
 
     ghost ROUNDS: { ℕ };
 
-    /// A step with Boolean function `k`, where the constant is added to the message word `x`, and with the
-    /// rotation by `s` bits.
+    /// A step with Boolean function `k`, the message word with the constant added `x`, and the rotation by `s` bits.
     fn step(self, k: usize, x: u32, s: u32) -> Self
         requires function { k < ROUNDS }
         requires amount { (0 < s) × (s < 32) }
@@ -71,9 +70,8 @@ impl LineRegisters for [u32; 5] {
     }
 }
 
-// The sum of `u` and Boolean function `k` of three words, modulo 2^32 (1996, Boolean functions). The
-// two parts of function 3 have no bit in common and are added one after the other, so that less waits
-// for `x`, the newest of the words.
+// The sum of `u` and Boolean function `k` of three words, modulo 2^32 (1996, Boolean functions). The two parts of
+// function 3 have no bit in common and are added one after the other, so that less waits for `x`, the newest word.
 #[inline(always)]
 fn sum(u: u32, k: usize, x: u32, y: u32, z: u32) -> u32
     requires { k < 5 }
@@ -88,7 +86,7 @@ fn sum(u: u32, k: usize, x: u32, y: u32, z: u32) -> u32
     }
 }
 
-/// The message words of a block with the constant of each round added, of both lines: rows of rounds.
+/// The message words of a block for both lines, with the constant of the round added: a row for each round.
 #[derive(Drop)]
 pub(crate) struct Words<const N: usize> {
     left: [[u32; 16]; N],
@@ -103,8 +101,8 @@ fn words_with(block: &[u8; 64], k: u32) -> [u32; 16]
     (message_words(block) + u32x16::splat(k)).to_array()
 }
 
-/// These words of lines of four rounds. Not inlined: in the steps the compiler would add the constants
-/// last, where the next step waits for them.
+/// The words of lines of four rounds. Not inlined: inside the steps the compiler would add the constants last, where
+/// the next step waits for them.
 #[inline(never)]
 pub(crate) fn words_of_four_rounds(block: &[u8; 64]) -> Words<4>
     ensures { HasWords 4 result.left result.right block.now }
@@ -125,7 +123,7 @@ pub(crate) fn words_of_four_rounds(block: &[u8; 64]) -> Words<4>
     }
 }
 
-/// The same of lines of five rounds.
+/// The words of lines of five rounds, not inlined for the same reason.
 #[inline(never)]
 pub(crate) fn words_of_five_rounds(block: &[u8; 64]) -> Words<5>
     ensures { HasWords 5 result.left result.right block.now }
@@ -212,7 +210,7 @@ fn four_steps<R: LineRegisters, const N: usize>(
     lines
 }
 
-/// Round `r` of both lines: sixteen steps. Fours of them are what the compiler unrolls.
+/// Round `r` of both lines: sixteen steps, by fours, which the compiler unrolls.
 #[inline(always)]
 pub(crate) fn round<R: LineRegisters, const N: usize>(
     r: usize,
