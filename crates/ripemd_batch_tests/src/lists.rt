@@ -23,8 +23,7 @@ fn alone<F: BatchFunction>(key: Option<&[u8]>, message: &[u8]) -> F::Digest {
     }
 }
 
-// Whether a list, by eights or by fours, has the outputs that its messages have alone. There are as many places or
-// more.
+// Whether a list, by eights or by fours, has the outputs of its messages alone. There are as many places or more.
 fn agrees<F: BatchFunction>(
     key: Option<&[u8]>,
     messages: &[&[u8]],
@@ -55,7 +54,7 @@ const LENGTHS: [usize; 20] = [
     0, 1, 32, 55, 56, 57, 63, 64, 65, 118, 119, 120, 121, 127, 128, 129, 184, 320, 447, 448,
 ];
 
-// Whether this is so of up to 40 messages of mixed lengths, for digests and for tags.
+// Whether lists of up to 40 messages of mixed lengths agree so, for digests and for tags.
 fn all_agree<F: BatchFunction>(places: &mut [F::Digest]) -> bool {
     let bytes: [u8; 500] = counted(0);
     let mut messages: [&[u8]; 40] = [&[]; 40];

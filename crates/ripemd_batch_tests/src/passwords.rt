@@ -9,9 +9,8 @@ use ripemd_tests::digits::{
     Ripemd128Function, Ripemd160Function, Ripemd256Function, Ripemd320Function, is_written,
 };
 
-// Whether this is the key by three rounds of the password whose bytes are 1 to 8 and the salt whose
-// bytes are 0 to 7: alone, in lanes, and as every other one of nine. The others are of the salt and the password
-// exchanged.
+// Whether this is the key of three rounds from the password of the bytes 1 to 8 and the salt of the bytes 0 to 7:
+// alone, in lanes, and as every other one of nine. The others have salt and password exchanged.
 fn derives<F: BatchFunction>(digits: &str) -> bool {
     let password: &[u8] = &counted::<8>(1);
     let salt: &[u8] = &counted::<8>(0);

@@ -19,7 +19,7 @@ fn tag_of<D: BlockDigest>(key: &[u8], first: &[u8], second: &[u8]) -> D::Output 
     copy.finalize()
 }
 
-// The same, saved and loaded between the pieces.
+// The tag of a text that comes in two pieces, saved and loaded between them.
 fn tag_put_aside<F: ResumableFunction>(
     key: &[u8],
     first: &[u8],

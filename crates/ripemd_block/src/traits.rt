@@ -102,7 +102,7 @@ pub trait SerializableState: HashMeaning {
         ensures err { IfErr result
             (λ _. (h : HashState) → Self.is_valid h → state_bytes h ≢ saved_bytes saved.now) };
 
-    /// Loads the state that is saved as these bytes, as many as the array has.
+    /// Loads the state that is saved as these bytes.
     ///
     /// # Errors
     ///

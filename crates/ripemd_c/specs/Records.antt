@@ -6,7 +6,7 @@ use Rattle.ripemd.specs.Standard.Hashing.{ripemd}
 use Rattle.ripemd_mac.specs.Hmac.{hmac}
 use Rattle.ripemd_calls.specs.Variants.{ByVariant, Writes, digest_size}
 
--- record i: the bytes from i * size on, as many as the size
+-- record i: `size` bytes from i * size on
 abbrev pub record_at : ℕ → List ℕ → ℕ → List ℕ
 record_at size bytes i = slice_range bytes (i * size) (i * size + size)
 
@@ -16,21 +16,21 @@ records i n size bytes = map (record_at size bytes) (range_with_len i n)
 
 -- ---- calls
 
--- a call writes the outputs of messages, each of so many bytes, one after another: exactly if its place is as long
--- as all of them
+-- a call writes the outputs of messages, of so many bytes each, one after another: exactly if its place is as long as
+-- all of them
 abbrev pub FillsList : (width : ℕ) → (output_of : List ℕ → List ℕ) → (messages : List (List ℕ))
     → (old new : List ℕ) → Bool → Type 0
 FillsList width output_of messages old new done =
     Writes (length old ≡ length messages * width) (flat_map output_of messages) old new done
 
--- the same of records: exactly if its place is a whole number of outputs, and the bytes are as many records
+-- a call does so with records: exactly if its place is a whole number of outputs, and the bytes are as many records
 abbrev pub FillsEach : (width : ℕ) → (output_of : List ℕ → List ℕ) → (bytes : List ℕ) → (size : ℕ)
     → (old new : List ℕ) → Bool → Type 0
 FillsEach width output_of bytes size old new done =
     Writes ((length old ≡ length old / width * width) × (length bytes ≡ length old / width * size))
     (flat_map output_of (records 0 (length old / width) size bytes)) old new done
 
--- the same by the variant of a number
+-- a call does so by the variant of a number
 abbrev pub WritesList : (bits : ℕ) → (output_of : Parameters → List ℕ → List ℕ) → (messages : List (List ℕ))
     → (old new : List ℕ) → Bool → Type 0
 WritesList bits output_of messages = ByVariant bits (λ v. FillsList (digest_size v) (output_of v) messages)

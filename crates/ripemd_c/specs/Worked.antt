@@ -12,7 +12,7 @@ abbrev pub three_digests : List ℕ
 three_digests =
     codes "8eb208f7e05d987a9b044a8e98c6b087f15a0bfcb0a79cc77e333ea11974e105cd051d33836928b08eb208f7e05d987a9b044a8e98c6b087f15a0bfc"
 
--- by this call records of three bytes, and these messages
+-- by a call for records of three bytes, and by one for these messages
 abbrev pub Each : (bytes old new : List ℕ) → Bool → Type 0
 Each bytes = WritesEachDigest 160 bytes 3
 

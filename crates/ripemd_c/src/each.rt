@@ -1,6 +1,6 @@
-//! Digests of many messages, and their tags under one key (RFC 2104): of records of one size that lie
-//! one after another, and of a list of messages of any sizes. The caller says of how many
-//! words the vectors are by which lists go; only the time depends on it.
+//! Digests of many messages, and their tags under one key (RFC 2104): of records of one size that lie one after
+//! another, and of a list of messages. The caller gives the number of words of the vectors by which lists go; only
+//! the time depends on it.
 
 ghost use Rattle.std.specs.Prelude.{◌≡◌, ◌↔◌, ◌+◌, ◌*◌, ◌^◌, ◌<◌, ◌≤◌, length, IsTrue};
 ghost use Rattle.std.specs.List.{flat_map};
@@ -17,7 +17,7 @@ use ripemd_batch::pbkdf2::digest_size;
 use ripemd_batch::{BatchDigest, ListHasher};
 use ripemd_calls::by_variant;
 
-// How many records a list of them has, at most.
+// The most records of a list.
 const GROUP: usize = 32;
 
 /// Writes the digests of records by the variant, one after another to `digests`. The records lie one
@@ -39,8 +39,7 @@ pub extern "C" fn nattizhu_each_nonnull(
     )
 }
 
-/// Writes the tags of records under the key, as `nattizhu_each_nonnull` writes their digests. The key has
-/// any length.
+/// Writes the tags of records under the key, of any length, as `nattizhu_each_nonnull` writes digests.
 #[unsafe(no_mangle)]
 pub extern "C" fn nattizhu_hmac_each_nonnull(
     variant: u32,
@@ -75,8 +74,7 @@ pub extern "C" fn nattizhu_list_nonnull(
     )
 }
 
-/// Writes the tags of texts under the key, as `nattizhu_list_nonnull` writes their digests. The key has
-/// any length.
+/// Writes the tags of texts under the key, of any length, as `nattizhu_list_nonnull` writes digests.
 #[unsafe(no_mangle)]
 pub extern "C" fn nattizhu_hmac_list_nonnull(
     variant: u32,
@@ -93,7 +91,7 @@ pub extern "C" fn nattizhu_hmac_list_nonnull(
     )
 }
 
-// Writes what the hasher makes of each record, if the lengths fit.
+// Writes the output of each record, if the lengths fit.
 #[inline(always)]
 fn write_each<D: BatchDigest>(
     hasher: ListHasher<D>,
@@ -116,7 +114,7 @@ fn write_each<D: BatchDigest>(
     true
 }
 
-// Writes what the hasher makes of each message, if there is room for so many outputs.
+// Writes the output of each message, if there is room for all.
 #[inline(always)]
 fn write_list<D: BatchDigest>(
     hasher: ListHasher<D>,
@@ -141,8 +139,7 @@ fn is_product(len: usize, count: usize, size: usize) -> bool
     count.checked_mul(size) == Some(len)
 }
 
-// Writes what the hasher makes of so many records from one on. More than a group has are halved, so that
-// nothing is allocated.
+// Writes the outputs of records, from one on. More than a group are halved, so that nothing is allocated.
 fn write_records<'a, D: BatchDigest>(
     hasher: &ListHasher<D>,
     bytes: &'a [u8],
@@ -170,7 +167,7 @@ fn write_records<'a, D: BatchDigest>(
     hasher.write_joined(places, outputs);
 }
 
-// Half of them, and as many more as make whole eights, which are hashed at once.
+// Half of them, rounded up to whole eights, which are hashed at once.
 #[inline(always)]
 fn half_of(count: usize) -> usize
     requires { 8 < count }
@@ -179,7 +176,7 @@ fn half_of(count: usize) -> usize
     count.div_ceil(16) * 8
 }
 
-// Puts the records from `at` on in these places.
+// Puts the records from `at` on into these places.
 #[inline(always)]
 fn put_records<'a>(bytes: &'a [u8], size: usize, at: usize, places: &mut [&'a [u8]])
     requires fits { at + length places.old < 2 ^ 64 }

@@ -1,11 +1,10 @@
-//! What is proved of the definitions. The functions do nothing; their contracts are the facts.
+//! Facts of the definitions. The functions do nothing; their contracts are the facts.
 
 ghost use Rattle.std.specs.Prelude.{◌≡◌, [], ◌∷◌, ◌++◌, replicate};
 ghost use Rattle.ripemd_c.specs.Records.{records};
 ghost use Rattle.ripemd_c.specs.Worked.{WorkedKeyLists, WorkedLists};
 
-/// Three records of two bytes, with a byte behind them; two that are longer than a block; and two
-/// empty ones.
+/// Three records of two bytes, and a byte after them; two that are longer than a block; and two empty ones.
 pub fn worked_records()
     ensures short { records 0 3 2 (1 ∷ 2 ∷ 3 ∷ 4 ∷ 5 ∷ 6 ∷ 7 ∷ [])
         ≡ (1 ∷ 2 ∷ []) ∷ (3 ∷ 4 ∷ []) ∷ (5 ∷ 6 ∷ []) ∷ [] }

@@ -2,9 +2,9 @@
 //! digests, tags and keys of many messages. The variant is a number, the bits of its digests, or is known by
 //! a state.
 //!
-//! C calls these functions through `nattizhu.h`. A name that ends in `_nonnull` takes slices, whose
-//! pointer may not be null; the header has a function without this ending, which may be given a null
-//! pointer and the length 0.
+//! C calls these functions through `nattizhu.h`. Those whose names end in `_nonnull` take slices, whose
+//! pointers may not be null; the header has each without this ending, which takes a null pointer with the
+//! length 0.
 #![tactic(auto)]
 
 ghost use Rattle.std.specs.Prelude.{◌≡◌};

@@ -9,7 +9,7 @@ use ripemd::{Ripemd128, Ripemd160, Ripemd256, Ripemd320};
 use ripemd_batch::{BatchDigest, pbkdf2_hmac, pbkdf2_hmac_each};
 use ripemd_calls::by_variant;
 
-/// Derives a key from a password and a salt by so many rounds, with HMAC over the variant, and fills
+/// Derives a key from a password and a salt by `rounds` rounds, with HMAC over the variant, and fills
 /// `key` with it. False exactly if there is no such variant, there are no rounds, or the key is longer
 /// than 2^32 - 1 digests, and then nothing is written.
 #[unsafe(no_mangle)]
@@ -25,10 +25,10 @@ pub extern "C" fn nattizhu_pbkdf2_nonnull(
     by_variant!(variant, derive_key(password, salt, rounds, key))
 }
 
-/// Derives a key of `size` bytes from each password and the salt in its place by so many rounds, with
-/// HMAC over the variant, and writes one after another to `keys`. False exactly if there is no such
-/// variant, there are no rounds, `size` is more than 2^32 - 1 digests, there are not as many salts as
-/// passwords, or `keys` is not as long as so many keys, and then nothing is written.
+/// Derives a key of `size` bytes from each password and its salt by `rounds` rounds, with HMAC over the
+/// variant, and writes the keys one after another to `keys`. False exactly if there is no such variant,
+/// there are no rounds, `size` is more than 2^32 - 1 digests, there are not as many salts as passwords, or
+/// `keys` is not as long as all keys; nothing is written then.
 #[unsafe(no_mangle)]
 pub extern "C" fn nattizhu_pbkdf2_list_nonnull(
     variant: u32,

@@ -1,4 +1,4 @@
--- The bytes that hash states are kept as, put together and taken apart.
+-- The bytes that hash states are kept as, composed and taken apart.
 use Rattle.std.proofs.Common.{◌≡◌, ℕ, ◌+◌, ◌-◌, ◌<◌, refl, sym, ap, ◌∙◌, arith}
 use Rattle.std.proofs.Common.{List, [], ◌∷◌, ◌++◌, length, take, drop, get_or, replicate}
 use Rattle.std.proofs.Common.{All, length-append, slice_set, suc, ◌≤◌, ◌⊎◌, inl, inr, Result, Ok, Err, IfOk}
@@ -14,26 +14,25 @@ use Rattle.ripemd_block.specs.Laws.Saved.{length-output_and_count, core_and_tail
 use Rattle.ripemd.proofs.Saved.{core_front, tail_back, whole}
 use Rattle.ripemd_calls.specs.KeptBytes.{IsAppended, cleared, cleared_tail}
 
--- what follows of a loaded state and its bytes
+-- what follows for any loaded state
 pub of_ok : {T E Q : Type 0} {P V : T → Type 0} (loaded : Result T E) → IfOk loaded P → IfOk loaded V
     → ((x : T) → P x → V x → Q) → IfOk loaded (λ _. Q)
 of_ok (Ok x) p v q = q x p v
 of_ok (Err e) p v q = tt
 
--- ---- with zeros behind the tail
+-- ---- zeros after the tail
 
--- the length of a tail, the tail and any bytes are, with zeros in place of these, what the tail is saved as
+-- the length of a tail, the tail and any bytes, with zeros in place of these, are what the tail is saved as
 pub cleared_behind : (tail behind : List ℕ) → length behind ≡ 63 - length tail
     → cleared_tail (length tail ∷ tail ++ behind) ≡ tail_bytes tail
 cleared_behind tail behind size =
     let left : length (tail ++ behind) - length tail ≡ 63 - length tail = omega (arith, length-append tail behind, size) in
     rw (take_at tail behind (length tail) refl, left) refl
 
--- zeros are put behind the tail, and the core's bytes stay
+-- zeros stand after the tail, and the core's bytes stay
 pub cleared-both : (front back : List ℕ) (n : ℕ) → length front ≡ n → cleared n (front ++ back) ≡ front ++ cleared_tail back
 cleared-both front back n size = rw (take_at front back n size, drop_at front back n size) refl
 
--- a number and as many of the bytes behind it
 pub cleared_front : (kept : List ℕ) → length kept ≡ 64 → get_or kept 0 0 < 64
     → tail_bytes (take (get_or kept 0 0) (drop 1 kept)) ≡ cleared_tail kept
 cleared_front [] size short = absurd (omega (arith, size))
@@ -42,7 +41,7 @@ cleared_front (n ∷ behind) size short =
     rw (length-take-le n behind (omega (arith, left, short)), left) refl
 
 module _ (tail kept : List ℕ) (size : length kept ≡ 64) (short : length tail < 64) (is : tail_bytes tail ≡ cleared_tail kept) where
-  -- bytes that are so with zeros begin with the length of the tail, and then come its bytes
+  -- such bytes begin with the length of the tail and the tail
   pub begins : kept ≡ length tail ∷ tail ++ drop (suc (length tail)) kept
   begins = parts kept size is
     where
@@ -66,7 +65,7 @@ module _ (tail kept : List ℕ) (size : length kept ≡ 64) (short : length tail
   pub tail_held : take (length tail) (drop 1 kept) ≡ tail
   tail_held = ap (λ (bs : List ℕ). take (length tail) (drop 1 bs)) begins ∙ take_at tail _ (length tail) refl
 
-  -- a piece written behind the tail, and its length added to the tail's
+  -- a piece is written after the tail, and its length added to the tail's
   pub tail_appended : (piece front room : List ℕ) (len : ℕ) → length tail ≡ len → len + length piece < 64
       → front ≡ take (1 + len) kept → room ≡ drop (1 + len) kept
       → cleared_tail (slice_set front 0 (len + length piece) ++ (piece ++ drop (length piece) room)) ≡ tail_bytes (tail ++ piece)
@@ -81,7 +80,6 @@ module _ (tail kept : List ℕ) (size : length kept ≡ 64) (short : length tail
       rw front_is
       (rw (← joined, ← append_assoc tail piece (drop m room)) (cleared_behind (tail ++ piece) (drop m room) left))
 
--- there are as many bytes with zeros as without
 length-cleared_tail : (kept : List ℕ) → length (cleared_tail kept) ≡ length kept
 length-cleared_tail [] = refl
 length-cleared_tail (n ∷ behind) = by (cases_lt (length behind) n)
@@ -100,7 +98,7 @@ length-cleared n kept =
     ∙ ap (λ (k : ℕ). length (take n kept) + k) (length-cleared_tail (drop n kept))
     ∙ sym (length-append (take n kept) (drop n kept)) ∙ ap length (take-append-drop n kept)
 
--- what a hasher is saved as has zeros there
+-- what a hasher is saved as has zeros after the tail
 pub saved_is_clear : {are_words : List ℕ → Type 0} {output : List ℕ → List ℕ} {n : ℕ} → IsInjectiveOutput are_words output n
     → (core : ℕ) → core ≡ n + 8 → (h : HashState) → IsHashState are_words h
     → core_and_tail output h ≡ cleared core (core_and_tail output h)
@@ -138,7 +136,7 @@ module _ {are_words : List ℕ → Type 0} {output : List ℕ → List ℕ} {siz
       tail_back told h valid n core_size (cleared n kept) same (cleared_tail back)
       (ap cleared_tail is ∙ sym (drop_at (take n kept) (cleared_tail (drop n kept)) n front_size))
 
-  -- a piece that ends no block goes behind the tail
+  -- a piece that completes no block goes into the tail
   pub kept_appended : (step : List ℕ → List ℕ → List ℕ) (piece front new : List ℕ) → front ≡ take n kept
       → length h.tail + length piece < 64 → All (λ b. b < 256) piece → new ≡ tail_bytes (h.tail ++ piece)
       → IsAppended (IsHashState are_words) (core_and_tail output) (fed step) (cleared n kept) piece (front ++ new)
@@ -160,7 +158,7 @@ module _ {are_words : List ℕ → Type 0} {output : List ℕ → List ℕ} {siz
         });
       }
 
--- a core and a tail are kept as the bytes of the core, and behind them the tail's length and the tail, in place of as many
+-- a core and a tail are kept as the bytes of the core, the tail's length, the tail, and any bytes
 pub both_kept : (output : List ℕ → List ℕ) (h : HashState) (tail : List ℕ) (n : ℕ) (core place behind none : List ℕ)
     → length core ≡ n → output_and_count output h ≡ core → place ≡ length tail ∷ tail ++ behind
     → length behind ≡ 63 - length tail → none ≡ [] → cleared n (core ++ (place ++ none)) ≡ core_and_tail output (with_tail h tail)

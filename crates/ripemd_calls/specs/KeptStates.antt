@@ -26,18 +26,18 @@ saved_size v = digest_size v + 72
 abbrev pub saved_hmac_size : Parameters → ℕ
 saved_hmac_size v = 2 * saved_size v
 
--- callers keep them as these, but that any bytes may stand behind a tail
+-- callers keep them as these, except that any bytes may stand after a tail
 abbrev pub IsKeptState : Parameters → HashState → List ℕ → Type 0
 IsKeptState v h kept = IsSavedState v h (cleared (digest_size v + 8) kept)
 
 abbrev pub IsKeptHmac : Parameters → KeyedState → List ℕ → Type 0
 IsKeptHmac v s kept = IsSavedHmac v s (cleared_hmac (digest_size v + 8) kept)
 
--- before the kept bytes, which are so many, is a mark, and behind them are any bytes
+-- the kept bytes, so many, after a mark; any bytes may follow
 abbrev pub kept_in : (size : ℕ) → List ℕ → List ℕ
 kept_in size bytes = slice_range bytes 1 (1 + size)
 
--- the mark is the size of a digest, and that and 128 for HMAC. So it names the variant, by the bits of its digests
+-- the mark is the size of a digest, plus 128 for HMAC. So it names the variant, by the bits of its digests
 abbrev pub bits_of_state : List ℕ → ℕ
 bits_of_state bytes = 8 * slice_index bytes 0
 
@@ -47,8 +47,7 @@ bits_of_hmac bytes = 8 * (slice_index bytes 0 - 128)
 -- ---- calls
 
 -- a call makes the kept bytes of a state those of the state after a piece, and answers whether it did: it refuses
--- exactly the bytes of no state. So where the state began with some start and has taken in a message, it has taken in
--- the message and the piece
+-- exactly the bytes of no state. So if the state had taken in a message, it has taken in the message and the piece
 pub record Updates {S : Type 0} (IsKeptAs : S → List ℕ → Type 0) (fed : S → List ℕ → S)
     (old piece new : List ℕ) (done : Bool) : Type 0 where
   pub state : (s : S) → IsKeptAs s old → IsTrue done × IsKeptAs (fed s piece) new
@@ -56,7 +55,7 @@ pub record Updates {S : Type 0} (IsKeptAs : S → List ℕ → Type 0) (fed : S 
       → IsTrue done × IsKeptAs (fed start (message ++ piece)) new
   pub refused : IsFalse done ↔ ((s : S) → ¬ IsKeptAs s old)
 
--- so it does with the kept bytes in a state; what is around them stays, and if the call refuses, all does
+-- a call does so with the kept bytes in a state; the bytes around them stay, and if it refuses, all do
 pub record TakesIn {S : Type 0} (IsKeptAs : S → List ℕ → Type 0) (fed : S → List ℕ → S) (size : ℕ)
     (piece old new : List ℕ) (done : Bool) : Type 0 where
   pub kept : Updates IsKeptAs fed (kept_in size old) piece (kept_in size new) done
@@ -64,20 +63,20 @@ pub record TakesIn {S : Type 0} (IsKeptAs : S → List ℕ → Type 0) (fed : S 
   pub behind : drop (1 + size) new ≡ drop (1 + size) old
   pub unchanged : IsFalse done → new ≡ old
 
--- a call keeps a state behind a mark; what is behind the kept bytes stays
+-- a call keeps a state after a mark; the bytes after it stay
 pub record Keeps {S : Type 0} (IsKeptAs : S → List ℕ → Type 0) (mark size : ℕ) (s : S) (old new : List ℕ) (done : Bool) : Type 0 where
   pub yes : IsTrue done
   pub marked : slice_index new 0 ≡ mark
   pub kept : IsKeptAs s (kept_in size new)
   pub behind : drop (1 + size) new ≡ drop (1 + size) old
 
--- a call does this with a state that is kept or saved as some bytes; it refuses the bytes of no state
+-- a call does this with the state that is kept or saved as some bytes; it refuses the bytes of no state
 pub record WithState {S : Type 0} (IsAs : S → List ℕ → Type 0) (bytes : List ℕ) (Does : S → Type 0) (Otherwise : Type 0) : Type 0 where
   pub state : (s : S) → IsAs s bytes → Does s
   pub refused : ((s : S) → ¬ IsAs s bytes) → Otherwise
 
--- a call does this with the output of a kept state, and so, where the state took in a message from its start, with
--- the output of the message; it refuses the bytes of no state
+-- a call does this with the output of a kept state, which is that of a message, if the state has taken it in from the
+-- start; it refuses the bytes of no state
 pub record WithOutput {S O : Type 0} (IsKeptAs : S → List ℕ → Type 0) (new_state : O → S) (fed : S → List ℕ → S)
     (output : S → List ℕ) (whole : O → List ℕ → List ℕ) (kept : List ℕ) (Does : List ℕ → Type 0) (Otherwise : Type 0) : Type 0 where
   pub state : (s : S) → IsKeptAs s kept → Does (output s)

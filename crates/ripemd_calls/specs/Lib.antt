@@ -2,7 +2,7 @@
 pub mod Pbkdf2
 -- The bytes that hash states and HMAC states are kept as.
 pub mod KeptBytes
--- What calls that take these do.
+-- What calls do with these states.
 pub mod KeptStates
 -- The variants by number, and what calls do at one.
 pub mod Variants

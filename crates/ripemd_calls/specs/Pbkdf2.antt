@@ -5,8 +5,7 @@ use Rattle.ripemd_mac.specs.Hmac.{hmac}
 use Rattle.ripemd_mac.specs.Pbkdf2.{pbkdf2}
 use Rattle.ripemd_calls.specs.Variants.{ByVariant, Writes, digest_size}
 
--- so many rounds and bytes of a key are allowed, by digests of this size: at least one round, and 2^32 - 1 digests
--- at most
+-- at least one round and at most 2^32 - 1 digests of this size are allowed
 abbrev pub Allowed : (width rounds size : ℕ) → Type 0
 Allowed width rounds size = (rounds ≢ 0) × (size ≤ (2 ^ 32 - 1) * width)
 
@@ -17,6 +16,6 @@ abbrev pub FillsKey : (hash : List ℕ → List ℕ) → (width : ℕ) → (pass
 FillsKey hash width password salt rounds old new done =
     Writes (Allowed width rounds (length old)) (pbkdf2 (hmac hash) width password salt rounds (length old)) old new done
 
--- the same by the variant of a number
+-- a call does so by the variant of a number
 abbrev pub DerivesKey : (bits : ℕ) → (password salt : List ℕ) → (rounds : ℕ) → (old new : List ℕ) → Bool → Type 0
 DerivesKey bits password salt rounds = ByVariant bits (λ v. FillsKey (ripemd v) (digest_size v) password salt rounds)

@@ -17,7 +17,7 @@ variant_of bits =
 abbrev pub digest_size : Parameters → ℕ
 digest_size v = 4 * length v.start
 
--- this at the variant of a number, and that where there is none
+-- Does at the variant of a number, and Otherwise if there is none
 abbrev pub AtVariant : (bits : ℕ) → (Does : Parameters → Type 0) → (Otherwise : Type 0) → Type 0
 AtVariant bits Does Otherwise = at (variant_of bits)
   where
@@ -29,17 +29,17 @@ AtVariant bits Does Otherwise = at (variant_of bits)
 abbrev pub Refuses : (old new : List ℕ) → Bool → Type 0
 Refuses old new done = IsFalse done × (new ≡ old)
 
--- a call does this at the variant of a number, and refuses where there is none
+-- a call does this at the variant of a number, and refuses if there is none
 abbrev pub ByVariant : (bits : ℕ) → (Does : Parameters → (old new : List ℕ) → Bool → Type 0) → (old new : List ℕ) → Bool → Type 0
 ByVariant bits Does old new done = AtVariant bits (λ v. Does v old new done) (Refuses old new done)
 
--- a call writes an output exactly if what it was given fits, and answers whether it did; otherwise all is as it was
+-- a call writes an output exactly if its arguments fit, and answers whether it did; otherwise all is as it was
 pub record Writes (Fits : Type 0) (output old new : List ℕ) (done : Bool) : Type 0 where
   pub fits : IsTrue done ↔ Fits
   pub written : IsTrue done → new ≡ output
   pub unchanged : IsFalse done → new ≡ old
 
--- the same of an output of the variant of a number, whose size its place has to have
+-- a call writes the output of the variant of a number to a place of its size
 abbrev pub WritesOutput : (bits : ℕ) → (output_of : Parameters → List ℕ) → (old new : List ℕ) → Bool → Type 0
 WritesOutput bits output_of = ByVariant bits (λ v old. Writes (length old ≡ digest_size v) (output_of v) old)
 

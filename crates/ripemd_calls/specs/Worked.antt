@@ -75,8 +75,8 @@ pub record WorkedKeys : Type 0 where
 
 -- ---- kept bytes
 
--- of a core of two bytes: with a tail of one byte, with one of none, and with one of all bytes that there are; of two
--- hash states with cores of one byte, of a tail of two bytes and of one of none
+-- a core of two bytes, with tails of one byte, of none, and of all bytes that there are; two hash states with cores
+-- of one byte and tails of two bytes and of none
 pub record WorkedKept : Type 0 where
   pub one : cleared 2 (9 ∷ 8 ∷ 1 ∷ 7 ∷ 6 ∷ 5 ∷ []) ≡ 9 ∷ 8 ∷ 1 ∷ 7 ∷ 0 ∷ 0 ∷ []
   pub none : cleared 2 (9 ∷ 8 ∷ 0 ∷ 7 ∷ 6 ∷ 5 ∷ []) ≡ 9 ∷ 8 ∷ 0 ∷ 0 ∷ 0 ∷ 0 ∷ []
@@ -109,7 +109,7 @@ saved_after count =
 abbrev pub saved_bytes : List ℕ
 saved_bytes = saved_after 1
 
--- the same, kept with other bytes behind the tail
+-- these bytes, with other bytes after the tail
 abbrev pub soiled_bytes : List ℕ
 soiled_bytes = soiled 30 saved_bytes
 
@@ -117,8 +117,9 @@ soiled_bytes = soiled 30 saved_bytes
 abbrev pub forged : List ℕ
 forged = replicate 92 0xff
 
--- that state gives the digest of its message, and after "c" the one that OpenSSL gives, whatever is kept behind the tail,
--- and so does the one of two blocks; it is saved with zeros there, and loaded of nothing else. Bytes of no state and of one of the other kind are refused
+-- that state gives the digest of its message, and after "c" the one that OpenSSL gives, whatever is kept after the
+-- tail, and so does the one of two blocks. It is saved with zeros there, and loaded of nothing else. Bytes of no
+-- state and of one of the other kind are refused
 pub record WorkedStates : Type 0 where
   pub finalized : Gives (FinalizesState (kept soiled_bytes)) 20 (codes "d747cddb32a3bc8e8029dd1cacdcca01392299d6")
   pub updated : (next : List ℕ) (fed : Bool) → UpdatesState (kept soiled_bytes) (codes "c") next fed
@@ -141,8 +142,8 @@ pub record WorkedStates : Type 0 where
   pub behind : (first next : List ℕ) (begun fed : Bool) → InitsState 160 (replicate 113 7) first begun
       → UpdatesState first abc next fed → drop 93 next ≡ replicate 20 7
 
--- the same of the HMAC state of "Hi There" under that key, with OpenSSL's words, of its hash states exchanged, which no
--- known text leads to, and of an outer state that is none
+-- the HMAC state of "Hi There" under that key, with OpenSSL's words; with its hash states exchanged, which no known
+-- text leads to; and with an outer state that is none
 pub record WorkedHmacStates : Type 0 where
   pub finalized : Gives (FinalizesHmac (kept_hmac (soiled 37 saved_inner) (soiled 29 saved_outer))) 20 (hexadecimal tag)
   pub exchanged : Gives (FinalizesHmac (kept_hmac saved_outer saved_inner)) 20 (codes "d3bf98f0f2a707ceca9a4fa0c3be4bc09682b8f6")

@@ -4,7 +4,7 @@ ghost use Rattle.std.specs.Prelude.{◌≡◌, ◌↔◌, length, IsTrue};
 ghost use Rattle.ripemd.specs.Standard.Hashing.{hash};
 ghost use Rattle.ripemd_mac.specs.Hmac.{StandsFor, hmac};
 ghost use Rattle.ripemd_calls.specs.KeptStates.{FinalizesHmac, InitsHmac, LoadsHmac, SavesHmac};
-ghost use Rattle.ripemd_calls.specs.KeptStates.{UpdatesHmac, VerifiesHmac};
+ghost use Rattle.ripemd_calls.specs.KeptStates.{UpdatesHmac, VerifiesHmac, bits_of_hmac};
 ghost use Rattle.ripemd_calls.specs.Variants.{VerifiesTag, Writes, WritesTag};
 
 use crate::states::{final_kept, init_kept, load_saved, save_kept, update_kept, verify_kept};
@@ -21,29 +21,27 @@ pub fn tag(variant: u32, key: &[u8], text: &[u8], tag: &mut [u8]) -> bool
     by_variant!(variant, write_tag(key, text, tag))
 }
 
-/// Whether there is such a variant and these bytes are the tag of the text under the key by it, all of
-/// them. It compares all bytes of a tag of the right length, whatever they are.
+/// Whether there is such a variant, and these bytes are the tag of the text under the key by it, all of them. It
+/// compares all bytes of a tag of the right length, whatever they are.
 pub fn verify_text(variant: u32, key: &[u8], text: &[u8], tag: &[u8]) -> bool
     ensures { VerifiesTag variant key.now text.now tag.now result }
 {
     by_variant!(variant, is_tag(key, text, tag))
 }
 
-/// Writes the HMAC state of the key and the empty text by the variant. False exactly if there is none, and
-/// then nothing is written.
+/// Writes the HMAC state of the key and the empty text by the variant. False exactly if there is no such variant;
+/// nothing is written then.
 pub fn init(variant: u32, state: &mut [u8; 225], key: &[u8]) -> bool
     ensures { InitsHmac variant key.now state.old state.new result }
 {
     by_variant!(variant, init_kept::<Hmac>(key, state))
 }
 
-/// Appends bytes to the text. False exactly if these are the bytes of no HMAC state, and then nothing is
-/// written.
+/// Appends bytes to the text. False exactly if these are the bytes of no HMAC state; nothing is written then.
 pub fn update(state: &mut [u8; 225], bytes: &[u8]) -> bool
     ensures { UpdatesHmac state.old bytes.now state.new result }
 {
-    let bits = 8 * state[0].saturating_sub(128) as u32;
-    by_variant!(bits, update_kept::<Hmac>(state, bytes))
+    by_variant!(bits_of(state), update_kept::<Hmac>(state, bytes))
 }
 
 /// Writes the tag of the text so far to `tag`. True exactly if these are the bytes of an HMAC state, and
@@ -51,38 +49,43 @@ pub fn update(state: &mut [u8; 225], bytes: &[u8]) -> bool
 pub fn finalize(state: &[u8; 225], tag: &mut [u8]) -> bool
     ensures { FinalizesHmac state.now tag.old tag.new result }
 {
-    let bits = 8 * state[0].saturating_sub(128) as u32;
-    by_variant!(bits, final_kept::<Hmac>(state, tag))
+    by_variant!(bits_of(state), final_kept::<Hmac>(state, tag))
 }
 
-/// Whether these bytes are the tag of the text so far, all of them. False too if these are the bytes of no
-/// HMAC state.
+/// Whether these bytes are the tag of the text so far, all of them. False also if these are the bytes of no HMAC
+/// state.
 pub fn verify(state: &[u8; 225], tag: &[u8]) -> bool
     ensures { VerifiesHmac state.now tag.now result }
 {
-    let bits = 8 * state[0].saturating_sub(128) as u32;
-    by_variant!(bits, verify_kept::<Hmac>(state, tag))
+    by_variant!(bits_of(state), verify_kept::<Hmac>(state, tag))
 }
 
-/// Writes the bytes that the HMAC state is saved as to `saved`: those of its inner hash state and of its outer one.
-/// True exactly if these are the bytes of an HMAC state, and `saved` has twice the size of a tag and 72 bytes;
-/// otherwise nothing is written.
+/// Writes the bytes that the HMAC state is saved as to `saved`: its inner hash state, and then its outer one. True
+/// exactly if these are the bytes of an HMAC state, and `saved` has 144 bytes more than two tags; otherwise nothing
+/// is written.
 pub fn save(state: &[u8; 225], saved: &mut [u8]) -> bool
     ensures { SavesHmac state.now saved.old saved.new result }
 {
-    let bits = 8 * state[0].saturating_sub(128) as u32;
-    by_variant!(bits, save_kept::<Hmac>(state, saved))
+    by_variant!(bits_of(state), save_kept::<Hmac>(state, saved))
 }
 
-/// Writes the HMAC state over the variant that is saved as these bytes. False exactly if there is no such variant,
-/// or none of its HMAC states is, and then nothing is written.
+/// Writes the HMAC state of the variant that is saved as these bytes. False exactly if there is no such variant, or
+/// no HMAC state of it is saved so; nothing is written then.
 pub fn load(variant: u32, state: &mut [u8; 225], saved: &[u8]) -> bool
     ensures { LoadsHmac variant saved.now state.old state.new result }
 {
     by_variant!(variant, load_saved::<Hmac>(saved, state))
 }
 
-// Writes the tag of a text that is there as a whole, if its place has the size of it.
+// The bits of the tags of the variant that a state names.
+#[inline(always)]
+fn bits_of(state: &[u8; 225]) -> u32
+    ensures { result ≡ bits_of_hmac state.now }
+{
+    8 * state[0].saturating_sub(128) as u32
+}
+
+// Writes the tag of a whole text to its place, if that has its size.
 fn write_tag<D: BlockDigest>(key: &[u8], text: &[u8], tag: &mut [u8]) -> bool
     ensures { Writes (length tag.old ≡ D.OUTPUT_SIZE) (hmac (hash D.start D.step D.output) key.now text.now)
         tag.old tag.new result }
@@ -90,14 +93,13 @@ fn write_tag<D: BlockDigest>(key: &[u8], text: &[u8], tag: &mut [u8]) -> bool
     write(D::output_bytes(&mac_of::<D>(key, text).finalize()), tag)
 }
 
-// Whether these bytes are the tag of a text that is there as a whole, all of them.
+// Whether these bytes are the tag of a whole text.
 fn is_tag<D: BlockDigest>(key: &[u8], text: &[u8], tag: &[u8]) -> bool
     ensures { IsTrue result ↔ (tag.now ≡ hmac (hash D.start D.step D.output) key.now text.now) }
 {
     mac_of::<D>(key, text).verify(tag)
 }
 
-// The HMAC state of a key and a whole text.
 fn mac_of<D: BlockDigest>(key: &[u8], text: &[u8]) -> Hmac<D>
     ensures { StandsFor D.start D.step D.output key.now text.now result }
 {

@@ -1,5 +1,5 @@
-//! Hashers and HMACs as callers keep them between the pieces of a message: in the saved form, of which the bytes
-//! after the tail are ignored.
+//! Hashers and HMACs as callers keep them between the pieces of a message: as the bytes that they are saved as,
+//! except that any bytes may stand after a tail.
 
 ghost use Rattle.std.specs.Prelude.{◌≡◌, ◌≢◌, ℕ, ◌+◌, ◌%◌, ◌≤◌, ◌<◌, List, [], length, IfSome, IfNone, IfOk, IfErr, IsTrue, IsFalse};
 ghost use Rattle.std.specs.List.{All};
@@ -32,22 +32,21 @@ pub(crate) trait Kept: Incremental {
     // The bytes that a kept state is saved as.
     ghost cleared: { List ℕ → List ℕ };
 
-    // The state before the first byte under this key; a hasher has one alone.
+    // The state before the first byte, under this key; a hasher has only one.
     ghost first: { List ℕ → Self };
 
-    /// Makes it.
+    /// The state before the first byte.
     fn begin(key: &[u8]) -> Self
         ensures { result ≡ first key.now };
 
-    // The mark before the kept bytes: the size of a digest, and that and 128 for HMAC.
+    // The mark before the kept bytes: the size of a digest, plus 128 for an HMAC.
     ghost mark: { ℕ };
 
     /// The mark.
     fn mark() -> u8
         ensures { result ≡ mark };
 
-    /// Makes the state that was saved as these bytes, which are all the bytes of the array.
-    /// They are a kept form of it, too.
+    /// Loads the state that is saved as these bytes. It is kept as them, too.
     ///
     /// # Errors
     ///
@@ -65,20 +64,20 @@ pub(crate) trait Kept: Incremental {
         ensures kept { state_bytes self.now ≡ cleared kept.new }
         ensures valid { is_valid self.now };
 
-    /// The state that is kept as these bytes; `None` exactly if no state is.
+    /// The state that is kept as these bytes; `None` exactly if there is none.
     fn load_kept(kept: &[u8]) -> Option<Self>
         requires { length kept.now ≡ Self.Saved.LEN }
         ensures some { IfSome result (λ loaded. state_bytes loaded ≡ cleared kept.now) }
         ensures valid { IfSome result is_valid }
         ensures none { IfNone result ((s : Self) → is_valid s → state_bytes s ≢ cleared kept.now) };
 
-    /// Puts zeros behind the tails of a kept state.
+    /// Writes zeros after the tails of a kept state: its bytes are then those that it is saved as.
     fn clear(kept: &mut [u8])
         requires { length kept.old ≡ Self.Saved.LEN }
         ensures { kept.new ≡ cleared kept.old };
 
-    /// Appends bytes to the message of a kept state: makes its bytes those of the state after them. False, and
-    /// nothing is written, exactly if no state is kept as these.
+    /// Appends bytes to the message of a kept state. False, and nothing is written, exactly if no state is kept as
+    /// these bytes.
     fn update_kept(kept: &mut [u8], bytes: &[u8]) -> bool
         requires { length kept.old ≡ Self.Saved.LEN }
         ensures appended { IsTrue result → IsAppended is_valid state_bytes Self.fed
@@ -86,10 +85,8 @@ pub(crate) trait Kept: Incremental {
         ensures refused { IsFalse result → (s : Self) → is_valid s → state_bytes s ≢ cleared kept.old }
         ensures unchanged { IsFalse result → kept.new ≡ kept.old };
 
-    // No bytes leave it as it is.
     ghost fed_nothing: { (key : List ℕ) → Self.Incremental.fed (first key) [] ≡ first key };
 
-    // States that are saved as the same bytes are the same.
     ghost injective: { (s t : Self) → is_valid s → is_valid t
         → state_bytes s ≡ state_bytes t → s ≡ t };
 }
@@ -123,7 +120,7 @@ impl<F: ResumableFunction> Kept for BlockHasher<F> {
     fn keep(&self, kept: &mut [u8]) {
         let (core, tail) = self.parts();
         let (front, behind) = kept.split_at_mut(<F::SavedCore as ByteArray>::LEN);
-        // All of them, but so the compiler knows how many.
+        // All of the rest, but so the compiler knows its size.
         let (back, _) = behind.split_at_mut(64);
         front.copy_from_slice(core.serialize().as_bytes());
         put_tail(tail, back);
@@ -131,14 +128,11 @@ impl<F: ResumableFunction> Kept for BlockHasher<F> {
 
     #[inline(always)]
     fn load_kept(kept: &[u8]) -> Option<BlockHasher<F>> {
-        let Some(len) = tail_len::<F>(kept) else {
-            return None;
-        };
         let (core, tail) = kept.split_at(<F::SavedCore as ByteArray>::LEN);
         let Ok(core) = BlockCore::<F>::load_slice(core) else {
             return None;
         };
-        let Some(buffer) = Buffer::try_front(&tail[1..], len) else {
+        let Some(buffer) = Buffer::try_front(&tail[1..], tail[0] as usize) else {
             return None;
         };
         Some(BlockHasher::from_parts(core, buffer))
@@ -174,7 +168,7 @@ impl<F: ResumableFunction> Kept for BlockHasher<F> {
     ghost injective = { core_and_tail_injective F.injective_output };
 }
 
-// The length of the tail of the hasher that is kept as these bytes; `None` exactly if none is.
+// The length of the tail of the hasher that is kept as these bytes; `None` exactly if there is none.
 #[inline(always)]
 fn tail_len<F: ResumableFunction>(kept: &[u8]) -> Option<usize>
     requires { length kept.now ≡ F.SavedHasher.LEN }
@@ -195,7 +189,7 @@ fn tail_len<F: ResumableFunction>(kept: &[u8]) -> Option<usize>
     Some(len)
 }
 
-// Appends bytes that end no block to the message of a kept hasher with so long a tail.
+// Appends bytes that complete no block to the message of a kept hasher, whose tail has `len` bytes.
 #[inline(always)]
 fn append_kept<F: ResumableFunction>(kept: &mut [u8], len: usize, bytes: &[u8])
     requires size { length kept.old ≡ F.SavedHasher.LEN }
@@ -212,7 +206,7 @@ fn append_kept<F: ResumableFunction>(kept: &mut [u8], len: usize, bytes: &[u8])
     held[0] = (len + bytes.len()) as u8;
 }
 
-// Appends bytes that end a block or more. Not inlined, so that short pieces take none of its stack.
+// Appends bytes that complete a block or more. Not inlined, so that short pieces take none of its stack.
 #[inline(never)]
 fn absorb_kept<F: ResumableFunction>(kept: &mut [u8], len: usize, bytes: &[u8])
     requires size { length kept.old ≡ F.SavedHasher.LEN }
@@ -223,7 +217,7 @@ fn absorb_kept<F: ResumableFunction>(kept: &mut [u8], len: usize, bytes: &[u8])
         (cleared F.SavedCore.LEN kept.old) bytes.now (cleared F.SavedCore.LEN kept.new) }
 {
     let (core, behind) = kept.split_at_mut(<F::SavedCore as ByteArray>::LEN);
-    // All of them, but so the compiler knows how many.
+    // All of the rest, but so the compiler knows its size.
     let (back, _) = behind.split_at_mut(64);
     let mut rest = bytes;
     if len > 0 {

@@ -7,10 +7,10 @@ ghost use Rattle.std.specs.Prelude.{◌≡◌, length};
 ghost use Rattle.ripemd.specs.Standard.Hashing.{hash};
 ghost use Rattle.ripemd_calls.specs.Variants.{AtVariant, Writes, WritesDigest, digest_size};
 
-/// A call of a generic function at the variant whose digests have so many bits, at its hasher or the HMAC over
-/// it. False if there is none. Whoever uses it has the names of the hashers in scope, and of `Hmac`. Of all four
-/// in one `match` the compiler would make a table of jumps, which at times take longer. RIPEMD-160 is the first arm,
-/// since the compiler puts the code of that arm right behind the tests, where no jump leads.
+/// A call of a generic function at the hasher of the variant whose digests have so many bits, or at the HMAC over it;
+/// false if there is no such variant. The names of the hashers, and `Hmac`, have to be in scope. Of one `match` over all
+/// four the compiler would make a table of jumps, which at times take longer. RIPEMD-160 is the first arm: the
+/// compiler puts its code right after the tests, with no jump.
 #[macro_export]
 macro_rules! by_variant {
     ($bits:expr, $call:ident::<Hmac> $arguments:tt) => {{
@@ -77,7 +77,7 @@ pub fn digest(variant: u32, message: &[u8], digest: &mut [u8]) -> bool
     by_variant!(variant, write_digest(message, digest))
 }
 
-// Writes a digest to its place, if that has its size.
+// Writes the digest of a message to its place, if that has its size.
 fn write_digest<D: Digest>(message: &[u8], digest: &mut [u8]) -> bool
     ensures { Writes (length digest.old ≡ D.OUTPUT_SIZE) (hash D.start D.step D.output message.now)
         digest.old digest.new result }

@@ -7,7 +7,7 @@ use ripemd::digest::BlockDigest;
 use ripemd::{Ripemd128, Ripemd160, Ripemd256, Ripemd320};
 use ripemd_mac::pbkdf2_hmac;
 
-/// Derives a key from a password and a salt by so many rounds, with HMAC over the variant, and fills
+/// Derives a key from a password and a salt by `rounds` rounds, with HMAC over the variant, and fills
 /// `key` with it. False exactly if there is no such variant, there are no rounds, or the key is longer
 /// than 2^32 - 1 digests, and then nothing is written.
 pub fn derive(variant: u32, password: &[u8], salt: &[u8], rounds: u32, key: &mut [u8]) -> bool

@@ -1,5 +1,5 @@
-//! What is done to the states that callers keep, the same for hash states and HMAC states. Between the pieces of a
-//! message the caller keeps a state as a mark and the saved form, of which the bytes after the tail are ignored.
+//! What calls do with a state that a caller keeps: a mark, and then the bytes of [`Kept`](crate::kept::Kept). Hash
+//! states and HMAC states have the same calls.
 
 ghost use Rattle.std.specs.Prelude.{◌≡◌, ◌↔◌, ℕ, ◌+◌, ◌<◌, List, [], length, drop, slice_index, IsTrue, IsFalse};
 ghost use Rattle.ripemd_calls.specs.KeptBytes.{IsSaved};
@@ -12,7 +12,7 @@ use ripemd::Digest;
 use ripemd::block_api::ByteArray;
 use ripemd_mac::hmac::all_equal;
 
-// Keeps the state before the first byte behind its mark.
+// Keeps the state before the first byte, after its mark.
 pub(crate) fn init_kept<S: Kept>(key: &[u8], state: &mut [u8]) -> bool
     requires room { S.Saved.LEN < length state.old }
     ensures yes { IsTrue result }
@@ -28,8 +28,8 @@ pub(crate) fn init_kept<S: Kept>(key: &[u8], state: &mut [u8]) -> bool
     true
 }
 
-// Keeps the state that is saved as these bytes behind its mark. False exactly if none is, and then nothing is
-// written.
+// Keeps the state that is saved as these bytes, after its mark. False exactly if there is none; nothing is written
+// then.
 pub(crate) fn load_saved<S: Kept>(saved: &[u8], state: &mut [u8]) -> bool
     requires room { S.Saved.LEN < length state.old }
     ensures { WithState (IsSaved S.is_valid S.state_bytes) saved.now
@@ -44,7 +44,7 @@ pub(crate) fn load_saved<S: Kept>(saved: &[u8], state: &mut [u8]) -> bool
     true
 }
 
-// Writes a mark and some bytes. What is behind them stays.
+// Writes a mark and then bytes.
 fn put(bytes: &[u8], mark: u8, state: &mut [u8])
     requires room { length bytes.now < length state.old }
     ensures marked { slice_index state.new 0 ≡ mark }
@@ -57,8 +57,8 @@ fn put(bytes: &[u8], mark: u8, state: &mut [u8])
     place.copy_from_slice(bytes);
 }
 
-// Writes the bytes that a kept state is saved as to their place, if that has their size. False too if no state
-// is kept as these bytes, and then nothing is written.
+// Writes the bytes that a kept state is saved as to their place, if that has their size. False also if no state is
+// kept as these bytes; nothing is written then.
 pub(crate) fn save_kept<S: Kept>(state: &[u8], saved: &mut [u8]) -> bool
     requires room { S.Saved.LEN < length state.now }
     ensures { WithState (λ s kept. IsSaved S.is_valid S.state_bytes s (S.cleared kept))
@@ -75,8 +75,8 @@ pub(crate) fn save_kept<S: Kept>(state: &[u8], saved: &mut [u8]) -> bool
     true
 }
 
-// Appends bytes to a kept state. False exactly if no state is kept as these bytes, and then nothing is
-// written.
+// Appends bytes to the message of a kept state. False exactly if no state is kept as these bytes; nothing is written
+// then.
 pub(crate) fn update_kept<S: Kept>(state: &mut [u8], bytes: &[u8]) -> bool
     requires room { S.Saved.LEN < length state.old }
     ensures updates { Updates (λ s kept. IsSaved S.is_valid S.state_bytes s (S.cleared kept)) S.fed
@@ -90,8 +90,8 @@ pub(crate) fn update_kept<S: Kept>(state: &mut [u8], bytes: &[u8]) -> bool
     S::update_kept(kept, bytes)
 }
 
-// Writes the digest or the tag of a kept state to its place, if that has its size. False too if no state
-// is kept as these bytes, and then nothing is written.
+// Writes the digest or the tag of a kept state to its place, if that has its size. False also if no state is kept as
+// these bytes; nothing is written then.
 pub(crate) fn final_kept<S: Kept>(state: &[u8], output: &mut [u8]) -> bool
     requires room { S.Saved.LEN < length state.now }
     ensures { WithOutput (λ s kept. IsSaved S.is_valid S.state_bytes s (S.cleared kept)) S.new_state S.fed
@@ -105,8 +105,8 @@ pub(crate) fn final_kept<S: Kept>(state: &[u8], output: &mut [u8]) -> bool
     }
 }
 
-// Whether these bytes are the digest or the tag of a kept state, all of them. False too if no state is
-// kept as these bytes.
+// Whether these bytes are the digest or the tag of a kept state, all of them. False also if no state is kept as these
+// bytes.
 pub(crate) fn verify_kept<S: Kept>(state: &[u8], output: &[u8]) -> bool
     requires room { S.Saved.LEN < length state.now }
     ensures { WithOutput (λ s kept. IsSaved S.is_valid S.state_bytes s (S.cleared kept)) S.new_state S.fed

@@ -1,25 +1,25 @@
 //! Digests of messages that come in pieces.
 
-ghost use Rattle.ripemd_calls.specs.KeptStates.{FinalizesState, InitsState, LoadsState, SavesState, UpdatesState};
+ghost use Rattle.std.specs.Prelude.{◌≡◌};
+ghost use Rattle.ripemd_calls.specs.KeptStates.{FinalizesState, InitsState, LoadsState, SavesState, UpdatesState, bits_of_state};
 
 use crate::states::{final_kept, init_kept, load_saved, save_kept, update_kept};
 use ripemd::{Ripemd128, Ripemd160, Ripemd256, Ripemd320};
 
-/// Writes the hash state of the empty message by the variant. False exactly if there is none, and then
-/// nothing is written.
+/// Writes the hash state of the empty message by the variant. False exactly if there is no such variant; nothing is
+/// written then.
 pub fn init(variant: u32, state: &mut [u8; 113]) -> bool
     ensures { InitsState variant state.old state.new result }
 {
     by_variant!(variant, init_kept(&[], state))
 }
 
-/// Appends bytes to the message. False exactly if these are the bytes of no hash state, and then nothing
-/// is written.
+/// Appends bytes to the message. False exactly if these are the bytes of no hash state; nothing is written then.
 #[inline(always)]
 pub fn update(state: &mut [u8; 113], bytes: &[u8]) -> bool
     ensures { UpdatesState state.old bytes.now state.new result }
 {
-    by_variant!(8 * state[0] as u32, update_kept(state, bytes))
+    by_variant!(bits_of(state), update_kept(state, bytes))
 }
 
 /// Writes the digest of the message so far to `digest`. True exactly if these are the bytes of a hash
@@ -28,22 +28,30 @@ pub fn update(state: &mut [u8; 113], bytes: &[u8]) -> bool
 pub fn finalize(state: &[u8; 113], digest: &mut [u8]) -> bool
     ensures { FinalizesState state.now digest.old digest.new result }
 {
-    by_variant!(8 * state[0] as u32, final_kept(state, digest))
+    by_variant!(bits_of(state), final_kept(state, digest))
 }
 
-/// Writes the bytes that the hash state is saved as to `saved`: its core, the length of the tail, the tail and
-/// zeros. True exactly if these are the bytes of a hash state, and `saved` has the size of a digest and 72 bytes;
-/// otherwise nothing is written.
+/// Writes the bytes that the hash state is saved as to `saved`: its core, the length of the tail, the tail and zeros.
+/// True exactly if these are the bytes of a hash state, and `saved` has 72 bytes more than a digest; otherwise
+/// nothing is written.
 pub fn save(state: &[u8; 113], saved: &mut [u8]) -> bool
     ensures { SavesState state.now saved.old saved.new result }
 {
-    by_variant!(8 * state[0] as u32, save_kept(state, saved))
+    by_variant!(bits_of(state), save_kept(state, saved))
 }
 
-/// Writes the hash state of the variant that is saved as these bytes. False exactly if there is no such variant,
-/// or none of its hash states is, and then nothing is written.
+/// Writes the hash state of the variant that is saved as these bytes. False exactly if there is no such variant, or
+/// no hash state of it is saved so; nothing is written then.
 pub fn load(variant: u32, state: &mut [u8; 113], saved: &[u8]) -> bool
     ensures { LoadsState variant saved.now state.old state.new result }
 {
     by_variant!(variant, load_saved(saved, state))
+}
+
+// The bits of the digests of the variant that a state names.
+#[inline(always)]
+fn bits_of(state: &[u8; 113]) -> u32
+    ensures { result ≡ bits_of_state state.now }
+{
+    8 * state[0] as u32
 }

@@ -186,7 +186,7 @@ impl<F: ResumableFunction> Hmac<BlockHasher<F>> {
         Self::load_slice(saved.as_bytes())
     }
 
-    /// Loads the state that is saved as these bytes, as many as the array has.
+    /// Loads the state that is saved as these bytes.
     ///
     /// # Errors
     ///

@@ -1,7 +1,7 @@
 -- Hashers, which begin with nothing.
 use Rattle.std.proofs.Common.{ℕ, List, Result, Ok, Err, IfOk}
 
--- what is known of a result and a message for each origin, of the origin that there is
+-- a hasher has one origin, so what holds for each origin holds for that
 pub of_origin : {T E Origin : Type 0} (New : Origin → Type 0) (A : List ℕ → Type 0)
     (C : Origin → T → List ℕ → Type 0) (result : Result T E)
     → IfOk result (λ value. (message : List ℕ) × A message × ((o : Origin) → New o → C o value message))

@@ -15,8 +15,7 @@ pub record GivesWithin {R : Type 0} (remaining : R → Option (List ℕ)) (old n
   pub works : has_failed now ≡ false
   pub within : length message ≤ limit
 
--- a read of n bytes into a buffer: which bytes it consumed, that it did not fail, what it counted,
--- and that the buffer has so many
+-- a read of n bytes into a buffer: its bytes, that it did not fail, what it counted, and that the buffer has as many
 pub record ReadsInto {R : Type 0} (remaining : R → Option (List ℕ)) (now next : Tracked R) (buffer : List ℕ)
     (n : ℕ) : Type 0 where
   pub given : Consumes (remaining (inner_of now)) (remaining (inner_of next)) (take n buffer)
@@ -24,7 +23,6 @@ pub record ReadsInto {R : Type 0} (remaining : R → Option (List ℕ)) (now nex
   pub counted : taken_of next ≡ taken_of now + n
   pub most : n ≤ length buffer
 
--- nothing is read yet
 pub GivesWithin_start : {R : Type 0} {remaining : R → Option (List ℕ)} {reader : Tracked R} {limit : ℕ}
     → has_failed reader ≡ false → GivesWithin remaining reader reader limit []
 GivesWithin_start {remaining = remaining} {reader = reader} works = record {
@@ -37,14 +35,13 @@ GivesWithin_start {remaining = remaining} {reader = reader} works = record {
 module _ {R : Type 0} {remaining : R → Option (List ℕ)} {old now next : Tracked R} {limit n : ℕ}
     {message buffer : List ℕ} (before : GivesWithin remaining old now limit message)
     (read : ReadsInto remaining now next buffer n) where
-  -- the bytes so far, and then those read
+  -- the bytes so far, and those of the read
   Gives_more : Gives remaining old next (message ++ take n buffer)
   Gives_more = record {
     given = Consumes-trans _ _ _ message (take n buffer) before.gives.given read.given;
     counted = omega (arith, length-append message (take n buffer), length-take-le n buffer read.most);
   }
 
-  -- it stays within the limit
   pub GivesWithin_more : taken_of next ≤ limit → GivesWithin remaining old next limit (message ++ take n buffer)
   GivesWithin_more within = record {
     gives = Gives_more;
@@ -52,7 +49,6 @@ module _ {R : Type 0} {remaining : R → Option (List ℕ)} {old now next : Trac
     within = omega (arith, Gives_more.counted);
   }
 
-  -- it goes past the limit
   pub GivesTooMuch_more : taken_of old ≡ 0 → limit < taken_of next → n ≤ most_past_limit
       → GivesTooMuch remaining old next limit
   GivesTooMuch_more fresh over near = record {
@@ -63,7 +59,6 @@ module _ {R : Type 0} {remaining : R → Option (List ℕ)} {old now next : Trac
     works = read.works ∙ before.works;
   }
 
--- a read of no bytes, at the end of the reader
 pub GivesAll_end : {R : Type 0} {remaining : R → Option (List ℕ)} {old now next : Tracked R} {limit : ℕ}
     {message buffer : List ℕ} → GivesWithin remaining old now limit message → ReadsInto remaining now next buffer 0
     → IsAtEnd (remaining (inner_of next)) → GivesAll remaining old next limit message
@@ -74,7 +69,6 @@ GivesAll_end before read ended = record {
   works = read.works ∙ before.works;
 }
 
--- a read that failed
 pub FailsToGive_end : {R : Type 0} {remaining : R → Option (List ℕ)} {old now next : Tracked R} {limit : ℕ}
     {message : List ℕ} → GivesWithin remaining old now limit message
     → Keeps (remaining (inner_of now)) (remaining (inner_of next)) → has_failed next ≡ true

@@ -24,7 +24,7 @@ abbrev pub of_reading : ReadFault → RunFault
 of_reading (reading.Read e) = Read e
 of_reading reading.TooLong = TooLong
 
--- what ended a run: the reading, and then nothing was written, or the writer, after all was read
+-- what ended a run: the reading, and nothing was written; or the writer, after all was read
 abbrev pub ExplainsRun : {R W : Type 0} → (R → Option (List ℕ)) → Tracked R → Tracked R → Tracked W → Tracked W
     → ℕ → RunFault → Type 0
 ExplainsRun remaining old new writer written limit (Read e) = FailsToGive remaining old new limit × (written ≡ writer)
@@ -32,8 +32,8 @@ ExplainsRun remaining old new writer written limit TooLong = GivesTooMuch remain
 ExplainsRun remaining old new writer written limit (Write e) =
     ((message : List ℕ) × GivesAll remaining old new limit message) × (has_failed written ≡ true)
 
--- a run of this limit and this outcome: the writer got the line of the message that the reader gave, or
--- the error says how far they came
+-- a run with this limit and this outcome: the writer got the line of what the reader gave, or the error says how far
+-- they came
 abbrev pub IsRun : {R W T : Type 0} → (R → Option (List ℕ)) → (W → Option (List ℕ)) → Tracked R → Tracked R
     → Tracked W → Tracked W → ℕ → (List ℕ → List ℕ) → Result T RunFault → Type 0
 IsRun remaining contents old new writer written limit line outcome = MatchResult outcome

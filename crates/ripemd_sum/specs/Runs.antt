@@ -25,15 +25,15 @@ digest_line v message = encode_lower (ripemd (parameters_of v) message) ++ codes
 abbrev pub tag_line : Variant → List ℕ → List ℕ → List ℕ
 tag_line v key message = encode_lower (hmac (ripemd (parameters_of v)) key message) ++ codes "\n"
 
--- the longest input, in bytes: the length in bits of a longer one does not fit into 64 bits
+-- the longest input, in bytes, whose length in bits fits into 64 bits
 abbrev pub most_bytes : ℕ
 most_bytes = 2 ^ 61 - 1
 
--- the longest with a key, whose block of 64 bytes is hashed in front of the input
+-- the longest input with a key, whose block of 64 bytes is hashed before it
 abbrev pub most_bytes_under_a_key : ℕ
 most_bytes_under_a_key = most_bytes - 64
 
--- between two of its states a reader gave these bytes, and they were counted
+-- the reader gave these bytes between two of its states, and they were counted
 pub record Gives {R : Type 0} (remaining : R → Option (List ℕ)) (old new : Tracked R) (bytes : List ℕ) : Type 0 where
   pub given : Consumes (remaining (inner_of old)) (remaining (inner_of new)) bytes
   pub counted : taken_of new ≡ taken_of old + length bytes

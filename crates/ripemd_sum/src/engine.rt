@@ -22,14 +22,14 @@ use ripemd::{BlockHasher, Digest, ListBlockFunction};
 use ripemd_mac::Hmac;
 use std::io::{Read, Write};
 
-/// How many bytes a read asks for at most.
+/// The most bytes that a read asks for.
 const CHUNK_SIZE: usize = 4096;
 
 /// The length of the longest line: 40 bytes in hexadecimal, and a newline.
 const LONGEST_LINE: usize = 81;
 
-/// Reads to the end of the reader, and writes the digest of all that it gave to the writer, as one
-/// line in lower case hexadecimal.
+/// Reads the reader to its end, and writes the digest of what it gave to the writer, as a line in lower
+/// case hexadecimal.
 ///
 /// The reader has not failed and has given nothing yet, and the writer has not failed. Nothing is
 /// written before the reader has ended, and nothing is allocated.
@@ -59,11 +59,8 @@ pub fn run<R: Read, W: Write>(
     }
 }
 
-/// Reads to the end of the reader, and writes the tag of all that it gave under a key to the
-/// writer, as one line in lower case hexadecimal.
-///
-/// The tag is HMAC's (RFC 2104), and the key has any length. All else is as `run` says, the errors
-/// too.
+/// Reads the reader to its end, and writes the tag (HMAC, RFC 2104) of what it gave, under a key of any
+/// length, as a line in lower case hexadecimal. All else is as in [`run`], the errors too.
 pub fn run_mac<R: Read, W: Write>(
     variant: Variant,
     key: &[u8],
@@ -83,7 +80,6 @@ pub fn run_mac<R: Read, W: Write>(
     }
 }
 
-// The run for the digest by a block function.
 fn run_digest<F: ListBlockFunction, R: Read, W: Write>(
     reader: &mut Tracked<R>,
     writer: &mut Tracked<W>,
@@ -98,7 +94,6 @@ fn run_digest<F: ListBlockFunction, R: Read, W: Write>(
     run_state::<BlockHasher<F>, R, W>(BlockHasher::new(), reader, writer, limit)
 }
 
-// The run for the tag under a key by a block function.
 fn run_tag<F: ListBlockFunction, R: Read, W: Write>(
     key: &[u8],
     reader: &mut Tracked<R>,
@@ -114,7 +109,7 @@ fn run_tag<F: ListBlockFunction, R: Read, W: Write>(
     run_state::<Hmac<BlockHasher<F>>, R, W>(Hmac::new(key), reader, writer, limit)
 }
 
-// The run for a new hasher or `Hmac`, whose line is not too long.
+// The run of a new hasher or `Hmac`, whose line is not too long.
 fn run_state<S: Incremental, R: Read, W: Write>(
     state: S,
     reader: &mut Tracked<R>,
@@ -138,10 +133,10 @@ fn run_state<S: Incremental, R: Read, W: Write>(
     writer.write_all(line).map_err(RunFault::Write)
 }
 
-/// Reads to the end of the reader, and gives the digest of all that it gave.
+/// Reads the reader to its end, and gives the digest of what it gave.
 ///
-/// The reader has not failed and has given nothing yet. It is read through an array of 4,096
-/// bytes, and nothing is allocated.
+/// The reader has not failed and has given nothing yet. It is read through an array of 4,096 bytes, and
+/// nothing is allocated.
 ///
 /// # Errors
 ///
@@ -163,7 +158,7 @@ pub fn hash_reader<D: Digest, R: Read>(
     read_to_end::<AnyHasher<D>, R>(AnyHasher::new(), reader, limit)
 }
 
-// The digest or the tag of all that the reader gives, to its end, by a new hasher or `Hmac`.
+// The digest or the tag of what the reader gives to its end, by a new hasher or `Hmac`.
 fn read_to_end<S: Incremental, R: Read>(
     state: S,
     reader: &mut Tracked<R>,
@@ -190,7 +185,6 @@ fn read_to_end<S: Incremental, R: Read>(
     }
 }
 
-// The digest in lower case hexadecimal, and a newline.
 fn fill_line(digest: &[u8], line: &mut [u8])
     requires { length line.old ≡ 2 * length digest.now + 1 }
     ensures { line.new ≡ encode_lower digest.now ++ codes "\n" }

@@ -1,5 +1,4 @@
-//! What is proved of the definitions themselves: that they give worked cases. The functions do
-//! nothing; their contracts are the facts.
+//! Worked cases of the definitions. The functions do nothing; their contracts are the facts.
 
 ghost use Rattle.std.specs.Prelude.{◌≡◌};
 ghost use Rattle.std.specs.declared.io.Error.{Error};
@@ -28,7 +27,7 @@ pub fn worked_limits()
     ensures input_under_a_key { most_bytes_under_a_key ≡ 2305843009213693887 }
 {}
 
-/// What a run says of its reader and its writer: runs that are so, and others that lack one part of it.
+/// What a run says of its reader and its writer: runs that are so, and others that lack one part.
 pub fn worked_runs()
     ensures ends { RunsToTheEnd }
     ensures stops { RunsThatStop }

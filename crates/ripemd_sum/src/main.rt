@@ -33,14 +33,14 @@ pub const USAGE: &str = "usage: ripemd_sum [128|160|256|320]";
 /// What the program prints, with status 3, if it cannot take its arguments or has no memory for its input.
 pub const NO_MEMORY: &str = "ripemd_sum: out of memory";
 
-/// How much of the input is read at once.
+/// The size of a read of the input.
 const BUFFER: usize = 1 << 16;
 
 /// The greatest length of the input, 2^61 - 1 bytes: the length in bits of a longer one would not
 /// fit into 64 bits.
 const LIMIT: u64 = u64::MAX / 8;
 
-/// The same with a key, whose block of 64 bytes is hashed in front of the input.
+/// The greatest length of the input with a key, whose block of 64 bytes is hashed before it.
 const MAC_LIMIT: u64 = LIMIT - 64;
 
 // The arguments after the program's name.
@@ -53,8 +53,7 @@ fn complain(rt: &HostRuntime, line: &str) {
     let _ = eprintln!(rt; "{line}");
 }
 
-// Does what the arguments ask for. It is `None` exactly if they ask for nothing, and then nothing is
-// read or written.
+// Does what the arguments ask for. `None` exactly if they ask for nothing; nothing is read or written then.
 fn perform<R: Read, W: Write>(
     arguments: &[String],
     reader: &mut Tracked<R>,

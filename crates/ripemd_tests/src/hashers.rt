@@ -87,7 +87,7 @@ fn go_apart<F: ListBlockFunction>(empty: &str, abc: &str) -> bool {
     is_abc && is_empty
 }
 
-// The same of its clone.
+// Whether a hasher and its clone go their own ways.
 fn is_cloned<F: ListBlockFunction>(abc: &str) -> bool {
     let mut hasher = BlockHasher::<F>::new_with_prefix(b"ab");
     let cloned: Result<_, _> = hasher.clone();

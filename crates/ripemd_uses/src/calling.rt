@@ -318,7 +318,7 @@ impl ResumableFunction for FirstBytes {
     ghost saved_hmac_size = { refl };
 }
 
-/// The same, by the toy.
+/// The toy digest of a message in two pieces, saved between them.
 pub fn toy_put_aside(first: &[u8], second: &[u8]) -> [u8; 1]
     ensures { result ≡ hash (0 ∷ [])
         (λ state block. bit_xor (slice_index state 0) (slice_index block 0) ∷ []) (λ state. state)

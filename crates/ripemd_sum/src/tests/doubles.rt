@@ -33,7 +33,7 @@ impl<'a> SliceReader<'a> {
         }
     }
 
-    /// The same, but this call of it fails.
+    /// The reader, but this call of it fails.
     pub fn failing_at(self, call: usize, kind: ErrorKind) -> Self {
         SliceReader {
             failure: Some(Failure { call, kind }),
@@ -74,7 +74,7 @@ impl PageWriter {
         }
     }
 
-    /// The same, but this call of it fails.
+    /// The writer, but this call of it fails.
     pub fn failing_at(self, call: usize, kind: ErrorKind) -> Self {
         PageWriter {
             failure: Some(Failure { call, kind }),

@@ -1,5 +1,5 @@
-//! The block functions against a plain one, which goes through one line after the other, step by
-//! step. Its tables and its Boolean functions are as the paper of 1996 prints them.
+//! The block functions against a plain one, which runs one line after the other, step by step. Its tables and its
+//! Boolean functions are as the paper of 1996 prints them.
 
 ghost use Rattle.std.specs.Prelude.{◌<◌, ◌≤◌};
 
@@ -152,7 +152,7 @@ fn are_words(bytes: &[u8], words: &[u32]) -> bool {
     true
 }
 
-// Whether the bytes are the state that both lines of `size` registers work on, after this block.
+// Whether the bytes are the state after this block, where both lines of `size` registers work on the whole state.
 fn are_joint(size: usize, block: &[u8; 64], bytes: &[u8]) -> bool
     requires { size ≤ 5 }
 {
@@ -171,8 +171,7 @@ fn are_joint(size: usize, block: &[u8; 64], bytes: &[u8]) -> bool
     are_words(bytes, &words[..size])
 }
 
-// Whether the bytes are the state of which each line of `size` registers works on a half, after this
-// block.
+// Whether the bytes are the state after this block, where each line of `size` registers works on a half.
 fn are_double(size: usize, exchanges: &[usize], block: &[u8; 64], bytes: &[u8]) -> bool
     requires { size ≤ 5 }
 {
