@@ -16,7 +16,7 @@ use Rattle.ripemd.specs.Collisions.{Pair, state_after, pair_at, pair_of, Collide
 pub record Agree {S : Type 0} (start : S) (step : S → List ℕ → S) (xs ys : List (List ℕ)) (j k n : ℕ) : Type 0 where
   pub each : (i : ℕ) → i < n → pair_at start step xs (j + i) ≡ pair_at start step ys (k + i)
 
--- of the first n pairs from places j and k on, the last ones that differ are those of c
+-- c has the last pairs that differ among the first n from places j and k on
 pub record IsLastDifference {S : Type 0} (start : S) (step : S → List ℕ → S) (xs ys : List (List ℕ)) (j k n : ℕ)
     (c : Collision S) : Type 0 where
   pub index : ℕ

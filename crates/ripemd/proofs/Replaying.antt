@@ -1,4 +1,4 @@
--- What the vectors of `replay` hold while it runs: how each change of them is one of the machine.
+-- What the vectors of `replay` hold while it runs, against the machine.
 use Rattle.std.proofs.Common.{◌≡◌, ℕ, zero, suc, ◌<◌, refl, sym, ◌∙◌, ap, subst, arith}
 use Rattle.std.proofs.Common.{List, [], ◌∷◌, ◌++◌, map, length, get_or, set}
 use Rattle.std.proofs.Common.{Result, Ok, Err, IsOk, OnOk, IfErr, MatchResult}

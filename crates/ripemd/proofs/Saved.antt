@@ -17,7 +17,7 @@ module _ (tail saved : List ℕ) (is : tail_bytes tail ≡ saved) where
   pub zeros_behind : length tail < 64 → drop (suc (length tail)) saved ≡ replicate (63 - length tail) 0
   zeros_behind short = ap (drop (suc (length tail))) (sym is) ∙ drop_at (length tail ∷ tail) _ (suc (length tail)) refl
 
--- a number, as many bytes, and zeros are those of a tail
+-- a length below 64, as many bytes, and zeros: the saved bytes of a tail
 pub tail_of_zeros : (saved : List ℕ) → length saved ≡ 64 → get_or saved 0 0 < 64
     → drop (suc (get_or saved 0 0)) saved ≡ replicate (length (drop (suc (get_or saved 0 0)) saved)) 0
     → tail_bytes (take (get_or saved 0 0) (drop 1 saved)) ≡ saved
@@ -29,7 +29,7 @@ tail_of_zeros (n ∷ behind) size short zeros =
     ap (λ (k : ℕ). replicate {A = ℕ} k 0) (sym (length-drop n behind ∙ ap (λ (k : ℕ). k - n) left)) ∙ sym zeros in
     rw (held, none) (ap (λ (bs : List ℕ). n ∷ bs) (take-append-drop n behind))
 
--- ---- the saved bytes of a hasher, taken apart into those of a core and of a tail, where the core's end
+-- ---- the saved bytes of a hasher: a core, and then a tail
 
 module _ {are_words : List ℕ → Type 0} {output : List ℕ → List ℕ} {size : ℕ} (told : IsInjectiveOutput are_words output size)
     (h : HashState) (valid : IsHashState are_words h) (n : ℕ) (core_size : n ≡ size + 8)
@@ -43,7 +43,7 @@ module _ {are_words : List ℕ → Type 0} {output : List ℕ → List ℕ} {siz
   pub whole : length bytes ≡ n + 64
   whole = omega (arith, ap length same, length-core_and_tail told h valid, core_size)
 
-  -- the first are those of its core, as a state without a tail
+  -- the first are the saved bytes of its core
   pub core_front : (core : List ℕ) → core ≡ take n bytes → output_and_count output (with_tail h []) ≡ core
   unfolding output_and_count
   core_front core front = sym (front ∙ rw (split, place) (take-append_seam (output_and_count output h) (tail_bytes h.tail)))
@@ -53,7 +53,6 @@ module _ {are_words : List ℕ → Type 0} {output : List ℕ → List ℕ} {siz
       let no_tail : IsTail [] = record { short = omega arith; bytes = search rules } in
       record { state = record { words = valid.words; count = valid.count; tail = no_tail }; no_tail = refl }
 
-  -- the others are those of its tail
   pub tail_back : (tail : List ℕ) → tail ≡ drop n bytes → tail_bytes h.tail ≡ tail
   tail_back tail back =
       sym (back ∙ rw (split, place) (drop-append_seam (output_and_count output h) (tail_bytes h.tail)))

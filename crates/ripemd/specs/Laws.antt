@@ -30,7 +30,7 @@ module _ {start : List ℕ} {step : List ℕ → List ℕ → List ℕ} where
   pub hashing_nothing : {h : HashState} → h ≡ initial_state start → IsHashing start step [] h
   hashing_nothing new = record { is = new ∙ sym (fed_nothing_at_first step start) }
 
-  -- a hasher of a message, fed more bytes, is one of the message and then these
+  -- a hasher of a message, fed more bytes, is a hasher of the message and these bytes
   pub hashing_more : {h next : HashState} {message : List ℕ} (bytes : List ℕ) → next ≡ fed step h bytes
       → IsHashing start step message h → IsHashing start step (message ++ bytes) next
   hashing_more {message = message} bytes update before = record {

@@ -26,7 +26,7 @@ block_in_key PRF keys i b inside =
     let place : (count * i + b) % count ≡ b = mul-add-mod_self_left count i b ∙ mod-eq_of_lt inside in
     rw (key, place) refl
 
--- a block of a key is one of all blocks
+-- the place of a block among all blocks is below their number
 pub inside_all : (count n i b : ℕ) → i < n → b < count → count * i + b < count * n
 inside_all count n i b key block =
     let all : count * (i + 1) ≤ count * n = mul-le-mul_left count (omega (arith, key)) in

@@ -36,7 +36,7 @@ pub hash_after_start : (first start : List ℕ) (step : List ℕ → List ℕ �
 unfolding hash_after hash
 hash_after_start first start step output same m = rw (zero-add (length m), same) refl
 
--- a block and a message have this block and those of the message
+-- the blocks of a block followed by a message
 padded_on : (block m : List ℕ) (n : ℕ) → length block ≡ 64
     → blocks (with_padding (block ++ m) n) ≡ block ∷ blocks (with_padding m n)
 padded_on block m n size =

@@ -25,7 +25,7 @@ pub trait Lanes: Copy {
     fn splat(word: u32) -> Self
         ensures { (j : ℕ) → j < COUNT → slice_index (words result) j ≡ word };
 
-    /// The words, of which contracts then know that they are below 2^32.
+    /// The same vector; contracts then know that its words are below 2^32.
     fn known(self) -> Self
         ensures same { result ≡ self }
         ensures words { (j : ℕ) → j < COUNT → slice_index (words result) j < 2 ^ 32 };

@@ -24,7 +24,7 @@ pub(crate) struct Lines<R: Copy> {
     pub(crate) right: R,
 }
 
-/// The registers of a line, of which there are as many as it has rounds.
+/// The registers of a line: as many as it has rounds.
 pub(crate) trait LineRegisters: Copy {
     /// The vectors.
     type Vector: Lanes;

@@ -65,7 +65,7 @@ impl<'a, 'b> MessageBlocks<'a, 'b> {
         self.whole.len() + self.last.len()
     }
 
-    /// Block `i`; one of the last if there are not so many.
+    /// Block `i`, or one of the last blocks if there is none.
     #[inline(always)]
     pub(crate) fn at(&self, i: usize) -> &[u8; 64]
         ensures { i < length self.now → result.now ≡ slice_index_or self.now i [] }

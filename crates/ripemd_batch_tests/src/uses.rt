@@ -78,7 +78,7 @@ fn saved_states(rt: HostRuntime) {
     assert!(rt; loaded_core(&[7; 28]).serialize() == [7; 28]);
 }
 
-/// A reader of which each read fails.
+/// A reader whose reads all fail.
 #[derive(Drop)]
 struct Broken;
 
@@ -117,8 +117,8 @@ fn collisions(rt: HostRuntime) {
     assert!(rt; places_of_collision(&a, &b) == Some((1, 1)));
 }
 
-// The toy's digest is what the first bytes of the blocks make up: of 64 bytes, the first of these and
-// the first of the padding.
+// The toy's digest is the exclusive or of the first bytes of the blocks: for 64 bytes, of their first and of the
+// first of the padding.
 #[test]
 fn toys(rt: HostRuntime) {
     assert!(rt; toy_digest(b"a", b"bc") == [b'a']);
@@ -210,7 +210,7 @@ fn keys_of_many(rt: HostRuntime) {
     assert!(rt; batch::keys_of(&passwords, &salts, 0, &mut keys).is_err());
 }
 
-// Records, of which one has not the digest that is wanted.
+// Records, one of which has another digest than is wanted.
 #[test]
 fn records(rt: HostRuntime) {
     let mut found = [[0; 20]; 2];

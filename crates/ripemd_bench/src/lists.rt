@@ -20,7 +20,7 @@ static KEY: [u8; 20] = [0x0b; 20];
 // The most messages of a list.
 pub(super) const MOST: usize = 32;
 
-// Lists of messages: so many of so many bytes, and then so many of so many.
+// Lists of messages: a count and a size, and another count and size.
 static LISTS: [[usize; 4]; 11] = [
     [1, 0, 0, 0],
     [3, 32, 0, 0],

@@ -17,7 +17,7 @@ pub of_arrays : {is_state : List ℕ → Type 0} {step : List ℕ → List ℕ �
     → IsOverLists (λ state. state) is_state step output (λ digest. digest) is_state step output
 of_arrays = record { of_state = λ state valid. valid; of_step = λ state block. refl; of_output = λ state. refl }
 
--- outputs have n bytes, and those of different words differ
+-- outputs have n bytes, and different words have different outputs
 pub record IsInjectiveOutput (are_words : List ℕ → Type 0) (output : List ℕ → List ℕ) (n : ℕ) : Type 0 where
   pub size : (xs : List ℕ) → are_words xs → length (output xs) ≡ n
   pub injective : (xs ys : List ℕ) → are_words xs → are_words ys → output xs ≡ output ys → xs ≡ ys

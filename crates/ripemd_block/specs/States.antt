@@ -65,7 +65,7 @@ pub record IsHashState (are_words : List ℕ → Type 0) (h : HashState) : Type 
   pub count : h.count < 2 ^ 64
   pub tail : IsTail h.tail
 
--- the valid states of a hasher of a variant, which has so many words
+-- the valid states of a hasher of a variant, by its number of words
 abbrev pub IsState : Parameters → HashState → Type 0
 IsState v = IsHashState (AreWords (length v.start))
 

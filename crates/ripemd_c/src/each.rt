@@ -57,8 +57,8 @@ pub extern "C" fn nattizhu_hmac_each_nonnull(
     )
 }
 
-/// Writes the digests of messages by the variant, one after another to `digests`. True exactly if there is
-/// such a variant, and `digests` is as long as so many digests; otherwise nothing is written.
+/// Writes the digests of messages by the variant, one after another to `digests`. True exactly if there is such a
+/// variant, and `digests` is as long as all of them; otherwise nothing is written.
 #[unsafe(no_mangle)]
 pub extern "C" fn nattizhu_list_nonnull(
     variant: u32,
@@ -132,7 +132,7 @@ fn write_list<D: BatchDigest>(
     true
 }
 
-// Whether so many bytes are so many times a size.
+// Whether a length is `count` times a size.
 fn is_product(len: usize, count: usize, size: usize) -> bool
     ensures { IsTrue result ↔ (len ≡ count * size) }
 {

@@ -110,7 +110,7 @@ saved_is_clear {output = output} tells core size h valid =
     core_and_tail-split output h
     ∙ sym (rw (core_and_tail-split output h) (cleared-both (output_and_count output h) (tail_bytes h.tail) core front ∙ rw tail refl))
 
--- ---- the bytes that a hasher is kept as, taken apart where those of its core end
+-- ---- the kept bytes of a hasher: a core, and then a tail
 
 module _ {are_words : List ℕ → Type 0} {output : List ℕ → List ℕ} {size : ℕ} (told : IsInjectiveOutput are_words output size)
     (h : HashState) (valid : IsHashState are_words h) (n : ℕ) (core_size : n ≡ size + 8)

@@ -1,4 +1,4 @@
--- The bytes that an HMAC state is kept as, taken apart into those of its two hash states.
+-- The kept bytes of an HMAC state: two hash states.
 use Rattle.std.proofs.Common.{◌≡◌, ℕ, ◌+◌, List, ◌++◌, length, take, drop, sym, ap, ◌∙◌, arith}
 use Rattle.std.proofs.Common.{Option, Some, None, IfNone}
 use Rattle.std.proofs.lemmas.List.{take_at, drop_at, length-take-le}
@@ -41,7 +41,7 @@ module _ {are_words : List ℕ → Type 0} {output : List ℕ → List ℕ} {n :
       outer_part tells s valid (cleared_hmac core kept) same
       ∙ drop_at (cleared core (take (core + 64) kept)) (cleared core (drop (core + 64) kept)) (n + 8 + 64) front_size ∙ ap (cleared core) (sym is)
 
--- what an HMAC state is saved as has zeros behind both tails
+-- the saved bytes of an HMAC state have zeros after both tails
 pub saved_hmac_is_clear : {are_words : List ℕ → Type 0} {output : List ℕ → List ℕ} {n : ℕ} → IsInjectiveOutput are_words output n
     → (core : ℕ) → core ≡ n + 8 → (s : KeyedState) → IsKeyedState are_words s
     → hmac_bytes output s ≡ cleared_hmac core (hmac_bytes output s)

@@ -4,7 +4,7 @@ use Rattle.std.proofs.lemmas.List.{take_at, drop_at, drop-drop}
 use Rattle.ripemd_calls.specs.KeptBytes.{IsSaved, IsAppended}
 use Rattle.ripemd_calls.specs.KeptStates.{Updates, kept_in}
 
--- behind a mark are the kept bytes, and behind these the others
+-- the kept bytes follow a mark, and others follow them
 module _ (mark kept behind : List ℕ) (size : ℕ) (one : length mark ≡ 1) (all : length kept ≡ size) where
   pub kept_there : kept_in size (mark ++ (kept ++ behind)) ≡ kept
   kept_there =
@@ -15,7 +15,7 @@ module _ (mark kept behind : List ℕ) (size : ℕ) (one : length mark ≡ 1) (a
   behind_there =
       sym (drop-drop size 1 (mark ++ (kept ++ behind))) ∙ ap (drop size) (drop_at mark (kept ++ behind) 1 one) ∙ drop_at kept behind size all
 
--- the state after a piece, where the saved bytes were those of a state
+-- the state after a piece, if the bytes were those of a saved state
 pub updated : {S : Type 0} {is_valid : S → Type 0} {state_bytes : S → List ℕ}
     (injective : (s t : S) → is_valid s → is_valid t → state_bytes s ≡ state_bytes t → s ≡ t)
     {fed : S → List ℕ → S} (twice : (s : S) (x y : List ℕ) → fed (fed s x) y ≡ fed s (x ++ y))

@@ -33,7 +33,7 @@ IsKeptState v h kept = IsSavedState v h (cleared (digest_size v + 8) kept)
 abbrev pub IsKeptHmac : Parameters → KeyedState → List ℕ → Type 0
 IsKeptHmac v s kept = IsSavedHmac v s (cleared_hmac (digest_size v + 8) kept)
 
--- the kept bytes, so many, after a mark; any bytes may follow
+-- the kept bytes, which follow a mark; any bytes may follow them
 abbrev pub kept_in : (size : ℕ) → List ℕ → List ℕ
 kept_in size bytes = slice_range bytes 1 (1 + size)
 

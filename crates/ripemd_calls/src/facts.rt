@@ -11,7 +11,7 @@ pub fn worked_calls()
     ensures keys { WorkedKeys }
 {}
 
-/// Kept bytes, with zeros behind the tails.
+/// Kept bytes, with zeros after the tails.
 pub fn kept_bytes()
     ensures { WorkedKept }
 {}

@@ -11,7 +11,6 @@ use Rattle.ripemd_mac.specs.declared.reduction.MacCollision.TheVariants.{Inner, 
 use Rattle.ripemd_mac.specs.Hmac.{key_block, masked, inner_message, outer_message, hmac}
 use Rattle.ripemd_mac.specs.MacCollisions.{InnerAgree, IsMacCollision}
 
--- a collision of two messages is one of the same messages
 moved : {S : Type 0} (start : S) (step : S → List ℕ → S) (x y x' y' : List ℕ) (c : Collision S) → x ≡ x' → y ≡ y'
     → IsCollision start step x y c → IsCollision start step x' y' c
 moved start step x y x' y' c left right is =

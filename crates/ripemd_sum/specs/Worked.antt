@@ -36,7 +36,7 @@ pub record AskForDigests : Type 0 where
   pub of256 : Chooses (codes "256" ∷ []) R256
   pub of320 : Chooses (codes "320" ∷ []) R320
 
--- these arguments ask for a tag of a variant under a key of so many bytes, which are these
+-- these arguments ask for a tag of a variant under this key, of this number of bytes
 pub record AskForATag (arguments : List (List ℕ)) (v : Variant) (count : ℕ) (key : List ℕ) : Type 0 where
   pub choose : ChoosesMac arguments v count
   pub have : HasKey arguments key

@@ -1,4 +1,4 @@
-//! Lists of commands. Those of which an allocation can fail are in `ripemd_allocations`.
+//! Lists of commands. Those whose allocations can fail are in `ripemd_allocations`.
 
 mod errors;
 
@@ -22,7 +22,7 @@ fn gives(alloc: Global, commands: &[Command], wanted: &[&str]) -> bool {
     digests.len() == wanted.len()
 }
 
-// Hundreds of hashers, of which the last takes in "abc", and of saved states of that one.
+// Hundreds of hashers, the last of which takes in "abc", and hundreds of saved states of that one.
 fn many_commands(alloc: Global) -> Result<Vec<Command<'static>>, AllocError> {
     let mut commands = Vec::new(alloc);
     for _ in 0..300 {

@@ -20,7 +20,7 @@ first_chunks-append (suc k) j a b h =
 
 -- ---- bytes that begin with whole blocks
 
--- their blocks, and then those of the bytes that follow
+-- the blocks of both, joined
 pub blocks_joined : (k : ℕ) (a b : List ℕ) → length a ≡ k * 64 → blocks (a ++ b) ≡ blocks a ++ blocks b
 unfolding blocks
 blocks_joined k a b h =

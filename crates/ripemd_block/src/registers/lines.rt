@@ -11,7 +11,7 @@ use crate::textbook::{amounts, left_constant, left_number, right_constant, right
 use std::mem::swap;
 use std::simd::prelude::*;
 
-/// The registers of a line, of which there are as many as it has rounds.
+/// The registers of a line: as many as it has rounds.
 pub(crate) trait LineRegisters: Copy {
     ghost list: { Self → List ℕ };
 

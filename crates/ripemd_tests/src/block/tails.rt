@@ -27,8 +27,8 @@ fn buffers(rt: HostRuntime) {
     assert!(rt; Buffer::try_new(&[7; 64]).is_none() && Buffer::try_new(&[7; 65]).is_none());
 }
 
-// Whether so many bytes have so many blocks with their padding, of which the last ends in this
-// length in bits, little-endian.
+// Whether `len` bytes have `count` blocks with their padding, the last of which ends in this length in bits,
+// little-endian.
 fn is_padded(len: usize, count: usize, bit_len: u64) -> bool {
     let bytes = [0x61; 120];
     let message = &bytes[..len.min(120)];

@@ -47,7 +47,7 @@ not_state h is =
     let size : length h.tail ≡ 255 = ap (λ (bs : List ℕ). get_or bs 0 0) tail in
     omega (arith, size, is.valid.tail.short)
 
--- where a byte is 7 that is 0 with zeros behind the tail, they are saved of no state
+-- bytes with a 7 in place of a zero after the tail are saved of no state
 no_zeros : (bytes : List ℕ) (place : ℕ) → get_or bytes place 0 ≡ 7 → get_or (cleared 28 bytes) place 0 ≡ 0
     → (h : HashState) → ¬ IsSavedState ripemd160 h bytes
 no_zeros bytes place seven zero h is =
@@ -76,7 +76,7 @@ exchanged_saved s is =
       saved = ap (λ (bytes : List ℕ). bytes ++ core_and_tail word_bytes s.inner) outer ∙ ap (λ (bytes : List ℕ). saved_outer ++ bytes) inner;
     }
 
--- where a state is loaded, what is behind it stays
+-- if a state is loaded, the bytes after it stay
 loaded_behind : (h : HashState) → IsSavedState ripemd160 h saved_bytes → (any next : List ℕ) (done : Bool)
     → LoadsState 160 saved_bytes any next done → drop 93 next ≡ drop 93 any
 loaded_behind h is any next done does = (does.state h is).behind

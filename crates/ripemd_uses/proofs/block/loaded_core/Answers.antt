@@ -2,7 +2,7 @@ use Rattle.ripemd_block.specs.Standard.Compression.{ripemd160}
 use Rattle.ripemd_block.specs.Laws.Saved.{takes_every_core}
 use Rattle.ripemd_uses.proofs.block.loaded_core.Goals as goal
 
--- any 28 bytes are those of some core
+-- any 28 bytes are the saved bytes of some core
 pub unwrap-requires : goal.unwrap-requires
 unwrap-requires c =
     let loaded = c.deserialize in

@@ -6,7 +6,7 @@ use Rattle.ripemd_block.proofs.Absorbing.{slice_from}
 use Rattle.ripemd.proofs.Saved.{core_front, own_core, tail_back, tail_length, tail_of_zeros, whole, zeros_behind}
 use Rattle.ripemd.proofs.state.BlockHasherSerializableState.load_slice.Goals as goal
 
--- a hasher is saved as so many bytes
+-- another number of bytes
 pub returns-then-bytes-LEN-clause-err : goal.returns-then-bytes-LEN-clause-err
 returns-then-bytes-LEN-clause-err g c h valid same =
     let r = g.met.F.ResumableFunction in

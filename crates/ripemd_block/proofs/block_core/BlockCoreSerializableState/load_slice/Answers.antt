@@ -5,7 +5,7 @@ use Rattle.ripemd_block.specs.States.{output_and_count}
 use Rattle.ripemd_block.specs.Laws.Saved.{length-output_and_count, output_front}
 use Rattle.ripemd_block.proofs.block_core.BlockCoreSerializableState.load_slice.Goals as goal
 
--- a core is saved as so many bytes
+-- another number of bytes
 pub returns-then-bytes-LEN-clause-err : goal.returns-then-bytes-LEN-clause-err
 returns-then-bytes-LEN-clause-err g c h valid same =
     let f = g.met.F.ResumableFunction in

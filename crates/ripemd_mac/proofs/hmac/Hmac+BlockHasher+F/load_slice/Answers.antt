@@ -10,7 +10,7 @@ of_error : {T E Q : Type 0} (r : Result T E) → Q → IfErr r (λ (e : E). Q)
 of_error (Ok x) q = tt
 of_error (Err e) q = q
 
--- a state is saved as so many bytes
+-- another number of bytes
 pub returns-then-bytes-LEN-clause-err : goal.returns-then-bytes-LEN-clause-err
 returns-then-bytes-LEN-clause-err g c state valid same =
     let r = g.met.F.ResumableFunction in
@@ -24,7 +24,7 @@ returns-then-bytes-LEN-clause-err g c state valid same =
       r.saved_hmac_size,
     )
 
--- the first of them are those of its inner hash state
+-- the first bytes are those of the inner hash state
 pub returns-in_err-load_slice-clause-err : goal.returns-in_err-load_slice-clause-err
 returns-in_err-load_slice-clause-err g c =
     let r = g.met.F.ResumableFunction in
@@ -36,7 +36,7 @@ returns-in_err-load_slice-clause-err g c =
     (inner_part r.injective_output state valid bytes same ∙ ap (λ (n : ℕ). take n bytes) (sym size) ∙ sym c.split_at.ensures.front) in
     of_error _ refused
 
--- and the others those of its outer one
+-- the others are those of the outer one
 pub returns-in_err-load_slice-2-clause-err : goal.returns-in_err-load_slice-2-clause-err
 returns-in_err-load_slice-2-clause-err g c =
     let r = g.met.F.ResumableFunction in
