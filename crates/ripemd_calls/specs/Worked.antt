@@ -109,7 +109,7 @@ saved_after count =
 abbrev pub saved_bytes : List ℕ
 saved_bytes = saved_after 1
 
--- these bytes, with other bytes after the tail
+-- the saved bytes, with other bytes after the tail
 abbrev pub soiled_bytes : List ℕ
 soiled_bytes = soiled 30 saved_bytes
 

@@ -25,7 +25,7 @@ digest_line v message = encode_lower (ripemd (parameters_of v) message) ++ codes
 abbrev pub tag_line : Variant → List ℕ → List ℕ → List ℕ
 tag_line v key message = encode_lower (hmac (ripemd (parameters_of v)) key message) ++ codes "\n"
 
--- the longest input, in bytes, whose length in bits fits into 64 bits
+-- the longest input, in bytes: its length in bits fits into 64 bits
 abbrev pub most_bytes : ℕ
 most_bytes = 2 ^ 61 - 1
 
