@@ -1,4 +1,4 @@
-use Rattle.std.proofs.Common.{◌≡◌, ◌+◌, ◌∙◌, [], refl, length, drop, get_or, ap, arith}
+use Rattle.std.proofs.Common.{◌≡◌, ◌∙◌, [], refl, length, drop, ap, arith}
 use Rattle.std.proofs.lemmas.List.{length-drop}
 use Rattle.ripemd.specs.States.{with_tail, output_and_count, tail_bytes}
 use Rattle.ripemd_block.specs.Laws.Saved.{core_and_tail-split}
