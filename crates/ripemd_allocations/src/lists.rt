@@ -22,7 +22,7 @@ fn are_written<D: Digest>(found: &Vec<D::Output>, digests: &[&str]) -> bool {
     true
 }
 
-// Whether the commands give these digests, or stop with this error; none if they are refused memory.
+// Whether the commands give these digests, or stop with this error; `None` if they are refused memory.
 fn is_answer<D: Digest + SerializableState>(
     alloc: Global,
     commands: &[Command],
@@ -56,7 +56,7 @@ fn update<'a>(hasher: usize, bytes: &'a [u8]) -> Command<'a> {
     Command::Update { hasher, bytes }
 }
 
-// Two hashers are two.
+// Two hashers do not share a message.
 fn separate() -> [Command<'static>; 5] {
     [
         Command::New,
@@ -67,7 +67,7 @@ fn separate() -> [Command<'static>; 5] {
     ]
 }
 
-// A fork goes its own way, and a finished hasher is new.
+// A fork and its original are independent, and a finished hasher is new.
 fn forks() -> [Command<'static>; 8] {
     [
         Command::New,
@@ -113,8 +113,8 @@ static BAD_COMMAND: [Command; 3] = [
     Command::Load { saved: 5 },
 ];
 
-// Prints what becomes of lists by a hasher that has these digests of no bytes, of "abc" and of
-// "Hello world!". The empty list, and one whose first command is bad, ask for no memory.
+// Prints what becomes of lists by a hasher with these digests of no bytes, of "abc" and of "Hello world!". The empty
+// list, and one whose first command is bad, allocate nothing.
 fn print_outcomes_by<'a, D: Digest + SerializableState + AlgorithmName>(
     rt: &HostRuntime,
     empty: &'a str,
@@ -156,7 +156,7 @@ fn state_160(words: &[u8; 20], block_count: u64, tail: &[u8]) -> [u8; 92] {
     bytes
 }
 
-// The imported hasher is finished, and is as new.
+// The imported hasher is finished, and is then new.
 fn finish_imported<'a>(state: &'a [u8]) -> [Command<'a>; 3] {
     [
         Command::Import { bytes: state },
@@ -165,7 +165,7 @@ fn finish_imported<'a>(state: &'a [u8]) -> [Command<'a>; 3] {
     ]
 }
 
-// A state that is saved of the imported hasher stays as it was.
+// A saved state of the imported hasher stays as it was.
 fn save_imported_again<'a>(state: &'a [u8]) -> [Command<'a>; 5] {
     [
         Command::Import { bytes: state },

@@ -9,9 +9,8 @@ use ripemd_mac::{MacCollision, mac_collision};
 use std::alloc::{AllocError, Global};
 use std::io;
 
-// What is wanted of a collision, besides that both its meetings are at one place and in one state:
-// whether it is met inside the inner messages, that place and state, how the two blocks begin, and
-// the state to which both steps lead.
+// What is wanted of a collision: whether it is in the inner messages, the place and the state of both
+// meetings, how the two blocks begin, and the state to which both steps lead.
 #[derive(Clone, Copy, PartialEq, Eq)]
 struct Shape {
     is_inner: bool,

@@ -9,7 +9,8 @@ use ripemd::{BlockHasher, ListBlockFunction};
 use ripemd_tests::bytes::sum_from;
 use std::marker::Model;
 
-/// The block function: a step adds all bytes of the block to the one byte, and the last to the other.
+/// The block function: a step adds all bytes of the block to the first byte of the state, and the last byte to the
+/// second.
 pub(crate) enum SumsFunction {}
 
 impl BlockFunction for SumsFunction {

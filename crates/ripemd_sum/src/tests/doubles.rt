@@ -6,8 +6,7 @@ use std::io::{ErrorKind, Read, Write};
 /// The text of the errors that a reader or a writer of this module makes.
 pub const PLANNED: &str = "planned by the test";
 
-/// Which call of a reader or a writer fails, the first being 1 and none being 0, and with which kind of
-/// error.
+/// Which call of a reader or a writer fails, counted from 1, or 0 for none, and with which kind of error.
 #[derive(Clone, Copy)]
 struct Failure {
     call: usize,

@@ -18,8 +18,8 @@ fn hash(reader: SliceReader, limit: u64) -> Result<[u8; 20], ReadFault> {
     outcome
 }
 
-/// Whether a message has this digest at a limit that its length is, and is too long for the next lower
-/// one, if there is one.
+/// Whether a message has this digest if the limit is its length, and is too long for a limit one lower, if there is
+/// one.
 fn keeps_its_limit(alloc: Global, message: &[u8], digits: &str) -> Result<bool, AllocError> {
     let limit = message.len() as u64;
     let Ok(digest) = hash(SliceReader::new(message, usize::MAX), limit) else {

@@ -33,14 +33,14 @@ fn reads_a_million_bytes(rt: HostRuntime) -> Result<(), Fail> {
     Ok(())
 }
 
-/// The run over "Hello world!", a byte a read, of which this read fails.
+/// The run over "Hello world!", a byte a read; read `n` fails.
 fn run_failing_at(n: usize, kind: ErrorKind, limit: u64) -> Finished<'static> {
     let reader = SliceReader::new(HELLO, 1).failing_at(n, kind);
     finish(Variant::R160, None, reader, PageWriter::new(100), limit)
 }
 
-// Whichever read fails, the last included, which would have told the end, its error is the answer,
-// and no read follows it: one that was interrupted is not tried again.
+// Whichever read fails, also the last, which would have found the end, its error is the answer, and no
+// read follows: an interrupted one is not tried again.
 #[test]
 fn answers_a_read_that_fails(rt: HostRuntime) -> Result<(), Fail> {
     for kind in [ErrorKind::TimedOut, ErrorKind::Interrupted] {
@@ -53,7 +53,7 @@ fn answers_a_read_that_fails(rt: HostRuntime) -> Result<(), Fail> {
     Ok(())
 }
 
-// An error, and a byte past the limit: what comes first in the stream is the answer.
+// An error, and a byte past the limit: the first in the stream is the answer.
 #[test]
 fn answers_what_comes_first(rt: HostRuntime) -> Result<(), Fail> {
     let kind = ErrorKind::ConnectionReset;
@@ -64,7 +64,7 @@ fn answers_what_comes_first(rt: HostRuntime) -> Result<(), Fail> {
     Ok(())
 }
 
-/// The run over "Hi There" under twenty bytes 0b (hexadecimal), of which this read fails.
+/// The run over "Hi There" under twenty bytes 0b (hexadecimal); this read fails.
 fn run_under_a_key(failing: usize, limit: u64) -> Finished<'static> {
     let reader = SliceReader::new(b"Hi There", 3).failing_at(failing, ErrorKind::TimedOut);
     let writer = PageWriter::new(100);

@@ -6,7 +6,7 @@ use crate::variant::Variant;
 use std::io::ErrorKind;
 use std::test::Fail;
 
-/// The run over "Hello world!" that this writer gets the line of.
+/// The run over "Hello world!" with this writer.
 fn written_to(variant: Variant, writer: PageWriter) -> Finished<'static> {
     finish(variant, None, SliceReader::new(HELLO, 100), writer, AMPLE)
 }
@@ -20,7 +20,7 @@ fn writes_in_any_pieces(rt: HostRuntime) {
     }
 }
 
-// Whichever write fails, but by an interruption, its error is the answer, and no write follows it.
+// Whichever write fails, other than by an interruption, its error is the answer, and no write follows.
 #[test]
 fn answers_a_write_that_fails(rt: HostRuntime) -> Result<(), Fail> {
     for kind in [ErrorKind::BrokenPipe, ErrorKind::StorageFull] {
