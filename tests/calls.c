@@ -619,6 +619,14 @@ static void try_states(void) {
     }
 }
 
+static void try_wipe(void) {
+  static const uint8_t zeros[200] = {0};
+  for (size_t length = 0; length <= sizeof zeros; length++) {
+    nattizhu_wipe(output(OUT, length), length);
+    check(holds(OUT, zeros, length), "wiped bytes", length);
+  }
+}
+
 // ---- what is refused
 
 // Outputs that are up to 40 bytes too short or too long, as those of the other variants are; and by
@@ -919,6 +927,7 @@ int main(int argc, char **argv) {
     try_pieces();
     try_saved_pieces();
     try_states();
+    try_wipe();
     try_refused(v);
     try_no_variant();
     try_nulls();

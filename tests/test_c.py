@@ -8,7 +8,7 @@ from conftest import DATA, ROOT, lines, memcheck, need, programs, run
 CRATE = ROOT / "crates/ripemd_c"
 CALLS = ROOT / "tests/calls.c"
 HEADER = (CRATE / "nattizhu.h").read_text("utf-8")
-FUNCTIONS = sorted(re.findall(r"^NATTIZHU_CHECKED .*[ *](nattizhu_\w+)\(", HEADER, re.MULTILINE))
+FUNCTIONS = sorted(re.findall(r"^(?:NATTIZHU_CHECKED .*[ *]|void )(nattizhu_\w+)\(", HEADER, re.MULTILINE))
 PROGRAMS = programs("docs/C.md", "c")
 
 # Debian's packages of the compilers.
@@ -104,6 +104,9 @@ nattizhu_pbkdf2(NATTIZHU_RIPEMD160, bytes, 3, bytes, 3, 1, digest, 20)
 nattizhu_pbkdf2_list(NATTIZHU_RIPEMD160, list, 1, list, 1, 1, 20, digest, 20)
 """.splitlines()
 
+# A call that answers nothing.
+WIPE = "nattizhu_wipe(bytes, 3)"
+
 OTHER_STATE = """\
 nattizhu_init(NATTIZHU_RIPEMD160, &hmac)
 nattizhu_update(&hmac, bytes, 3)
@@ -157,12 +160,13 @@ def assert_warned(compiler, standard, statements):
 
 
 def test_right_calls_are_of_all_functions():
-    assert sorted(call.partition("(")[0] for call in RIGHT) == FUNCTIONS
+    assert sorted(call.partition("(")[0] for call in [*RIGHT, WIPE]) == FUNCTIONS
 
 
 @every_standard
 def test_no_warning_of_right_calls(compiler, standard):
-    compile_by(compiler, standard, *STRICT, *INPUT, input=function_of(f"if ({call}) return;" for call in RIGHT))
+    calls = [*(f"if ({call}) return;" for call in RIGHT), f"{WIPE};"]
+    compile_by(compiler, standard, *STRICT, *INPUT, input=function_of(calls))
 
 
 @every_standard

@@ -1,7 +1,13 @@
 /* The functions of nattizhu.h over the proved ones of this crate, whose names end in `_nonnull`:
  * they refuse null pointers that should lead to something, replace those that lead to nothing, and
- * hand on in groups the lists that have such. */
+ * hand on in groups the lists that have such. After calls with secrets they clear the stack and the
+ * registers. */
 #include "nattizhu.h"
+
+#include <string.h>
+#ifdef __x86_64__
+#include <cpuid.h>
+#endif
 
 /* What the functions in Rattle take these types for. */
 _Static_assert(sizeof(nattizhu_variant) == 4, "a variant has 32 bits");
@@ -50,6 +56,96 @@ bool nattizhu_pbkdf2_nonnull(nattizhu_variant, const uint8_t *, size_t, const ui
 bool nattizhu_pbkdf2_list_nonnull(nattizhu_variant, const nattizhu_message *, size_t,
                                   const nattizhu_message *, size_t, uint32_t, size_t, uint8_t *,
                                   size_t);
+
+/* How many bytes of the stack below its caller a call uses at most, in any build: one that copies a
+ * state, appends to one, ends one, makes a tag, or works on many or makes a key.
+ * tests/secrets/left.c measures them. */
+enum { COPY = 256, APPEND = 1280, END = 1664, TAG = 2176, MANY = 8192 };
+
+/* Overwrites so many bytes with zeros. The compiler can't leave that out: it may not know that the
+ * function is still memset. */
+static void wipe(void *pointer, size_t size) {
+  static void *(*const volatile set)(void *, int, size_t) = memset;
+  if (size != 0)
+    set(pointer, 0, size);
+}
+
+#ifdef __x86_64__
+/* Whether there are the registers of AVX-512, by which the C library copies. */
+static bool has_avx512;
+#endif
+
+/* Runs when the program starts. The loader finds here the functions of the C library that calls
+ * use: where it does so at their first use, it stores registers on the stack, deeper than calls
+ * reach. */
+__attribute__((constructor)) static void prepare(void) {
+  static uint8_t bytes[2];
+  volatile size_t none = 0;
+  memcpy(bytes, bytes + 1, none);
+  memmove(bytes, bytes + 1, none);
+  memset(bytes, 0, none);
+#ifdef __x86_64__
+  unsigned int eax, ebx, ecx, edx;
+  if (__get_cpuid(1, &eax, &ebx, &ecx, &edx) && (ecx & bit_OSXSAVE)) {
+    __asm__("xgetbv" : "=a"(eax), "=d"(edx) : "c"(0));
+    has_avx512 = (eax & 0xe0) == 0xe0 && __get_cpuid_count(7, 0, &eax, &ebx, &ecx, &edx) &&
+                 (ebx & bit_AVX512VL);
+  }
+#endif
+}
+
+/* Clears the registers that a call may change. Of AVX-512 an instruction of 128 bits clears all
+ * 512; after one of 512 the processor is slower for a while. */
+static inline void clear_registers(void) {
+#ifdef __x86_64__
+  if (has_avx512)
+    __asm__ volatile(".irp n,16,17,18,19,20,21,22,23,24,25,26,27,28,29,30,31\n\t"
+                     "vpxorq %xmm\\n, %xmm\\n, %xmm\\n\n\t"
+                     ".endr");
+#ifdef __AVX__
+  __asm__ volatile("vzeroall"
+#else
+  __asm__ volatile(".irp n,0,1,2,3,4,5,6,7,8,9,10,11,12,13,14,15\n\t"
+                   "pxor %%xmm\\n, %%xmm\\n\n\t"
+                   ".endr"
+#endif
+                   :
+                   :
+                   : "xmm0", "xmm1", "xmm2", "xmm3", "xmm4", "xmm5", "xmm6", "xmm7", "xmm8", "xmm9",
+                     "xmm10", "xmm11", "xmm12", "xmm13", "xmm14", "xmm15");
+  __asm__ volatile(".irp n,eax,ecx,edx,esi,edi,r8d,r9d,r10d,r11d\n\t"
+                   "xor %%\\n, %%\\n\n\t"
+                   ".endr"
+                   :
+                   :
+                   : "rax", "rcx", "rdx", "rsi", "rdi", "r8", "r9", "r10", "r11", "cc");
+#else
+  __asm__ volatile(".irp n,0,1,2,3,4,5,6,7,16,17,18,19,20,21,22,23,24,25,26,27,28,29,30,31\n\t"
+                   "movi v\\n\\().2d, #0\n\t"
+                   ".endr\n\t"
+                   ".irp n,8,9,10,11,12,13,14,15\n\t" /* of which a call keeps the other half */
+                   "mov v\\n\\().d[1], xzr\n\t"
+                   ".endr\n\t"
+                   ".irp n,0,1,2,3,4,5,6,7,8,9,10,11,12,13,14,15,16,17\n\t"
+                   "mov x\\n, xzr\n\t"
+                   ".endr"
+                   :
+                   :
+                   : "v0", "v1", "v2", "v3", "v4", "v5", "v6", "v7", "v16", "v17", "v18", "v19",
+                     "v20", "v21", "v22", "v23", "v24", "v25", "v26", "v27", "v28", "v29", "v30",
+                     "v31", "x0", "x1", "x2", "x3", "x4", "x5", "x6", "x7", "x8", "x9", "x10",
+                     "x11", "x12", "x13", "x14", "x15", "x16", "x17");
+#endif
+}
+
+/* Returns this answer of a call, after it has cleared what the call left in so many bytes below its
+ * caller and in registers. */
+__attribute__((noinline)) static bool wiped(size_t depth, bool answer) {
+  uint8_t dead[MANY];
+  clear_registers();
+  wipe(dead + MANY - depth, depth);
+  return answer;
+}
 
 /* Whether so many bytes may be read. A null pointer that leads to nothing is replaced. */
 static bool readable(const uint8_t **bytes, size_t length) {
@@ -109,6 +205,11 @@ size_t nattizhu_state_size(void) { return sizeof(nattizhu_state); }
 
 size_t nattizhu_hmac_state_size(void) { return sizeof(nattizhu_hmac_state); }
 
+void nattizhu_wipe(void *pointer, size_t size) {
+  wipe(pointer, size);
+  wiped(TAG, true);
+}
+
 bool nattizhu_digest(nattizhu_variant variant, const uint8_t *message, size_t length,
                      uint8_t *digest, size_t digest_length) {
   return readable(&message, length) && writable(&digest, digest_length) &&
@@ -125,8 +226,8 @@ bool nattizhu_each(nattizhu_variant variant, const uint8_t *records, size_t leng
 static bool put_list(nattizhu_variant variant, const uint8_t *key, size_t key_length,
                      const nattizhu_message *messages, size_t count, uint8_t *outputs,
                      size_t outputs_length) {
-  return key ? nattizhu_hmac_list_nonnull(variant, WORDS, key, key_length, messages, count, outputs,
-                                          outputs_length)
+  return key ? wiped(MANY, nattizhu_hmac_list_nonnull(variant, WORDS, key, key_length, messages,
+                                                      count, outputs, outputs_length))
              : nattizhu_list_nonnull(variant, WORDS, messages, count, outputs, outputs_length);
 }
 
@@ -183,23 +284,24 @@ bool nattizhu_load(nattizhu_variant variant, nattizhu_state *state, const uint8_
 bool nattizhu_hmac(nattizhu_variant variant, const uint8_t *key, size_t key_length,
                    const uint8_t *text, size_t text_length, uint8_t *tag, size_t tag_length) {
   return readable(&key, key_length) && readable(&text, text_length) && writable(&tag, tag_length) &&
-         nattizhu_hmac_nonnull(variant, key, key_length, text, text_length, tag, tag_length);
+         wiped(TAG,
+               nattizhu_hmac_nonnull(variant, key, key_length, text, text_length, tag, tag_length));
 }
 
 bool nattizhu_hmac_verify_text(nattizhu_variant variant, const uint8_t *key, size_t key_length,
                                const uint8_t *text, size_t text_length, const uint8_t *tag,
                                size_t tag_length) {
   return readable(&key, key_length) && readable(&text, text_length) && readable(&tag, tag_length) &&
-         nattizhu_hmac_verify_text_nonnull(variant, key, key_length, text, text_length, tag,
-                                           tag_length);
+         wiped(TAG, nattizhu_hmac_verify_text_nonnull(variant, key, key_length, text, text_length,
+                                                      tag, tag_length));
 }
 
 bool nattizhu_hmac_each(nattizhu_variant variant, const uint8_t *key, size_t key_length,
                         const uint8_t *records, size_t length, size_t size, uint8_t *tags,
                         size_t tags_length) {
   return readable(&key, key_length) && readable(&records, length) && writable(&tags, tags_length) &&
-         nattizhu_hmac_each_nonnull(variant, WORDS, key, key_length, records, length, size, tags,
-                                    tags_length);
+         wiped(MANY, nattizhu_hmac_each_nonnull(variant, WORDS, key, key_length, records, length,
+                                                size, tags, tags_length));
 }
 
 bool nattizhu_hmac_list(nattizhu_variant variant, const uint8_t *key, size_t key_length,
@@ -211,29 +313,34 @@ bool nattizhu_hmac_list(nattizhu_variant variant, const uint8_t *key, size_t key
 
 bool nattizhu_hmac_init(nattizhu_variant variant, nattizhu_hmac_state *state, const uint8_t *key,
                         size_t key_length) {
-  return readable(&key, key_length) && nattizhu_hmac_init_nonnull(variant, state, key, key_length);
+  return readable(&key, key_length) &&
+         wiped(TAG, nattizhu_hmac_init_nonnull(variant, state, key, key_length));
 }
 
 bool nattizhu_hmac_update(nattizhu_hmac_state *state, const uint8_t *bytes, size_t length) {
-  return readable(&bytes, length) && nattizhu_hmac_update_nonnull(state, bytes, length);
+  return readable(&bytes, length) &&
+         wiped(APPEND, nattizhu_hmac_update_nonnull(state, bytes, length));
 }
 
 bool nattizhu_hmac_final(const nattizhu_hmac_state *state, uint8_t *tag, size_t tag_length) {
-  return writable(&tag, tag_length) && nattizhu_hmac_final_nonnull(state, tag, tag_length);
+  return writable(&tag, tag_length) &&
+         wiped(END, nattizhu_hmac_final_nonnull(state, tag, tag_length));
 }
 
 bool nattizhu_hmac_verify(const nattizhu_hmac_state *state, const uint8_t *tag, size_t tag_length) {
-  return readable(&tag, tag_length) && nattizhu_hmac_verify_nonnull(state, tag, tag_length);
+  return readable(&tag, tag_length) &&
+         wiped(END, nattizhu_hmac_verify_nonnull(state, tag, tag_length));
 }
 
 bool nattizhu_hmac_save(const nattizhu_hmac_state *state, uint8_t *saved, size_t saved_length) {
-  return writable(&saved, saved_length) && nattizhu_hmac_save_nonnull(state, saved, saved_length);
+  return writable(&saved, saved_length) &&
+         wiped(COPY, nattizhu_hmac_save_nonnull(state, saved, saved_length));
 }
 
 bool nattizhu_hmac_load(nattizhu_variant variant, nattizhu_hmac_state *state, const uint8_t *saved,
                         size_t saved_length) {
   return readable(&saved, saved_length) &&
-         nattizhu_hmac_load_nonnull(variant, state, saved, saved_length);
+         wiped(COPY, nattizhu_hmac_load_nonnull(variant, state, saved, saved_length));
 }
 
 bool nattizhu_pbkdf2(nattizhu_variant variant, const uint8_t *password, size_t password_length,
@@ -241,8 +348,8 @@ bool nattizhu_pbkdf2(nattizhu_variant variant, const uint8_t *password, size_t p
                      size_t key_length) {
   return readable(&password, password_length) && readable(&salt, salt_length) &&
          writable(&key, key_length) &&
-         nattizhu_pbkdf2_nonnull(variant, password, password_length, salt, salt_length, rounds, key,
-                                 key_length);
+         wiped(MANY, nattizhu_pbkdf2_nonnull(variant, password, password_length, salt, salt_length,
+                                             rounds, key, key_length));
 }
 
 bool nattizhu_pbkdf2_list(nattizhu_variant variant, const nattizhu_message *passwords, size_t count,
@@ -255,13 +362,13 @@ bool nattizhu_pbkdf2_list(nattizhu_variant variant, const nattizhu_message *pass
       !readable_list(&salts, count, &nulls))
     return false;
   if (!nulls)
-    return nattizhu_pbkdf2_list_nonnull(variant, passwords, count, salts, count, rounds, size, keys,
-                                        keys_length);
+    return wiped(MANY, nattizhu_pbkdf2_list_nonnull(variant, passwords, count, salts, count, rounds,
+                                                    size, keys, keys_length));
   for (size_t at = 0, n; at < count; at += n) { /* the first group says whether it is allowed */
     n = next_group(password_group, passwords, at, count);
     next_group(salt_group, salts, at, count);
-    if (!nattizhu_pbkdf2_list_nonnull(variant, password_group, n, salt_group, n, rounds, size,
-                                      keys + at * size, n * size))
+    if (!wiped(MANY, nattizhu_pbkdf2_list_nonnull(variant, password_group, n, salt_group, n, rounds,
+                                                  size, keys + at * size, n * size)))
       return false;
   }
   return true;

@@ -25,7 +25,10 @@
  * Outputs, and a state before init or load, need not be initialized.
  *
  * No call allocates memory, keeps a pointer, or uses global data that changes: all calls may
- * run at once in any number of threads. Nothing is wiped from memory, neither keys nor texts. */
+ * run at once in any number of threads.
+ *
+ * A call that takes a key, a password or an HMAC state clears the stack and the registers that it
+ * used. Nothing else is wiped by itself: nattizhu_wipe is for that. */
 
 #ifndef NATTIZHU_H
 #define NATTIZHU_H
@@ -118,7 +121,8 @@ NATTIZHU_CHECKED bool nattizhu_list(nattizhu_variant variant, const nattizhu_mes
 /* ---- Digests of messages in pieces */
 
 /* A hash state is bytes without pointers, the same on every machine: it may be copied, also to
- * another process, and both go on. Its first byte is the size of its digests. Some bytes mean
+ * another process, and both go on. It may still hold bytes of the message that no longer matter:
+ * what others may see is its saved form. Its first byte is the size of its digests. Some bytes mean
  * nothing and need not be initialized. To store a state or to compare states, save them. States are
  * not authenticated: each call checks the first byte and the number of bytes that wait for a block,
  * and nothing else. Zeros are no state. */
@@ -228,6 +232,13 @@ NATTIZHU_CHECKED bool nattizhu_pbkdf2_list(nattizhu_variant variant,
                                            const nattizhu_message *salts, size_t salt_count,
                                            uint32_t rounds, size_t size, uint8_t *keys,
                                            size_t keys_length);
+
+/* ---- Secrets in memory */
+
+/* Writes zeros to these bytes, also where a compiler would leave memset out. It also clears what
+ * calls for one message, as nattizhu_digest, have left of it on the stack below its caller and in
+ * registers; `size` may be 0 for that alone. */
+void nattizhu_wipe(void *pointer, size_t size);
 
 #ifdef __cplusplus
 }
