@@ -1,7 +1,10 @@
 """Shows that secrets do not steer the machine: no jump and no address depends on the bytes of messages, keys, passwords,
 salts or tags. Memcheck holds these to be undefined, and reports what depends on them. And what is executed has to be
 the same for different secrets of one length, as qemu-user tells it. For each way there is a control, which a secret
-steers: it has to be noticed."""
+steers: it has to be noticed.
+
+And that calls with a key, a password or an HMAC state leave nothing of it on the stack or in registers; the functions
+that they call, which wipe nothing, have to be seen to leave it."""
 import hashlib
 import subprocess
 import sys
@@ -13,6 +16,9 @@ CRATE = ROOT / "crates/ripemd_c"
 LEVELS = ["x86-64", "x86-64-v3"]
 # For each processor that qemu-user emulates, the emulator.
 EMULATORS = {**dict.fromkeys(LEVELS, "qemu-x86_64"), ARM64: "qemu-aarch64"}
+# What it emulates: all that it can, but for strings by which the C library would write byte after byte, each one a
+# block.
+EMULATED = {"qemu-x86_64": "max,-erms", "qemu-aarch64": "max"}
 SEEDS = range(1, 6)
 CONTROLS = {"jump": "Conditional jump or move depends on uninitialised value",
             "address": "Use of uninitialised value of size 8"}
@@ -52,7 +58,7 @@ def executed(emulator, *command, **options):
     """How many blocks of instructions a program executes, and a digest of where they are, in order."""
     need(emulator, "qemu-user")
     # With addresses that are not random.
-    command = ["setarch", "-R", emulator, "-cpu", "max", "-d", "exec,nochain", *map(str, command)]
+    command = ["setarch", "-R", emulator, "-cpu", EMULATED[emulator], "-d", "exec,nochain", *map(str, command)]
     with subprocess.Popen(command, env=ENVIRONMENT, stdout=subprocess.DEVNULL, stderr=subprocess.PIPE,
                           **options) as running:
         count, places = 0, hashlib.sha256()
@@ -78,6 +84,62 @@ def test_what_calls_from_c_execute(compiled, processor):
 @every_processor
 def test_control_of_what_is_executed(compiled, processor):
     assert len(traces(compiled, processor, "jump")) == 2
+
+
+# For each processor, the shared object, and how many words of a vector lists take (nattizhu.c).
+OBJECTS = {"x86-64": ("libnattizhu.so.0", 4), "x86-64-v3": ("glibc-hwcaps/x86-64-v3/libnattizhu.so.0", 8),
+           ARM64: (f"{ARM64}/libnattizhu.so.0", 8)}
+
+
+@pytest.fixture(name="left", scope="module")
+def fixture_left(library, once):
+    """What left.c finds of each call, as a dictionary: by the shared object of a processor, by the static library, or
+    by the functions that wipe nothing."""
+
+    def runs(processor, kind, *words):
+        emulator = []
+        if processor == ARM64:
+            need_arm64()
+            need("qemu-aarch64", "qemu-user")
+            emulator = ["qemu-aarch64", "-L", "/usr/aarch64-linux-gnu"]
+        shared, vector = OBJECTS[processor]
+        linked = {
+            "shared": [library / shared, f"-Wl,-z,now,-rpath,{(library / shared).parent}"],
+            # Functions of the C library are looked for when they are first called.
+            "static": [(library / shared).with_name("libnattizhu.a"), "-Wl,-z,lazy"],
+            "unwiped": [f"-DWORDS={vector}", "-DUNWIPED", CRATE / f"out/{processor}/libripemd_c.a", "-Wl,-z,now"]}[kind]
+        program = once(f"left-{processor}-{kind}", lambda file: run(
+            ARM64_COMPILER if processor == ARM64 else "cc", "-O2", "-Wall", "-Wextra", "-Werror", "-I", CRATE,
+            SECRETS / "left.c", *linked, "-o", file))
+        rows = [line.split() for line in run(*emulator, program, *words).stdout.splitlines()]
+        return {(name, bits): list(map(int, counts)) for name, bits, *counts in rows}
+
+    return runs
+
+
+@every_processor
+def test_calls_leave_nothing(left, processor):
+    """And they clear more of the stack than the functions below them use."""
+    found, unwiped = left(processor, "shared"), left(processor, "unwiped")
+    assert len(found) == 52 and found.keys() == unwiped.keys()
+    assert {call: counts[2:] for call, counts in found.items() if any(counts[2:])} == {}
+    assert [call for call in found if found[call][1] < unwiped[call][0] + 128] == []
+
+
+@every_processor
+def test_control_of_what_calls_leave(left, processor):
+    """Each call leaves something that depends on secrets, and together they leave each of those looked for."""
+    found = left(processor, "unwiped").values()
+    assert all(differing for _, _, differing, *_ in found)
+    assert all(map(sum, zip(*found)))
+
+
+@pytest.mark.parametrize("processor", ["x86-64", ARM64])
+@pytest.mark.parametrize("number", range(13))
+def test_first_call_leaves_nothing(left, processor, number):
+    """By a program that is linked statically, in which the loader still looks for the functions of the C library."""
+    [counts] = left(processor, "static", number).values()
+    assert not any(counts[2:])
 
 
 @pytest.mark.parametrize("length", [1, 55, 64, 200, 5000])
