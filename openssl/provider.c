@@ -13,6 +13,13 @@
 /* ---- Digests. A context is a nattizhu_state, whose first byte is the size of its digests. Before
  * init it is zeros, which are no state. */
 
+/* The answer of a call on a message, after what it left of that is wiped: in an HMAC by OpenSSL it
+ * is of the key. */
+static int wiped(int answer) {
+  nattizhu_wipe(NULL, 0);
+  return answer;
+}
+
 static OSSL_FUNC_digest_newctx_fn new_context;
 static void *new_context(void *provider) {
   (void)provider;
@@ -27,14 +34,14 @@ static void *copy_context(void *context) { return OPENSSL_memdup(context, sizeof
 
 static OSSL_FUNC_digest_update_fn update;
 static int update(void *context, const unsigned char *bytes, size_t length) {
-  return nattizhu_update(context, bytes, length);
+  return wiped(nattizhu_update(context, bytes, length));
 }
 
 static OSSL_FUNC_digest_final_fn final;
 static int final(void *context, unsigned char *digest, size_t *length, size_t room) {
   const nattizhu_state *state = context;
   const size_t size = state->bytes[0];
-  if (room < size || !nattizhu_final(state, digest, size))
+  if (room < size || !wiped(nattizhu_final(state, digest, size)))
     return 0;
   *length = size;
   return 1;
@@ -76,8 +83,8 @@ static int get_params(OSSL_PARAM params[], size_t size) {
                            unsigned char *digest, size_t *length, size_t room) {                   \
     (void)provider;                                                                                \
     if (room < NATTIZHU_RIPEMD##bits##_SIZE ||                                                     \
-        !nattizhu_digest(NATTIZHU_RIPEMD##bits, message, message_length, digest,                   \
-                         NATTIZHU_RIPEMD##bits##_SIZE))                                            \
+        !wiped(nattizhu_digest(NATTIZHU_RIPEMD##bits, message, message_length, digest,             \
+                               NATTIZHU_RIPEMD##bits##_SIZE)))                                     \
       return 0;                                                                                    \
     *length = NATTIZHU_RIPEMD##bits##_SIZE;                                                        \
     return 1;                                                                                      \

@@ -24,6 +24,6 @@ setup(
         # -g0: no names of folders in the module, so that its bytes are the
         # same wherever it is built.
         extra_compile_args=["-std=c99", "-fvisibility=hidden", "-g0"],
-        extra_link_args=["-Wl,--exclude-libs,ALL"], py_limited_api=True)],
+        extra_link_args=["-Wl,--exclude-libs,ALL,-z,relro,-z,now"], py_limited_api=True)],
     options={"bdist_wheel": {"py_limited_api": "cp311"}},
 )

@@ -5,7 +5,7 @@ import re
 import shutil
 
 import pytest
-from conftest import (ABC, ARM64, ARM64_COMPILER, DATA, ROOT, fences, lines, memcheck, need, programs, run, version)
+from conftest import (ABC, ARM64, ARM64_COMPILER, DATA, ROOT, SECRETS, fences, lines, memcheck, need, programs, run, version)
 
 CRATE = ROOT / "crates/ripemd_c"
 SOURCE = ROOT / "openssl/provider.c"
@@ -177,6 +177,19 @@ def test_functions_under_valgrind(modules, evp, tmp_path):
                  by=memcheck)
 
 
+def test_tags_leave_nothing(modules, library, tmp_path):
+    """On the stack, of the key and of what OpenSSL's HMAC makes of it; a provider that does not wipe is noticed."""
+    run("cc", "-O2", "-Wall", "-Wextra", "-Werror", "-I", CRATE, SECRETS / "left_evp.c", library / "libnattizhu.a",
+        "-Wl,-z,now", "-lcrypto", "-o", tmp_path / "left")
+    left = lambda folder: run(tmp_path / "left", "nattizhu", env={"OPENSSL_MODULES": folder}).stdout.split()
+    assert left(modules) == ["0"] * 5
+    (tmp_path / "kept.c").write_text("void kept(void *pointer, unsigned long size) { (void)pointer, (void)size; }")
+    (tmp_path / "ossl-modules").mkdir()
+    run("cc", *SHARED, "-O2", "-Dnattizhu_wipe=kept", tmp_path / "kept.c", library / "libnattizhu.so.0", "-lcrypto",
+        f"-Wl,-rpath,{library}", "-o", tmp_path / "ossl-modules/nattizhu.so")
+    assert left(tmp_path / "ossl-modules")[-1] != "0"
+
+
 def test_arm64(arm64, tmp_path):
     if not (arm64 / "ossl-modules/nattizhu.so").exists():
         pytest.skip("there are no headers of OpenSSL 3 for ARM64 (Debian's libssl-dev:arm64)")
@@ -287,6 +300,7 @@ _Bool nattizhu_init(int bits, unsigned char *state) { return state[0] = bits / 8
 _Bool nattizhu_update(void *state, void *bytes, size_t length) { return 1; }
 _Bool nattizhu_final(void *state, void *digest, size_t length) { return memset(digest, 0, length); }
 _Bool nattizhu_digest(void) { return 0; }
+void nattizhu_wipe(void) {}
 """
 
 
@@ -326,7 +340,7 @@ def test_page(modules, configurations, tmp_path, text, printed):
 STUB = """#include <stddef.h>
 const char *nattizhu_version(void) { return "9.8.7"; }
 size_t nattizhu_state_size(void) { return %d; }
-int nattizhu_init, nattizhu_update, nattizhu_final, nattizhu_digest;
+int nattizhu_init, nattizhu_update, nattizhu_final, nattizhu_digest, nattizhu_wipe;
 """
 
 

@@ -204,6 +204,7 @@ static void hash_dealloc(PyObject *object) {
   PyTypeObject *type = Py_TYPE(object);
   if (self->lock != NULL)
     PyThread_free_lock(self->lock);
+  nattizhu_wipe(&self->state, sizeof self->state);
   PyObject_Free(object);
   Py_DECREF(type);
 }
@@ -306,12 +307,15 @@ static PyObject *hash_state(PyObject *object, PyObject *Py_UNUSED(none)) {
   Hash *self = (Hash *)object;
   uint8_t saved[NATTIZHU_HMAC_SAVED_SIZE(NATTIZHU_MAX_SIZE)];
   size_t size = (size_t)saved_size(self);
+  PyObject *bytes;
   bool done;
   enter(self);
   done = self->keyed ? nattizhu_hmac_save(&self->state.hmac, saved, size)
                      : nattizhu_save(&self->state.hash, saved, size);
   leave(self);
-  return taken(done) ? PyBytes_FromStringAndSize((char *)saved, (Py_ssize_t)size) : NULL;
+  bytes = taken(done) ? PyBytes_FromStringAndSize((char *)saved, (Py_ssize_t)size) : NULL;
+  nattizhu_wipe(saved, sizeof saved);
+  return bytes;
 }
 
 static PyObject *hash_reduce(PyObject *object, PyObject *Py_UNUSED(none)) {

@@ -751,6 +751,24 @@ class States(unittest.TestCase):
                 self.assertEqual(came.digest(), whole.digest())
                 self.assertEqual(came.state(), whole.state())
 
+    def test_nothing_is_left(self):
+        """Of a hasher or an HMAC, in the memory that it had, by an allocator
+        that leaves there what is freed."""
+        code = """if True:
+            import copy, ctypes, nattizhu, pickle, sys
+            for made in (nattizhu.ripemd320(bytes(70)),
+                         nattizhu.hmac_new(b"key", bytes(70), "ripemd320")):
+                for duplicate in (lambda x: x.copy(), copy.copy,
+                                  lambda x: pickle.loads(pickle.dumps(x))):
+                    one = duplicate(made)
+                    at, size, words = id(one), sys.getsizeof(one), one.state()
+                    assert words[8:40] in ctypes.string_at(at, size)
+                    del one
+                    assert words[8:40] not in ctypes.string_at(at, size)
+        """
+        subprocess.run([sys.executable, "-c", code], check=True,
+                       env={**ENVIRONMENT, "PYTHONMALLOC": "pymalloc"})
+
     def test_pickles_name_the_package(self):
         """And not the module within it, so that others can take its place."""
         for made in (nattizhu.ripemd160(),

@@ -91,9 +91,18 @@ pub fn bytes_of(blocks: &[Block]) -> &[u8] {
     unsafe { slice::from_raw_parts(blocks.as_ptr().cast(), size_of_val(blocks)) }
 }
 
-/// A state of the library: how many bytes it has, what it is saved as, and the functions that make it,
-/// update it, write its digest, save it and load it. What `update`, `finalize` and `verify` return is what
-/// `nattizhu.h` says.
+/// Overwrites bytes with zeros, which the compiler may not leave out.
+fn wipe(bytes: &mut [u8]) {
+    extern "C" {
+        fn nattizhu_wipe(_: *mut u8, _: usize);
+    }
+    // SAFETY: memory by the exclusive reference.
+    unsafe { nattizhu_wipe(bytes.as_mut_ptr(), bytes.len()) }
+}
+
+/// A state of the library, which is wiped when it is dropped: how many bytes it has, what it is saved as,
+/// and the functions that make it, update it, write its digest, save it and load it. What `update`,
+/// `finalize` and `verify` return is what `nattizhu.h` says.
 macro_rules! state {
     ($state:ident, $size:literal, $saved:ident,
      $init:ident($($key:ident)?), $update:ident, $final:ident, $save:ident, $load:ident) => {
@@ -106,6 +115,13 @@ macro_rules! state {
             fn $final(_: *const [u8; $size], _: *mut u8, _: usize) -> bool;
             fn $save(_: *const [u8; $size], _: *mut u8, _: usize) -> bool;
             fn $load(_: u32, _: *mut [u8; $size], _: *const u8, _: usize) -> bool;
+        }
+
+        impl<V> Drop for $state<V> {
+            #[inline]
+            fn drop(&mut self) {
+                wipe(&mut self.0);
+            }
         }
 
         impl<V: Variant> $state<V> {
@@ -134,8 +150,9 @@ macro_rules! state {
                 let saved = &mut room[..size_of::<V::$saved>()];
                 // SAFETY: memory, null, overlap and threads by the reference and the exclusive slice.
                 taken(unsafe { $save(&self.0, saved.as_mut_ptr(), saved.len()) });
-                let saved = V::$saved::try_from(&*saved);
-                saved.unwrap_or_else(|_| unreachable!("the slice has the size of the array"))
+                let array = V::$saved::try_from(&*saved).ok();
+                wipe(saved);
+                array.unwrap_or_else(|| unreachable!("the slice has the size of the array"))
             }
 
             /// The state that is saved as these bytes, if there is one.

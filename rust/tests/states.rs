@@ -5,8 +5,12 @@ mod common;
 use common::{every_length, hex, lines_of, ramp};
 use digest::Mac;
 use nattizhu::*;
+use std::mem::{size_of, MaybeUninit};
+use std::slice;
 
-each_variant! { from_outside hmac_from_outside every_cut shorter_tail no_state no_hmac_state }
+each_variant! {
+    from_outside hmac_from_outside every_cut shorter_tail no_state no_hmac_state wiped
+}
 
 /// The bytes of a state: the words, the number of blocks, the length of the tail, the tail, zeros.
 fn state(words: &str, blocks: u8, tail: &[u8]) -> Vec<u8> {
@@ -160,4 +164,26 @@ fn no_hmac_state<D: Ripemd>(bits: usize) {
         }
     }
     assert!(!refused(&saved));
+}
+
+/// The bytes of a value, before and after it is dropped.
+fn bytes_of<T>(value: T) -> [Vec<u8>; 2] {
+    let mut place = MaybeUninit::new(value);
+    let bytes = |place: &MaybeUninit<T>| unsafe {
+        slice::from_raw_parts(place.as_ptr().cast::<u8>(), size_of::<T>()).to_vec()
+    };
+    let before = bytes(&place);
+    unsafe { place.as_mut_ptr().drop_in_place() };
+    [before, bytes(&place)]
+}
+
+/// A dropped HMAC is zeros, and a dropped hasher has nothing of what it made of whole blocks.
+fn wiped<D: Ripemd>(_: usize) {
+    let hasher = D::new_with_prefix(ramp(0, 130));
+    let saved = hasher.serialize();
+    let words = &saved.as_ref()[..saved.as_ref().len() - 72];
+    let [has, left] = bytes_of(hasher).map(|bytes| bytes.windows(words.len()).any(|w| w == words));
+    assert!(has && !left);
+    let [before, after] = bytes_of(Hmac::<D>::new(b"key").chain_update(b"text"));
+    assert!(before.iter().any(|&byte| byte != 0) && after.iter().all(|&byte| byte == 0));
 }
