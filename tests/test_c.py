@@ -31,6 +31,13 @@ def compile_by(compiler, standard, *words, **options):
     return run(compiler, f"-std={standard}", "-I", CRATE, "-x", language, *words, **options)
 
 
+def assert_read_only(name):
+    """The loader fills the tables of a shared object before any call, and then has them read-only."""
+    need("readelf", "binutils")
+    printed = run("readelf", "-W", "-d", "-l", name).stdout
+    assert "GNU_RELRO" in printed and re.search(r"\(FLAGS\) .*\bBIND_NOW\b", printed)
+
+
 def listed(kind):
     """The lines of tests/data/interface.txt that begin with this word, without it."""
     return sorted(words[1:] for words in lines("interface.txt") if words[0] == kind)
@@ -47,6 +54,11 @@ def test_exported_functions(library, name):
 def test_shared_object_needs_the_c_library_alone(library, name):
     need("objdump", "binutils")
     assert re.findall("NEEDED +(.*)", run("objdump", "-p", library / name).stdout) == ["libc.so.6"]
+
+
+@every_object
+def test_tables_of_addresses_are_read_only(library, name):
+    assert_read_only(library / name)
 
 
 def test_listed_functions():

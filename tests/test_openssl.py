@@ -6,6 +6,7 @@ import shutil
 
 import pytest
 from conftest import (ABC, ARM64, ARM64_COMPILER, DATA, ROOT, SECRETS, fences, lines, memcheck, need, programs, run, version)
+from test_c import assert_read_only
 
 CRATE = ROOT / "crates/ripemd_c"
 SOURCE = ROOT / "openssl/provider.c"
@@ -106,6 +107,10 @@ def test_exported_functions_and_needed_libraries(modules):
     assert set(re.findall("NEEDED +(.*)", printed)) <= {"libnattizhu.so.0", "libcrypto.so.3", "libc.so.6"}
     assert set(re.findall(r"\bOPENSSL_[0-9.]+", printed)) == {"OPENSSL_3.0.0"}
     assert "libnattizhu.so.0" in printed and re.findall("(?:RUNPATH|RPATH) +(.*)", printed) == ["$ORIGIN/.."]
+
+
+def test_tables_of_addresses_are_read_only(modules):
+    assert_read_only(modules / "nattizhu.so")
 
 
 def test_no_global_state(modules, tmp_path):
