@@ -17,8 +17,8 @@
 /* More bytes than this are hashed without the GIL, as hashlib does. */
 enum { ENOUGH = 2047 };
 
-/* Messages of a list that are handed on at once. */
-enum { GROUP = 1024 };
+/* Messages of a list that are handed on at once: so many, or fewer that have so many bytes together. */
+enum { GROUP = 1024, GROUP_BYTES = 64000000 };
 
 /* ---- The library */
 
@@ -649,13 +649,16 @@ typedef struct {
   PyObject *objects[GROUP];
   nattizhu_message messages[GROUP];
   uint8_t outputs[GROUP * NATTIZHU_MAX_SIZE];
+  size_t total; /* of the bytes of the messages */
+  bool last;
 } Group;
 
 /* The next messages of an iterator, a group at most. Returns how many, or -1 and an exception. */
-static Py_ssize_t next_group(Group *group, PyObject *iterator, size_t *total) {
+static Py_ssize_t next_group(Group *group, PyObject *iterator) {
   Py_ssize_t count = 0;
-  *total = 0;
-  while (count < GROUP) {
+  group->total = 0;
+  group->last = false;
+  while (count < GROUP && group->total < GROUP_BYTES) {
     Py_ssize_t length;
     char *bytes;
     PyObject *object = PyIter_Next(iterator);
@@ -663,6 +666,7 @@ static Py_ssize_t next_group(Group *group, PyObject *iterator, size_t *total) {
     Py_XDECREF(object);
     if (message == NULL || PyBytes_AsStringAndSize(message, &bytes, &length) != 0) {
       Py_XDECREF(message);
+      group->last = true;
       if (!PyErr_Occurred())
         return count;
       while (count > 0)
@@ -672,7 +676,7 @@ static Py_ssize_t next_group(Group *group, PyObject *iterator, size_t *total) {
     group->objects[count] = message;
     group->messages[count].bytes = (const uint8_t *)bytes;
     group->messages[count].length = (size_t)length;
-    *total += (size_t)length;
+    group->total += (size_t)length;
     count++;
   }
   return count;
@@ -691,11 +695,10 @@ static PyObject *list_of(const Variant *variant, PyObject *key, PyObject *messag
     list = group == NULL ? PyErr_NoMemory() : PyList_New(0);
   }
   while (list != NULL) {
-    size_t total;
-    Py_ssize_t count = next_group(group, iterator, &total);
+    Py_ssize_t count = next_group(group, iterator);
     if (count > 0) {
       size_t length = (size_t)(count * variant->size);
-      PyThreadState *left = total > ENOUGH ? PyEval_SaveThread() : NULL;
+      PyThreadState *left = group->total > ENOUGH ? PyEval_SaveThread() : NULL;
       bool done = key == NULL ? BEST(nattizhu_list)(variant->number, group->messages, (size_t)count,
                                                     group->outputs, length)
                               : BEST(nattizhu_hmac_list)(variant->number, secret.buf,
@@ -710,7 +713,7 @@ static PyObject *list_of(const Variant *variant, PyObject *key, PyObject *messag
     } else if (count < 0) {
       Py_CLEAR(list);
     }
-    if (count < GROUP)
+    if (group->last)
       break;
   }
   PyMem_Free(group);

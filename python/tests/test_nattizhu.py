@@ -20,6 +20,7 @@ import subprocess
 import sys
 import tempfile
 import threading
+import tracemalloc
 import unittest
 
 import nattizhu
@@ -152,6 +153,23 @@ class Digests(unittest.TestCase):
                 self.assertEqual(nattizhu.digest_list(name, messages), digests)
                 self.assertEqual(nattizhu.digest_list(name, iter(messages)),
                                  digests)
+
+    def test_list_of_long_messages(self):
+        """Few of them are held at once: 64 MB, and the one that is next."""
+        def messages():
+            for i in range(40):
+                yield bytes([i]) * 10_000_000
+
+        tracemalloc.start()
+        self.addCleanup(tracemalloc.stop)
+        digests = nattizhu.digest_list("ripemd160", messages())
+        tags = nattizhu.hmac_digest_list(b"key", messages(), "ripemd160")
+        self.assertLess(tracemalloc.get_traced_memory()[1], 90_000_000)
+        self.assertEqual(
+            digests, [nattizhu.ripemd160(m).digest() for m in messages()])
+        self.assertEqual(
+            tags, [nattizhu.hmac_digest(b"key", m, "ripemd160")
+                   for m in messages()])
 
     def test_threads(self):
         message = random.Random(4).randbytes(3 * 10**6)
