@@ -252,6 +252,14 @@ def test_expected_after_and_before(shown, files):
     assert shown.verdicts(3)[2] == ["✓ matches RIPEMD-160"]
 
 
+def test_long_lines(shown):
+    """The page reads them at once, at each press of a key."""
+    for text in "(" * 100000, " (" * 50000 + "x", "( " * 50000 + "x":
+        begun = time.monotonic()
+        assert shown.expect(text) == "line 1 is no digest"
+        assert time.monotonic() - begun < 1
+
+
 def test_cancelled(shown, files):
     """It is cancelled in the middle, and so is a file that waits; another one works."""
     shown.choose(files / "big", files / "abc")

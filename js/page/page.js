@@ -140,15 +140,16 @@ async function copied(word, code) {
   setTimeout(() => { word.textContent = 'Copy'; }, 2000);
 }
 
-// A line as { bits, hex, name }, or as a text that says what it is instead.
+// A line as { bits, hex, name }, or as a text that says what it is instead, in time that is linear in its length.
 function parse(line) {
-  const tagged = /^(.*?)\s*\((.*)\)\s*=\s*([0-9a-f]+)$/i.exec(line);
-  const plain = /^([0-9a-f]+)(?:\s+\*?(.+))?$/i.exec(line);
+  const end = /\)\s*=\s*([0-9a-f]+)$/i.exec(line), open = line.indexOf('(');
+  const tagged = end && open >= 0 && open < end.index;
+  const plain = /^([0-9a-f]+)(?:\s+\*?(.+))?$/is.exec(line);
   if (!tagged && !plain) return 'no digest';
-  const [hex, name] = tagged ? [tagged[3], tagged[2]] : [plain[1], plain[2]];
-  const bits = VARIANTS.find((variant) => variant === hex.length * 4);
-  const by = tagged && /^(?:ripemd|rmd)-?(128|160|256|320)?$/i.exec(tagged[1]);
-  if (tagged && !by) return `no digest by RIPEMD but by ${tagged[1]}`;
+  const [hex, name] = tagged ? [end[1], line.slice(open + 1, end.index)] : [plain[1], plain[2]];
+  const bits = VARIANTS.find((variant) => variant === hex.length * 4), hash = tagged && line.slice(0, open).trim();
+  const by = tagged && /^(?:ripemd|rmd)-?(128|160|256|320)?$/i.exec(hash);
+  if (tagged && !by) return `no digest by RIPEMD but by ${hash}`;
   if (!bits) return `no digest: it has ${hex.length} digits, not 32, 40, 64 or 80`;
   if (by?.[1] && +by[1] !== bits) return `no digest by RIPEMD-${by[1]}: it has ${hex.length} digits`;
   return { bits, hex: hex.toLowerCase(), name, base: name && base(name) };

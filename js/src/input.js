@@ -1,20 +1,26 @@
 const encoder = new TextEncoder();
 const NONE = new Uint8Array(0);
 const PLAIN = Uint8Array.prototype, BUFFER = globalThis.Buffer?.prototype;
+const { hasOwnProperty } = PLAIN;
+// What an array itself says of where its bytes are: a property of an object, or of a class, may say something else.
+const [bufferOf, offsetOf, lengthOf] = ['buffer', 'byteOffset', 'length'].map((name) =>
+  Object.getOwnPropertyDescriptor(Object.getPrototypeOf(PLAIN), name).get);
+const seen = (array) => lengthOf.call(array)
+  ? new Uint8Array(bufferOf.call(array), offsetOf.call(array), lengthOf.call(array)) : NONE;
 
 /**
  * The same bytes, after the checks of @noble/hashes; none, where the array has lost its buffer. Those of another class
- * than these are seen as a plain array, so that its own methods are not used.
+ * than these, or with a `length` of their own, are seen as a plain array, so that nothing of theirs is used.
  */
-export function abytes(bytes, length) {
-  if (!(bytes instanceof Uint8Array || (ArrayBuffer.isView(bytes) && bytes.constructor.name === 'Uint8Array')))
+export function abytes(given, length) {
+  if (!(given instanceof Uint8Array || (ArrayBuffer.isView(given) && given.constructor.name === 'Uint8Array')))
     throw new Error('Uint8Array expected');
+  const prototype = Object.getPrototypeOf(given);
+  const isPlain = (prototype === PLAIN || prototype === BUFFER) && !hasOwnProperty.call(given, 'length');
+  const bytes = isPlain ? given : seen(given);
   if (length !== undefined && bytes.length !== length)
     throw new Error(`Uint8Array expected of length ${length}, got length=${bytes.length}`);
-  if (!bytes.length) return NONE;
-  const prototype = Object.getPrototypeOf(bytes);
-  return prototype === PLAIN || prototype === BUFFER ? bytes
-    : new Uint8Array(bytes.buffer, bytes.byteOffset, bytes.length);
+  return bytes.length ? bytes : NONE;
 }
 
 /** The check of @noble/hashes. */

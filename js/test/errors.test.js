@@ -40,6 +40,28 @@ test('no bytes', async () => {
   assert.equal(hex(mac.update('c').digest()), tagOf(key, 'abc'));
 });
 
+test('lengths that arrays do not have', async () => {
+  const bytes = () => new Uint8Array(1000).fill(7), right = digestOf(bytes());
+  class Longer extends Uint8Array {
+    get length() { return 5000; }
+  }
+  const own = (property) => Object.defineProperty(bytes(), 'length', property);
+  let last = 1000;
+  for (const data of [new Longer(1000).fill(7), own({ value: 5000 }), own({ value: 3 }), own({ get: () => last++ }),
+    Object.defineProperty(Buffer.from(bytes()), 'length', { value: 100000 }), own({ value: Infinity })]) {
+    for (const one of [ripemd160, alone]) {
+      assert.equal(hex(one(data)), right);
+      assert.equal(hex(one.create().update(data).digest()), right);
+    }
+    assert.equal(hex(await stream(ripemd160.create(), [data])), right);
+    assert.equal(hex(hmac(ripemd160, data, data)), tagOf(bytes(), bytes()));
+    assert.equal(ripemd160.each(data, 500).length, 2);
+    refused(() => ripemd160.load(data), 'Uint8Array expected of length 92, got length=1000');
+  }
+  const place = Object.defineProperty(new Uint8Array(3), 'length', { value: 20 });
+  refused(() => ripemd160.create().digestInto(place), 'digestInto() expects output buffer of length at least 20');
+});
+
 test('places of the wrong length', () => {
   const hash = ripemd160.create().update('abc'), mac = hmac.create(ripemd160, key).update(text);
   for (const length of [0, 19]) {
