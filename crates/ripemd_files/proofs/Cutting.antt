@@ -1,14 +1,14 @@
 -- Lists, split into lines.
-use Rattle.std.proofs.Common.{◌≡◌, ◌≢◌, ℕ, ◌+◌, ◌-◌, ◌==◌, ◌&&◌, Bool, true, false, List, [], ◌∷◌, ◌++◌, length, take, get_or, subst, Option, Some, None, All, IfSome, refl, sym, ap, ◌∙◌, cond, arith}
+use Rattle.std.proofs.Common.{◌≡◌, ◌≢◌, ℕ, ◌+◌, ◌-◌, ◌==◌, ◌&&◌, Bool, true, false, List, [], ◌∷◌, ◌++◌, length, take, get_or, subst, Option, Some, None, All, IfSome, refl, sym, ap, ◌∙◌, cond, arith, inl, inr, append_assoc, ◌<◌}
 use Rattle.std.specs.List.{list_any}
 use Rattle.std.specs.Io.{StopsAt, appended_bytes}
 use Rattle.std.specs.Io.KnownBytes.{Consumes, IsAtEnd}
 use Rattle.std.specs.Io.BufRead.{take_through, drop_through, ends_with_byte, strip_last, DropsThrough}
 use Rattle.std.proofs.lemmas.Bool.{lt-ltb, ne_eqb, eqb-true, or_parts}
-use Rattle.std.proofs.lemmas.List.{take_all, take_more}
+use Rattle.std.proofs.lemmas.List.{append-nil, take_all, take_more}
 use Rattle.std.proofs.lemmas.List.Elements.{All-head, All-tail}
 use Rattle.std.proofs.lemmas.List.Folds.{list_any-append}
-use Rattle.ripemd_files.specs.Splitting.{lines_of, IsEnded, IsOneLine}
+use Rattle.ripemd_files.specs.Splitting.{begin_with, lines_of, IsEnded, IsOneLine, IsWhole}
 
 -- ---- the lines of a list
 
@@ -28,6 +28,40 @@ lines_last (x ∷ []) none some =
 lines_last (x ∷ y ∷ line) none some =
     let parts = or_parts (x == 10) (list_any (λ x. x == 10) (y ∷ line)) none in
     rw (parts.0, lines_last (y ∷ line) parts.1 (λ same. cc)) refl
+
+-- whole lines, and what stands behind them
+begun : (b : Bool) (y : ℕ) (lines : List (List ℕ)) → 0 < length (cond b ([] ∷ lines) (begin_with y lines))
+begun true y lines = omega arith
+begun false y [] = omega arith
+begun false y (l ∷ lines) = omega arith
+
+filled : (front : List ℕ) → 0 < length (lines_of (front ++ 10 ∷ []))
+unfolding lines_of
+filled [] = omega arith
+filled (y ∷ ys) = begun (y == 10) y (lines_of (ys ++ 10 ∷ []))
+
+one_more : (b : Bool) (x : ℕ) (lines more : List (List ℕ)) → 0 < length lines
+    → cond b ([] ∷ (lines ++ more)) (begin_with x (lines ++ more)) ≡ cond b ([] ∷ lines) (begin_with x lines) ++ more
+one_more true x lines more some = refl
+one_more false x [] more some = absurd (omega (arith, some))
+one_more false x (l ∷ lines) more some = refl
+
+lines_behind : (front rest : List ℕ) → lines_of (front ++ 10 ∷ rest) ≡ lines_of (front ++ 10 ∷ []) ++ lines_of rest
+unfolding lines_of
+lines_behind [] rest = refl
+lines_behind (x ∷ front) rest =
+    ap (λ l. cond (x == 10) ([] ∷ l) (begin_with x l)) (lines_behind front rest)
+    ∙ one_more (x == 10) x (lines_of (front ++ 10 ∷ [])) (lines_of rest) (filled front)
+
+pub cut : (bytes rest : List ℕ) → IsWhole bytes → lines_of (bytes ++ rest) ≡ lines_of bytes ++ lines_of rest
+unfolding lines_of
+cut bytes rest (inl none) = rw none refl
+cut bytes rest (inr (front, ends)) =
+    rw (ends, append_assoc front (10 ∷ []) rest) (lines_behind front rest)
+
+pub whole_more : (bytes more : List ℕ) → IsWhole bytes → IsWhole more → IsWhole (bytes ++ more)
+whole_more bytes more whole (inl none) = rw (none, append-nil) whole
+whole_more bytes more whole (inr (front, ends)) = inr (bytes ++ front, rw ends (sym (append_assoc bytes front (10 ∷ []))))
 
 -- ---- what a read through a newline took
 
@@ -89,16 +123,24 @@ ended (Some xs) new start read empty bytes rest one =
     let taken : read ≡ take_through 10 xs = bytes ∙ ap (λ (l : List ℕ). l ++ take_through 10 xs) empty in
     subst IsAtEnd (sym (rest ∙ ap Some (none_left xs (subst IsOneLine taken one)))) refl
 
--- a last line was read to an empty text
+-- a text without a newline was read to an empty one
+pub read_rest : (old new : Option (List ℕ)) (start read text : List ℕ) → start ≡ [] → StopsAt (appended_bytes start read) 10
+    → Consumes old new (appended_bytes start read) → ends_with_byte 10 read ≡ false → text ≡ strip_last 10 read
+    → (text ≡ read) × Consumes old new text × IsOneLine text
+read_rest old new start read text empty stops taken ends is =
+    let one = kept read (rw empty at stops) ends in
+    let all : Consumes old new read = rw empty at taken in
+    let same : text ≡ read = is ∙ ap (λ (b : Bool). cond b (take (length read - 1) read) read) ends in
+    rw same (refl, all, one)
+
+-- and it was the last line
 pub read_last : (old new : Option (List ℕ)) (start read text : List ℕ) → start ≡ [] → StopsAt (appended_bytes start read) 10
     → Consumes old new (appended_bytes start read) → IfSome old (λ xs. read ≡ start ++ take_through 10 xs) → DropsThrough old new 10
     → read ≢ [] → ends_with_byte 10 read ≡ false → text ≡ strip_last 10 read
     → Consumes old new text × IsEnded old new × (text ≢ []) × IsOneLine text
 read_last old new start read text empty stops taken bytes rest some ends is =
-    let one = kept read (rw empty at stops) ends in
-    let all : Consumes old new read = rw empty at taken in
-    let same : text ≡ read = is ∙ ap (λ (b : Bool). cond b (take (length read - 1) read) read) ends in
-    rw same (all, ended old new start read empty bytes rest one, some, one)
+    let line = read_rest old new start read text empty stops taken ends is in
+    (line.1, ended old new start read empty bytes rest (rw line.0 at line.2), rw line.0 some, line.2)
 
 -- what ended ended what was there before
 pub ended_since : (old now next : Option (List ℕ)) (bytes : List ℕ) → Consumes old now bytes → IsEnded now next → IsEnded old next

@@ -7,6 +7,7 @@ pub mod Ends
 pub mod Pieces
 pub mod Zips
 pub mod Outcomes
+pub mod Telling
 pub mod Printed
 pub mod Checked
 pub mod Cutting

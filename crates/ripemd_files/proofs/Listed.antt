@@ -1,5 +1,5 @@
 -- What comes of the lines of a list, one after another.
-use Rattle.std.proofs.Common.{rules, ◌≡◌, ◌≢◌, ℕ, ◌+◌, List, [], ◌∷◌, ◌++◌, codes, Option, Some, None, unwrap_or, Bool, true, false, IsTrue, MatchBool, refl, sym}
+use Rattle.std.proofs.Common.{rules, ◌≡◌, ◌≢◌, ℕ, ◌+◌, List, [], ◌∷◌, ◌++◌, codes, Option, Some, None, unwrap_or, Bool, true, false, IsTrue, MatchBool, refl, sym, inl, inr}
 use Rattle.std.specs.Prelude.{IsFalse, option_map}
 use Rattle.std.proofs.lemmas.List.{append-nil}
 use Rattle.ripemd_files.specs.declared.line.Variant.{Variant}
@@ -51,6 +51,10 @@ match_false : (A B : Type 0) (b : Bool) → IsFalse b → B → MatchBool b A B
 match_false A B true is both = absurd (search (rules, is))
 match_false A B false is both = both
 
+match_true : (A B : Type 0) (b : Bool) → IsTrue b → A → MatchBool b A B
+match_true A B true is both = both
+match_true A B false is both = absurd (search (rules, is))
+
 module _ {File : Type 0} (place : Place File) (ignore_missing : Bool) (kinds : Rules) (before after : Cursor) (text : List ℕ)
     (next : after.layout ≡ layout_after kinds before.layout text) (step : after.number ≡ before.number + 1) where
   -- the report goes on with these events
@@ -65,29 +69,42 @@ module _ {File : Type 0} (place : Place File) (ignore_missing : Bool) (kinds : R
     rw (next, step) at report,
   )
 
+  pub takes_skipped : IsTrue (is_passed_over text) → (lines : List Line) → Takes place ignore_missing kinds before after text lines lines None
+  takes_skipped skipped lines = record {
+    told = λ events zipped.
+        (events, [], sym (append-nil events), zipped, goes_on [] (match_true _ _ (is_passed_over text) skipped refl));
+    grown = inl refl;
+  }
+
   pub takes_misformatted : IsFalse (is_passed_over text) → IsEntry kinds after.layout text None → (lines : List Line)
       → Takes place ignore_missing kinds before after text lines lines (Some before.number)
-  takes_misformatted counts entry lines = λ events zipped. (
-    events,
-    [],
-    sym (append-nil events),
-    zipped,
-    goes_on (misformatted before.number ∷ [])
-        (match_false _ _ (is_passed_over text) counts (misformatted before.number, refl, (refl, entry))),
-  )
+  takes_misformatted counts entry lines = record {
+    told = λ events zipped. (
+      events,
+      [],
+      sym (append-nil events),
+      zipped,
+      goes_on (misformatted before.number ∷ [])
+          (match_false _ _ (is_passed_over text) counts (misformatted before.number, refl, (refl, entry))),
+    );
+    grown = inl refl;
+  }
 
   pub takes_said : (line : Line) → IsFalse (is_passed_over text) → IsEntry kinds after.layout text (Some line) → (lines : List Line)
       → Takes place ignore_missing kinds before after text lines (lines ++ line ∷ []) None
-  takes_said line counts entry lines = λ events zipped.
-      let (earlier, event, same, first, both) = all_zip_last (IsEventOf place ignore_missing) lines line events zipped in (
-        earlier,
-        event ∷ [],
-        same,
-        first,
-        goes_on (event ∷ [])
-            (match_false _ _ (is_passed_over text) counts (
-              event,
-              refl,
-              rw both.2 (line.variant, line.digest.items, both.0, entry, both.1, refl),
-            )),
-      )
+  takes_said line counts entry lines = record {
+    told = λ events zipped.
+        let (earlier, event, same, first, both) = all_zip_last (IsEventOf place ignore_missing) lines line events zipped in (
+          earlier,
+          event ∷ [],
+          same,
+          first,
+          goes_on (event ∷ [])
+              (match_false _ _ (is_passed_over text) counts (
+                event,
+                refl,
+                rw both.2 (line.variant, line.digest.items, both.0, entry, both.1, refl),
+              )),
+        );
+    grown = inr (line, refl, refl);
+  }

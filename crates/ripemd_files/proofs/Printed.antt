@@ -1,87 +1,69 @@
 -- What is printed of files, one after another.
-use Rattle.std.proofs.Common.{◌≡◌, ℕ, List, [], ◌∷◌, ◌++◌, map, Option, Some, None, Bool, true, ◌&&◌, refl, sym, ap, ◌∙◌, rules, append_assoc, arith, length, take, get_or, subst, ◌+◌, ◌-◌, ◌<◌, ◌≤◌, drop, Bor}
-use Rattle.std.proofs.lemmas.List.{map-append, append-nil, length-drop, length-map, length-take, get_or-map, take-map, take-take, take_more}
+use Rattle.std.proofs.Common.{◌≡◌, ℕ, List, [], ◌∷◌, ◌++◌, map, flat_map, Bool, true, ◌&&◌, refl, sym, ap, ◌∙◌, rules, arith, length, take, get_or, subst, ◌+◌, ◌-◌, ◌<◌, ◌≤◌, drop, Bor}
+use Rattle.std.proofs.lemmas.List.{map-append, append-nil, length-drop, length-map, length-take, get_or-map, take-map, take-take, take_more, take_all}
 use Rattle.std.proofs.lemmas.List.Elements.{All-append, All-cons}
 use Rattle.std.proofs.lemmas.List.Folds.{list_all-append}
 use Rattle.std.proofs.lemmas.Grind.{flat_map-append}
 use Rattle.std.proofs.Math.Bool.{and-true}
 use Rattle.std.proofs.Math.Seq.{take-add}
-use Rattle.std.proofs.KnownBytes.{Appends-nil, Appends-trans}
 use Rattle.std.specs.List.{list_all, AllZip}
 use Rattle.ripemd.specs.Standard.Hashing.{ripemd}
 use Rattle.ripemd_batch.specs.Lanes.{targets}
+use Rattle.ripemd_files.specs.declared.fault.Fault.{Fault}
+use Rattle.ripemd_files.specs.declared.fault.Fault.TheVariants.{NoMemory}
 use Rattle.ripemd_files.specs.declared.printing.Style.{Style}
 use Rattle.ripemd_files.specs.declared.outcome.Outcome.{Outcome}
 use Rattle.ripemd_files.specs.Readings.{ComesTo, OfFirst, Place, parameters_of}
-use Rattle.ripemd_files.specs.Said.{Adds, Remark, Wrote}
-use Rattle.ripemd_files.proofs.Zips.{all_zip_at}
+use Rattle.ripemd_files.specs.Said.{Item, Pends, Stops, Tells, Told, written}
+use Rattle.ripemd_files.proofs.Telling.{no_memory, pends_done, pends_more, pends_none, pends_stops, pends_undone, stops_after, stops_here, tells_more, tells_none}
+use Rattle.ripemd_files.proofs.Zips.{all_zip_at, take_within}
 use Rattle.std.proofs.lemmas.Slice.Zip.{AllZip-long}
-use Rattle.ripemd_files.specs.Printing.{PrintsAll, Reading, line_for, remarks_on, was_read}
+use Rattle.ripemd_files.specs.Printing.{Prints, PrintsAll, PrintsFirst, Reading, items_on, was_read}
 
-pub adds_none : {A : Type 0} (old : Option (List A)) → Adds old old []
-adds_none None = tt
-adds_none (Some xs) = sym (append-nil xs)
+-- what is told of some files, of which lines are not written yet
+pub record PrintsSoFar {File : Type 0} (place : Place File) (style : Style) (names : List (List ℕ)) (old new : Told) (lines : List ℕ) (all : Bool)
+    : Type 0 where
+  pub items : List Item
+  pub prints : Prints place style names items all
+  pub pends : Pends old new [] lines items
 
-pub adds_more : {A : Type 0} (a b c : Option (List A)) (xs ys : List A) → Adds a b xs → Adds b c ys → Adds a c (xs ++ ys)
-adds_more None b c xs ys first second = tt
-adds_more (Some zs) None c xs ys first second = absurd first
-adds_more (Some zs) (Some us) None xs ys first second = absurd second
-adds_more (Some zs) (Some us) (Some vs) xs ys first second = second ∙ ap (λ l. l ++ ys) first ∙ append_assoc zs xs ys
-
--- nothing is written and said
-pub wrote_none : (old : Option (List ℕ)) (before : Option (List Remark)) → Wrote old old before before [] []
-wrote_none old before = record { written = Appends-nil old; said = adds_none before }
-
--- more is written and said
-pub wrote_more : (a b c : Option (List ℕ)) (u v w : Option (List Remark)) (text more : List ℕ) (remarks others : List Remark)
-    → Wrote a b u v text remarks → Wrote b c v w more others → Wrote a c u w (text ++ more) (remarks ++ others)
-wrote_more a b c u v w text more remarks others first second = record {
-  written = Appends-trans a b c text more first.written second.written;
-  said = adds_more u v w remarks others first.said second.said;
-}
-
--- more is said
-pub wrote_said : (a b : Option (List ℕ)) (u v w : Option (List Remark)) (text : List ℕ) (remarks others : List Remark)
-    → Wrote a b u v text remarks → Adds v w others → Wrote a b u w text (remarks ++ others)
-wrote_said a b u v w text remarks others first second =
-    record { written = first.written; said = adds_more u v w remarks others first.said second }
-
--- no file
-pub prints_none : {File : Type 0} (place : Place File) (style : Style) (old : Option (List ℕ)) (before : Option (List Remark))
-    → PrintsAll place style [] old old before before true
-prints_none place style old before = record {
-  readings = [];
-  named = refl;
-  each = search rules;
-  wrote = wrote_none old before;
-  answer = refl;
-}
+no_files : {File : Type 0} (place : Place File) (style : Style) → Prints place style [] [] true
+no_files place style = record { readings = []; named = refl; each = search rules; said = refl; answer = refl }
 
 -- one file
-pub prints_one : {File : Type 0} (place : Place File) (style : Style) (name : List ℕ) (outcome : Outcome) (old new : Option (List ℕ))
-    (before after : Option (List Remark)) (read : Bool) → ComesTo place (ripemd (parameters_of style.variant)) name outcome
-    → Wrote old new before after (line_for style name outcome) (remarks_on name outcome) → read ≡ was_read outcome
-    → PrintsAll place style (name ∷ []) old new before after read
-prints_one place style name outcome old new before after read comes wrote answer = record {
+one_file : {File : Type 0} (place : Place File) (style : Style) (name : List ℕ) (outcome : Outcome)
+    → ComesTo place (ripemd (parameters_of style.variant)) name outcome → Prints place style (name ∷ []) (items_on style name outcome) (was_read outcome)
+one_file place style name outcome comes = record {
   readings = record { name = name; outcome = outcome } ∷ [];
   named = refl;
   each = All-cons (λ (r : Reading). ComesTo place (ripemd (parameters_of style.variant)) r.name r.outcome) _ [] comes (λ k d lt. absurd (omega (arith, lt)));
-  wrote = rw append-nil (rw append-nil wrote);
-  answer = answer ∙ sym (and-true (was_read outcome));
+  said = sym (append-nil (items_on style name outcome));
+  answer = sym (and-true (was_read outcome));
 }
 
 -- files, and then others
-pub prints_more : {File : Type 0} (place : Place File) (style : Style) (names others : List (List ℕ)) (a b c : Option (List ℕ))
-    (u v w : Option (List Remark)) (all more : Bool) → PrintsAll place style names a b u v all → PrintsAll place style others b c v w more
-    → PrintsAll place style (names ++ others) a c u w (all && more)
-prints_more place style names others a b c u v w all more first second = record {
+more_files : {File : Type 0} (place : Place File) (style : Style) (names others : List (List ℕ)) (xs ys : List Item) (all more : Bool)
+    → Prints place style names xs all → Prints place style others ys more → Prints place style (names ++ others) (xs ++ ys) (all && more)
+more_files place style names others xs ys all more first second = record {
   readings = first.readings ++ second.readings;
   named = map-append _ first.readings second.readings ∙ ap (λ l. l ++ map (λ (r : Reading). r.name) second.readings) first.named ∙ ap (λ l. names ++ l) second.named;
   each = All-append (λ (r : Reading). ComesTo place (ripemd (parameters_of style.variant)) r.name r.outcome) _ _ first.each second.each;
-  wrote = rw flat_map-append (rw flat_map-append (wrote_more a b c u v w _ _ _ _ first.wrote second.wrote));
+  said = ap (λ l. l ++ ys) first.said ∙ ap (λ l. flat_map (λ (r : Reading). items_on style r.name r.outcome) first.readings ++ l) second.said
+      ∙ sym (flat_map-append (λ (r : Reading). items_on style r.name r.outcome) first.readings second.readings);
   answer = ap (λ x. x && more) first.answer ∙ ap (λ x. list_all (λ (r : Reading). was_read r.outcome) first.readings && x) second.answer
       ∙ sym (list_all-append _ first.readings second.readings);
 }
+
+pub prints_none : {File : Type 0} (place : Place File) (style : Style) (old : Told) → PrintsSoFar place style [] old old [] true
+prints_none place style old = record { items = []; prints = no_files place style; pends = pends_none old [] }
+
+pub prints_nothing : {File : Type 0} (place : Place File) (style : Style) (old : Told) → PrintsAll place style [] old old true
+prints_nothing place style old = record { items = []; prints = no_files place style; tells = tells_none old }
+
+-- there is no memory for the first
+pub prints_no_memory : {File : Type 0} (place : Place File) (style : Style) (names : List (List ℕ)) (old : Told) → PrintsFirst place style names old old NoMemory
+prints_no_memory place style names old =
+    record { count = 0; items = []; all = true; prints = no_files place style; stops = stops_here ⊥ old [] }
 
 -- the next file of some that were read
 module _ {File N : Type 0} (place : Place File) (style : Style) (view : N → List ℕ) (names : List N) (outcomes : List Outcome)
@@ -89,32 +71,100 @@ module _ {File N : Type 0} (place : Place File) (style : Style) (view : N → Li
   pub as_many : length outcomes ≡ length names
   as_many = AllZip-long _ _ _ read ∙ length-map names view
 
-  pub prints_next : (k : ℕ) (name : N) (outcome : Outcome) (a b c : Option (List ℕ)) (u v w : Option (List Remark)) (all was : Bool)
-      → k < length outcomes → name ≡ get_or names k name → outcome ≡ get_or outcomes k outcome
-      → PrintsAll place style (map view (take k names)) a b u v all
-      → Wrote b c v w (line_for style (view name) outcome) (remarks_on (view name) outcome) → was ≡ was_read outcome
-      → PrintsAll place style (map view (take (k + 1) names)) a c u w (all && was)
-  prints_next k name outcome a b c u v w all was within is_name is_outcome before wrote answer =
-      let short : k < length names = omega (arith, as_many) in
-      let comes : ComesTo place (ripemd (parameters_of style.variant)) (view name) outcome =
-      subst (λ x. ComesTo place (ripemd (parameters_of style.variant)) x outcome)
-      (get_or-map view names k name (view name) short ∙ ap view (sym is_name))
-      (subst (λ x. ComesTo place (ripemd (parameters_of style.variant)) (get_or (map view names) k (view name)) x) (sym is_outcome)
-      (all_zip_at _ (map view names) outcomes k (view name) outcome read (rw length-map short))) in
-      subst (λ l. PrintsAll place style l a c u w (all && was))
-      (sym (ap (map view) (take_more names k name short ∙ ap (λ x. take k names ++ x ∷ []) (sym is_name)) ∙ map-append view (take k names) (name ∷ [])))
-      (prints_more place style _ _ a b c u v w all was before (prints_one place style (view name) outcome b c v w was comes wrote answer))
+  module _ (k : ℕ) (name : N) (outcome : Outcome) (a b c : Told) (lines : List ℕ) (all : Bool) (within : k < length outcomes)
+      (is_name : name ≡ get_or names k name) (is_outcome : outcome ≡ get_or outcomes k outcome)
+      (before : PrintsSoFar place style (map view (take k names)) a b lines all) where
+    next : Prints place style (map view (take (k + 1) names)) (before.items ++ items_on style (view name) outcome) (all && was_read outcome)
+    next =
+        let short : k < length names = omega (arith, as_many) in
+        let comes : ComesTo place (ripemd (parameters_of style.variant)) (view name) outcome =
+        subst (λ x. ComesTo place (ripemd (parameters_of style.variant)) x outcome)
+        (get_or-map view names k name (view name) short ∙ ap view (sym is_name))
+        (subst (λ x. ComesTo place (ripemd (parameters_of style.variant)) (get_or (map view names) k (view name)) x) (sym is_outcome)
+        (all_zip_at _ (map view names) outcomes k (view name) outcome read (rw length-map short))) in
+        subst (λ l. Prints place style l (before.items ++ items_on style (view name) outcome) (all && was_read outcome))
+        (sym (ap (map view) (take_more names k name short ∙ ap (λ x. take k names ++ x ∷ []) (sym is_name)) ∙ map-append view (take k names) (name ∷ [])))
+        (more_files place style _ _ before.items (items_on style (view name) outcome) all (was_read outcome) before.prints (one_file place style (view name) outcome comes))
 
--- the files from a place on, behind those before it
-pub prints_on : {File N : Type 0} (place : Place File) (style : Style) (view : N → List ℕ) (names : List N) (start end : ℕ)
-    (a b c : Option (List ℕ)) (u v w : Option (List Remark)) (all more : Bool) → start ≤ end
-    → PrintsAll place style (map view (take start names)) a b u v all
-    → PrintsAll place style (map view (take (end - start) (drop start names))) b c v w more
-    → PrintsAll place style (map view (take end names)) a c u w (all && more)
-prints_on place style view names start end a b c u v w all more le first second =
-    subst (λ l. PrintsAll place style l a c u w (all && more))
-    (sym (map-append view (take start names) (take (end - start) (drop start names))) ∙ ap (map view) (sym (take-add start (end - start) names) ∙ ap (λ n. take n names) (omega arith)))
-    (prints_more place style _ _ a b c u v w all more first second)
+    pub prints_next : (more : List ℕ) (was : Bool) → Pends b c lines more (items_on style (view name) outcome) → was ≡ was_read outcome
+        → PrintsSoFar place style (map view (take (k + 1) names)) a c more (all && was)
+    prints_next more was pends answer = record {
+      items = before.items ++ items_on style (view name) outcome;
+      prints = rw answer next;
+      pends = pends_more a b c [] lines more before.items (items_on style (view name) outcome) before.pends pends;
+    }
+
+    -- where the run ends
+    pub prints_till : (fault : Fault) → Stops ⊥ b c (written lines ++ items_on style (view name) outcome) fault
+        → PrintsFirst place style (map view names) a c fault
+    prints_till fault stops = record {
+      count = k + 1;
+      items = before.items ++ items_on style (view name) outcome;
+      all = all && was_read outcome;
+      prints = rw take-map next;
+      stops = pends_stops ⊥ a b c lines before.items (items_on style (view name) outcome) fault before.pends stops;
+    }
+
+  -- all of them
+  module _ (k : ℕ) (a b c : Told) (lines : List ℕ) (all : Bool) (over : length outcomes ≤ k)
+      (before : PrintsSoFar place style (map view (take k names)) a b lines all) where
+    whole : Prints place style (map view names) before.items all
+    whole = rw (take_all k names (omega (arith, as_many, over))) at before.prints
+
+    pub prints_end : Tells b c (written lines) → PrintsAll place style (map view names) a c all
+    prints_end wrote =
+        record { items = before.items; prints = whole; tells = pends_done a b c lines before.items before.pends wrote }
+
+    pub prints_unwritten : (fault : Fault) → Stops ⊥ b c (written lines) fault → PrintsFirst place style (map view names) a c fault
+    prints_unwritten fault stops = record {
+      count = length (map view names);
+      items = before.items;
+      all = all;
+      prints = rw (take_all (length (map view names)) (map view names) (omega arith)) whole;
+      stops = pends_undone ⊥ a b c lines before.items fault before.pends stops;
+    }
+
+-- the files from a place on, after those before it
+module _ {File N : Type 0} (place : Place File) (style : Style) (view : N → List ℕ) (names : List N) (start : ℕ) (a b c : Told) (all : Bool)
+    (first : PrintsAll place style (map view (take start names)) a b all) where
+  pub prints_on : (end : ℕ) (more : Bool) → start ≤ end → PrintsAll place style (map view (take (end - start) (drop start names))) b c more
+      → PrintsAll place style (map view (take end names)) a c (all && more)
+  prints_on end more le second = record {
+    items = first.items ++ second.items;
+    prints = subst (λ l. Prints place style l (first.items ++ second.items) (all && more))
+        (sym (map-append view (take start names) (take (end - start) (drop start names))) ∙ ap (map view) (sym (take-add start (end - start) names) ∙ ap (λ n. take n names) (omega arith)))
+        (more_files place style _ _ first.items second.items all more first.prints second.prints);
+    tells = tells_more a b c first.items second.items first.tells second.tells;
+  }
+
+  -- or the first of these
+  pub prints_part : (end : ℕ) (fault : Fault) → PrintsFirst place style (map view (take (end - start) (drop start names))) b c fault
+      → PrintsFirst place style (map view names) a c fault
+  prints_part end fault second =
+      let (count, same) = take_within second.count (end - start) (drop start names) in
+      record {
+        count = start + count;
+        items = first.items ++ second.items;
+        all = all && second.all;
+        prints = subst (λ l. Prints place style l (first.items ++ second.items) (all && second.all))
+            (ap (λ l. map view (take start names) ++ l) (take-map view second.count _ ∙ ap (map view) same)
+            ∙ sym (map-append view (take start names) (take count (drop start names)))
+            ∙ ap (map view) (sym (take-add start count names))
+            ∙ sym (take-map view (start + count) names))
+            (more_files place style _ _ first.items second.items all second.all first.prints second.prints);
+        stops = stops_after ⊥ a b c first.items second.items fault first.tells second.stops;
+      }
+
+-- there is no memory for the next
+pub prints_no_more : {File N : Type 0} (place : Place File) (style : Style) (view : N → List ℕ) (names : List N) (start : ℕ) (a b : Told) (all : Bool)
+    → PrintsAll place style (map view (take start names)) a b all → PrintsFirst place style (map view names) a b NoMemory
+prints_no_more place style view names start a b all first = record {
+  count = start;
+  items = first.items;
+  all = all;
+  prints = rw take-map first.prints;
+  stops = no_memory ⊥ a b first.items first.tells;
+}
 
 -- the first of the files from a place on
 pub first_from : (R : List ℕ → Outcome → Type 0) (names : List (Bor (List ℕ))) (outcomes : List Outcome) (start count : ℕ)

@@ -5,6 +5,13 @@ use Rattle.std.proofs.lemmas.Slice.Zip.{AllZip-long, all_zipped_more}
 use Rattle.std.specs.List.{AllZip}
 use Rattle.ripemd_files.specs.Readings.{OfFirst}
 
+-- the first of the first of some items are the first of all
+pub take_within : {X : Type 0} (c n : ℕ) (xs : List X) → (m : ℕ) × (take c (take n xs) ≡ take m xs)
+take_within zero n xs = (0, refl)
+take_within (suc c) zero xs = (0, refl)
+take_within (suc c) (suc n) [] = (0, refl)
+take_within (suc c) (suc n) (x ∷ xs) = let (m, same) = take_within c n xs in (suc m, ap (λ l. x ∷ l) same)
+
 -- the item of the first list at the next place
 pub all_zip_next : {A B : Type 0} (R : A → B → Type 0) (xs : List A) (ys : List B) (i : ℕ) (x : A) (y : B) → i < length xs
     → get_or xs i x ≡ x → AllZip R (take i xs) ys → R x y → AllZip R (take (i + 1) xs) (ys ++ y ∷ [])

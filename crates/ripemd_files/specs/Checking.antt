@@ -1,5 +1,5 @@
 -- What a check says of the files that a list names, and how it ends.
-use Rattle.std.specs.Prelude.{◌≡◌, ◌-◌, ◌^◌, ℕ, List, [], ◌∷◌, ◌++◌, codes, flat_map, Option, Bool, true, false, ◌&&◌, ◌||◌, ◌==◌, not, if◌then◌else◌, count_by, min}
+use Rattle.std.specs.Prelude.{◌≡◌, ◌-◌, ◌^◌, ℕ, List, [], ◌∷◌, ◌++◌, codes, Bool, true, false, ◌&&◌, ◌||◌, ◌==◌, not, if◌then◌else◌, count_by, min}
 use Rattle.std.specs.List.{list_any, AllZip}
 use Rattle.std.specs.Str.{bytes_eq}
 use Rattle.std.specs.IoError.{error_kind}
@@ -19,7 +19,7 @@ use Rattle.ripemd_files.specs.declared.verdict.Options.{Options}
 use Rattle.ripemd_files.specs.declared.verdict.Tally.{Tally}
 use Rattle.ripemd_files.specs.Lines.{mark_of, text_of}
 use Rattle.ripemd_files.specs.Readings.{Place, ComesTo, parameters_of}
-use Rattle.ripemd_files.specs.Said.{Remark, Wrote, about_list, unreadable}
+use Rattle.ripemd_files.specs.Said.{Item, about_list, unreadable, written}
 
 -- ---- verdicts
 
@@ -65,16 +65,20 @@ abbrev pub line_of_event : Options → Event → List ℕ
 line_of_event options (misformatted number) = []
 line_of_event options (checked name verdict) = if options.status then [] else report_of options.quiet name verdict
 
-abbrev pub remarks_on_verdict : List ℕ → Verdict → List Remark
+abbrev pub remarks_on_verdict : List ℕ → Verdict → List Item
 remarks_on_verdict name (Unreadable error) = unreadable name error ∷ []
 remarks_on_verdict name Matches = []
 remarks_on_verdict name Differs = []
 remarks_on_verdict name Missing = []
 
 -- what is remarked on it
-abbrev pub remarks_on_event : Options → Event → List Remark
+abbrev pub remarks_on_event : Options → Event → List Item
 remarks_on_event options (misformatted number) = if options.warn then about_list (complaints.Misformatted number) ∷ [] else []
 remarks_on_event options (checked name verdict) = remarks_on_verdict name verdict
+
+-- what is told of it: the remark, and then the line
+abbrev pub items_of_event : Options → Event → List Item
+items_of_event options event = remarks_on_event options event ++ written (line_of_event options event)
 
 -- ---- how a check ends
 
@@ -110,11 +114,11 @@ pub record IsTally (events : List Event) (tally : Tally) : Type 0 where
   pub matched : tally.matched ≡ list_any (has_verdict is_match) events
   pub checked : tally.checked ≡ list_any (has_verdict (λ verdict. true)) events
 
-abbrev pub remark_where : Bool → Complaint → List Remark
+abbrev pub remark_where : Bool → Complaint → List Item
 remark_where wrong complaint = if wrong then about_list complaint ∷ [] else []
 
 -- what is remarked of the counts that are not 0, and where no file was verified
-abbrev pub count_remarks : Options → Tally → List Remark
+abbrev pub count_remarks : Options → Tally → List Item
 count_remarks options tally =
     remark_where (not (tally.misformatted == 0)) (complaints.MisformattedLines tally.misformatted)
     ++ (remark_where (not (tally.unreadable == 0)) (complaints.UnreadableFiles tally.unreadable)
@@ -122,7 +126,7 @@ count_remarks options tally =
     ++ remark_where (options.ignore_missing && not tally.matched) complaints.NothingVerified))
 
 -- what is remarked at the end of a list
-abbrev pub closing_remarks : Options → Tally → List Remark
+abbrev pub closing_remarks : Options → Tally → List Item
 closing_remarks options tally =
     if not tally.checked then about_list complaints.NoLines ∷ []
     else if options.status then []
@@ -150,10 +154,7 @@ IsEventOf place ignore_missing line event =
     (outcome : Outcome) × IsOutcomeOf place line outcome
     × (event ≡ checked line.name.items (verdict_of ignore_missing line.digest.items outcome))
 
--- the files that some lines name were read, and what was found was written and counted
-pub record ChecksLines {File : Type 0} (place : Place File) (options : Options) (lines : List Line) (old new : Option (List ℕ))
-    (before after : Option (List Remark)) (tally next : Tally) : Type 0 where
-  pub events : List Event
+-- the files that some lines name were read, and what was found is these events
+pub record Events {File : Type 0} (place : Place File) (options : Options) (lines : List Line) (events : List Event) (tally next : Tally) : Type 0 where
   pub each : AllZip (IsEventOf place options.ignore_missing) lines events
-  pub wrote : Wrote old new before after (flat_map (line_of_event options) events) (flat_map (remarks_on_event options) events)
   pub counts : (earlier : List Event) → IsTally earlier tally → IsTally (earlier ++ events) next

@@ -18,7 +18,7 @@ IsContent bytes_of place hash name (Short message) = Gives (place.opens name) pl
 IsContent bytes_of place hash name (Long digest) =
     (message : List ℕ) × Gives (place.opens name) place.left message × (bytes_of digest ≡ hash message)
 IsContent bytes_of place hash name (Refused error) = place.refuses name error
-IsContent bytes_of place hash name (Broken error) = Breaks (place.opens name) place.left place.may_fail
+IsContent bytes_of place hash name (Broken error) = Breaks (place.opens name) place.left place.may_fail error
 
 -- the message of a short file; of all others the empty one
 abbrev pub message_in : {T : Type 0} → Content T → List ℕ

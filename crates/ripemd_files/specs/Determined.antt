@@ -1,43 +1,68 @@
 -- What is right where all is known of a folder.
-use Rattle.std.specs.Prelude.{◌≡◌, ℕ, ◌^◌, ◌<◌, List, length, Option, Some, Result, Ok, Err, Bool}
+use Rattle.std.specs.Prelude.{◌≡◌, ℕ, ◌^◌, ◌<◌, List, ◌++◌, length, Option, Some, Result, Ok, Err, Bool}
 use Rattle.std.specs.declared.io.Error.{Error}
 use Rattle.ripemd_files.specs.declared.line.Layout.{Layout}
 use Rattle.ripemd_files.specs.declared.list.Rules.{Rules}
 use Rattle.ripemd_files.specs.declared.printing.Style.{Style}
 use Rattle.ripemd_files.specs.declared.verdict.Options.{Options}
-use Rattle.ripemd_files.specs.Lists.{ChecksList}
-use Rattle.ripemd_files.specs.Printing.{PrintsAll}
+use Rattle.ripemd_files.specs.declared.fault.Fault.{Fault}
+use Rattle.ripemd_files.specs.Lists.{ChecksList, StopsList}
+use Rattle.ripemd_files.specs.Printing.{PrintsAll, PrintsFirst}
 use Rattle.ripemd_files.specs.Readings.{Place}
-use Rattle.ripemd_files.specs.Said.{Remark}
+use Rattle.ripemd_files.specs.Said.{Item, Told}
+use Rattle.ripemd_files.specs.Splitting.{ListState}
 
 -- Each name gives this: the bytes of its file, or the error of opening it. No read fails, and no file is too long.
 pub record IsKnown {File : Type 0} (place : Place File) (contents : List ℕ → Result (List ℕ) Error) : Type 0 where
   pub opened : (name : List ℕ) (file : File) → place.opens name file
       → (bytes : List ℕ) × (contents name ≡ Ok bytes) × (place.left file ≡ Some bytes) × (length bytes < 2 ^ 61)
   pub refused : (name : List ℕ) (error : Error) → place.refuses name error → contents name ≡ Err error
-  pub sound : (file : File) → ¬ place.may_fail file
+  pub sound : (file : File) (error : Error) → ¬ place.may_fail file error
 
--- what was written and remarked before a run
-pub record Before : Type 0 where
-  pub text : List ℕ
-  pub remarks : List Remark
+-- a list of these bytes before a check, and what was told before
+pub record Start : Type 0 where
+  pub list : List ℕ
+  pub failed : Bool
+  pub items : List Item
+  pub failure : Option Error
 
--- what is written and remarked after it, and what it answers
-pub record After : Type 0 where
-  pub text : Option (List ℕ)
-  pub remarks : Option (List Remark)
-  pub answer : Bool
+-- the list and the log then
+abbrev pub list_before : Start → ListState
+list_before start = record { left = Some start.list; failed = start.failed }
 
--- a report on a list of these bytes: how a check of it may end
-pub record Report {File : Type 0} (place : Place File) (options : Options) (rules : Rules) (first : Option Layout) (list : List ℕ) (before : Before)
-    : Type 0 where
-  pub left : Option (List ℕ)
+abbrev pub told_before : Start → Told
+told_before start = record { items = Some start.items; failure = start.failure }
+
+-- a report on the list: how a check of it may end
+pub record Report {File : Type 0} (place : Place File) (options : Options) (rules : Rules) (first : Option Layout) (start : Start) : Type 0 where
+  pub left : ListState
   pub last : Option Layout
-  pub after : After
-  pub checks : ChecksList place options rules first last (Some list) left (Some before.text) after.text (Some before.remarks) after.remarks
-      after.answer
+  pub told : Told
+  pub success : Bool
+  pub checks : ChecksList place options rules first last (list_before start) left (told_before start) told success
+
+-- or how it may end before its end
+pub record EarlyEnd {File : Type 0} (place : Place File) (options : Options) (rules : Rules) (first : Option Layout) (start : Start) : Type 0 where
+  pub left : ListState
+  pub told : Told
+  pub fault : Fault
+  pub stops : StopsList place options rules first (list_before start) left (told_before start) told fault
 
 -- a print of files of these names: what may be printed of them
-pub record Print {File : Type 0} (place : Place File) (style : Style) (names : List (List ℕ)) (before : Before) : Type 0 where
-  pub after : After
-  pub prints : PrintsAll place style names (Some before.text) after.text (Some before.remarks) after.remarks after.answer
+pub record Print {File : Type 0} (place : Place File) (style : Style) (names : List (List ℕ)) (start : Told) : Type 0 where
+  pub told : Told
+  pub all : Bool
+  pub prints : PrintsAll place style names start told all
+
+-- what was told till one end is the front of what was told till another
+pub record IsFront (before : List Item) (early late : Option (List Item)) : Type 0 where
+  pub first : List Item
+  pub rest : List Item
+  pub is_early : early ≡ Some (before ++ first)
+  pub is_late : late ≡ Some (before ++ (first ++ rest))
+
+-- a print that ended before its end
+pub record EarlyPrint {File : Type 0} (place : Place File) (style : Style) (names : List (List ℕ)) (start : Told) : Type 0 where
+  pub told : Told
+  pub fault : Fault
+  pub prints : PrintsFirst place style names start told fault

@@ -1,5 +1,5 @@
 -- What a check of a list says: what comes of each of its lines, and how it ends.
-use Rattle.std.specs.Prelude.{◌≡◌, ◌≢◌, ◌+◌, ℕ, List, [], ◌∷◌, ◌++◌, codes, flat_map, Option, Some, None, unwrap_or, Bool, true, false, ◌&&◌, ◌||◌, ◌==◌, if◌then◌else◌, IsTrue, MatchBool, ⊤}
+use Rattle.std.specs.Prelude.{◌≡◌, ◌≢◌, ◌⊎◌, ◌+◌, ◌-◌, ◌^◌, ◌≤◌, ℕ, List, [], ◌∷◌, ◌++◌, codes, flat_map, length, Option, Some, None, unwrap_or, Bool, true, false, ◌||◌, ◌==◌, if◌then◌else◌, IsTrue, MatchBool, ⊤}
 use Rattle.std.specs.Io.BufRead.{strip_last}
 use Rattle.std.specs.Io.KnownBytes.{Consumes}
 use Rattle.ripemd.specs.Standard.Hashing.{ripemd}
@@ -14,10 +14,11 @@ use Rattle.ripemd_files.specs.declared.verdict.Tally.{Tally}
 use Rattle.ripemd_files.specs.Lines.{IsLine}
 use Rattle.ripemd_files.specs.Reading.{first_of_two}
 use Rattle.ripemd_files.specs.Layouts.{layout_of}
-use Rattle.ripemd_files.specs.Splitting.{lines_of, IsEnded}
+use Rattle.ripemd_files.specs.Splitting.{lines_of, IsEnded, IsOneLine, IsWhole, ListState}
 use Rattle.ripemd_files.specs.Readings.{Place, ComesTo, parameters_of}
-use Rattle.ripemd_files.specs.Said.{Remark, Wrote, about_list}
-use Rattle.ripemd_files.specs.Checking.{Event, IsTally, checked, closing_remarks, is_success, line_of_event, misformatted, remarks_on_event, verdict_of}
+use Rattle.ripemd_files.specs.declared.fault.Fault.{Fault}
+use Rattle.ripemd_files.specs.Said.{Item, Stops, Tells, Told, about_list}
+use Rattle.ripemd_files.specs.Checking.{Event, IsTally, checked, closing_remarks, is_success, items_of_event, misformatted, verdict_of}
 
 -- ---- lines
 
@@ -79,26 +80,68 @@ Reports place ignore_missing rules layout number (text ∷ rest) events last =
 
 -- ---- checks
 
--- the list was read to its end, or up to a read that failed, and these were its whole lines till then
-abbrev pub WasRead : Bool → Option (List ℕ) → Option (List ℕ) → List ℕ → Type 0
-WasRead whole old new bytes =
-    MatchBool whole (Consumes old new bytes × IsEnded old new) ((rest : List ℕ) × Consumes old new (bytes ++ rest))
+-- how far a check came: to some line, to the end of the list, or to a read of it that failed
+pub data Stage : Type 0 where
+  among : Stage
+  ended : Stage
+  failed : Stage
+
+-- What was read has these lines and others behind them, and then what is no whole line. To the end all was read, and no read
+-- failed; where one did, nothing stands behind these lines but the front of one.
+abbrev pub Reaches : Stage → (old new : ListState) → (behind : List (List ℕ)) → (rest : List ℕ) → Type 0
+Reaches among old new behind rest = ⊤
+Reaches ended old new behind rest = (behind ≡ []) × (rest ≡ []) × IsEnded old.left new.left × (new.failed ≡ old.failed)
+Reaches failed old new behind rest = (behind ≡ []) × IsOneLine rest × (new.failed ≡ true)
+
+-- these lines were read from a list
+pub record WasRead (stage : Stage) (old new : ListState) (lines : List (List ℕ)) : Type 0 where
+  pub bytes : List ℕ
+  pub rest : List ℕ
+  pub behind : List (List ℕ)
+  pub consumed : Consumes old.left new.left (bytes ++ rest)
+  pub cut : IsWhole bytes ⊎ ((rest ≡ []) × IsEnded old.left new.left)
+  pub split : lines_of bytes ≡ lines ++ behind
+  pub reached : Reaches stage old new behind rest
 
 -- what is remarked at the end
-abbrev pub last_remarks : Bool → Options → Tally → List Remark
-last_remarks whole options tally = if whole then closing_remarks options tally else about_list complaints.Unreadable ∷ []
+abbrev pub last_remarks : Stage → Options → Tally → List Item
+last_remarks among options tally = []
+last_remarks ended options tally = closing_remarks options tally
+last_remarks failed options tally = about_list complaints.Unreadable ∷ []
 
--- A list was read and checked: what came of each of its lines was written and remarked, and then what was counted.
--- It succeeds if all of it was read, and its counts say so.
-pub record ChecksList {File : Type 0} (place : Place File) (options : Options) (rules : Rules) (first last : Option Layout)
-    (old new : Option (List ℕ)) (written now : Option (List ℕ)) (before after : Option (List Remark)) (success : Bool) : Type 0 where
-  pub whole : Bool
-  pub bytes : List ℕ
+-- these lines were read and checked, and this is told of them: what came of each, and then what was counted
+pub record IsReport {File : Type 0} (place : Place File) (options : Options) (rules : Rules) (first last : Option Layout)
+    (old new : ListState) (stage : Stage) (items : List Item) (tally : Tally) : Type 0 where
+  pub lines : List (List ℕ)
   pub events : List Event
-  pub tally : Tally
-  pub read : WasRead whole old new bytes
-  pub reports : Reports place options.ignore_missing rules first 1 (lines_of bytes) events last
+  pub read : WasRead stage old new lines
+  pub reports : Reports place options.ignore_missing rules first 1 lines events last
   pub counts : IsTally events tally
-  pub wrote : Wrote written now before after (flat_map (line_of_event options) events)
-      (flat_map (remarks_on_event options) events ++ last_remarks whole options tally)
-  pub answer : success ≡ whole && is_success options tally
+  pub said : items ≡ flat_map (items_of_event options) events ++ last_remarks stage options tally
+
+-- a check succeeds if all of the list was read, and its counts say so
+abbrev pub succeeds : Stage → Options → Tally → Bool
+succeeds among options tally = false
+succeeds ended options tally = is_success options tally
+succeeds failed options tally = false
+
+-- a list was checked, to its end or to a read of it that failed
+pub record ChecksList {File : Type 0} (place : Place File) (options : Options) (rules : Rules) (first last : Option Layout)
+    (old new : ListState) (before after : Told) (success : Bool) : Type 0 where
+  pub stage : Stage
+  pub items : List Item
+  pub tally : Tally
+  pub report : IsReport place options rules first last old new stage items tally
+  pub is_over : stage ≢ among
+  pub tells : Tells before after items
+  pub answer : success ≡ succeeds stage options tally
+
+-- or the run ended before, when the first part of a report was told
+pub record StopsList {File : Type 0} (place : Place File) (options : Options) (rules : Rules) (first : Option Layout)
+    (old new : ListState) (before after : Told) (fault : Fault) : Type 0 where
+  pub stage : Stage
+  pub items : List Item
+  pub tally : Tally
+  pub last : Option Layout
+  pub report : IsReport place options rules first last old new stage items tally
+  pub stops : Stops (2 ^ 64 - 1 ≤ length (lines_of (report.read.bytes ++ report.read.rest))) before after items fault

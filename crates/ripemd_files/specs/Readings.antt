@@ -2,7 +2,9 @@
 use Rattle.std.specs.Prelude.{◌≡◌, ℕ, ◌^◌, ◌<◌, ◌≤◌, ◌⊎◌, List, length, take, Option, None, ⊤}
 use Rattle.std.specs.List.{AllZip}
 use Rattle.std.specs.Io.KnownBytes.{Consumes, IsAtEnd}
+use Rattle.std.specs.IoError.{error_kind}
 use Rattle.std.specs.declared.io.Error.{Error}
+use Rattle.std.specs.declared.io.ErrorKind.TheVariants.{FileTooLarge}
 use Rattle.ripemd.specs.Standard.Compression.{Parameters, ripemd128, ripemd160, ripemd256, ripemd320}
 use Rattle.ripemd_files.specs.declared.line.Variant.{Variant}
 use Rattle.ripemd_files.specs.declared.line.Variant.TheVariants.{R128, R160, R256, R320}
@@ -28,30 +30,32 @@ pub record Gives {File : Type 0} (IsOpened : File → Type 0) (left : File → O
   pub gave : Gave IsOpened left message ended
   pub at_end : IsAtEnd (left ended)
 
--- a file that was opened so fails, or gives too many bytes for the length in bits to fit into 64 bits
-pub record Breaks {File : Type 0} (IsOpened : File → Type 0) (left : File → Option (List ℕ)) (may_fail : File → Type 0) : Type 0 where
+-- a file that was opened so fails with this error, which, if it gives too many bytes for the length in bits to fit into 64 bits,
+-- says so
+pub record Breaks {File : Type 0} (IsOpened : File → Type 0) (left : File → Option (List ℕ)) (may_fail : File → Error → Type 0) (error : Error)
+    : Type 0 where
   pub bytes : List ℕ
   pub now : File
   pub gave : Gave IsOpened left bytes now
-  pub fails : may_fail now ⊎ (2 ^ 61 ≤ length bytes)
+  pub fails : may_fail now error ⊎ ((2 ^ 61 ≤ length bytes) × (error_kind error ≡ FileTooLarge))
 
 -- What a folder is: which files a name opens there, and which errors opening it gives; what an opened file has
--- left, where that is known, and whether a read of it may fail.
+-- left, where that is known, and with which errors a read of it may fail.
 pub record Place (File : Type 0) : Type 1 where
   pub opens : List ℕ → File → Type 0
   pub refuses : List ℕ → Error → Type 0
   pub left : File → Option (List ℕ)
-  pub may_fail : File → Type 0
+  pub may_fail : File → Error → Type 0
 
 -- a folder of which nothing is known
 abbrev pub any_place : {File : Type 0} → Place File
-any_place = record { opens = λ name file. ⊤; refuses = λ name error. ⊤; left = λ file. None; may_fail = λ file. ⊤ }
+any_place = record { opens = λ name file. ⊤; refuses = λ name error. ⊤; left = λ file. None; may_fail = λ file error. ⊤ }
 
 -- reading the file of a name comes to this digest or error
 abbrev pub ComesTo : {File : Type 0} → Place File → (List ℕ → List ℕ) → List ℕ → Outcome → Type 0
 ComesTo place hash name (Digest digest) = (message : List ℕ) × Gives (place.opens name) place.left message × (digest.items ≡ hash message)
 ComesTo place hash name (Refused error) = place.refuses name error
-ComesTo place hash name (Broken error) = Breaks (place.opens name) place.left place.may_fail
+ComesTo place hash name (Broken error) = Breaks (place.opens name) place.left place.may_fail error
 
 -- these belong, in order, to the first of some items, and to one at least
 pub record OfFirst {A B : Type 0} (R : A → B → Type 0) (items : List A) (found : List B) : Type 0 where

@@ -1,7 +1,9 @@
 -- How a list of lines is split.
-use Rattle.std.specs.Prelude.{◌≡◌, ◌≢◌, ℕ, ◌==◌, false, if◌then◌else◌, List, [], ◌∷◌, ◌++◌, Option, IfSome}
+use Rattle.std.specs.Prelude.{◌≡◌, ◌≢◌, ◌⊎◌, ℕ, ◌==◌, Bool, true, false, if◌then◌else◌, List, [], ◌∷◌, ◌++◌, Option, IfSome}
 use Rattle.std.specs.List.{list_any}
 use Rattle.std.specs.Io.KnownBytes.{Consumes, IsAtEnd}
+use Rattle.std.specs.Io.Buffered.{reader_remaining}
+use Rattle.ripemd_files.specs.declared.piece.List.{List as Reader}
 use Rattle.ripemd_files.specs.declared.piece.Piece.{Piece}
 use Rattle.ripemd_files.specs.declared.piece.Piece.TheVariants.{Line, Last, Nothing, Failed}
 
@@ -17,6 +19,11 @@ lines_of (byte ∷ rest) = if byte == 10 then [] ∷ lines_of rest else begin_wi
 
 -- ---- as they are read
 
+-- what is left of a list, where that is known, and whether a read of it failed
+pub record ListState : Type 0 where
+  pub left : Option (List ℕ)
+  pub failed : Bool
+
 -- if it was known what is left, nothing is left now
 abbrev pub IsEnded : Option (List ℕ) → Option (List ℕ) → Type 0
 IsEnded old new = IfSome old (λ _. IsAtEnd new)
@@ -25,9 +32,26 @@ IsEnded old new = IfSome old (λ _. IsAtEnd new)
 abbrev pub IsOneLine : List ℕ → Type 0
 IsOneLine text = list_any (λ x. x == 10) text ≡ false
 
+-- whole lines: the last one ends with a newline, too
+abbrev pub IsWhole : List ℕ → Type 0
+IsWhole bytes = (bytes ≡ []) ⊎ ((front : List ℕ) × (bytes ≡ front ++ 10 ∷ []))
+
 -- what was read of a list is this, and this text
 abbrev pub IsPiece : Option (List ℕ) → Option (List ℕ) → List ℕ → Piece → Type 0
 IsPiece old new text Line = Consumes old new (text ++ 10 ∷ []) × IsOneLine text
 IsPiece old new text Last = Consumes old new text × IsEnded old new × (text ≢ []) × IsOneLine text
 IsPiece old new text Nothing = Consumes old new [] × IsEnded old new
-IsPiece old new text Failed = (bytes : List ℕ) × Consumes old new bytes
+IsPiece old new text Failed = Consumes old new text × IsOneLine text
+
+-- whether a read failed
+abbrev pub is_failure : Piece → Bool
+is_failure Failed = true
+is_failure _ = false
+
+-- some bytes of the list were read
+abbrev pub ReadsOn : Option (List ℕ) → Option (List ℕ) → Type 0
+ReadsOn old new = (bytes : List ℕ) × Consumes old new bytes
+
+-- the state of a list that is read through a buffer
+abbrev pub state_of : {R : Type 0} → (R → Option (List ℕ)) → Reader R → ListState
+state_of remaining list = record { left = reader_remaining remaining list.reader; failed = list.failed }

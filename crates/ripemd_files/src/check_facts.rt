@@ -1,14 +1,16 @@
 //! What is proved of the definitions of prints and checks: worked cases, and that one thing is right. The
 //! functions do nothing; their contracts are the facts.
 
-ghost use Rattle.std.specs.Prelude.{◌≡◌, ℕ, List, [], ◌∷◌, Bool, IsTrue, Option, Result, length};
+ghost use Rattle.std.specs.Prelude.{◌≡◌, ◌≢◌, ◌⊎◌, ℕ, List, [], ◌∷◌, Bool, Option, Some, Result, length};
 ghost use Rattle.std.specs.declared.io.Error.{Error};
 ghost use Rattle.ripemd_files.specs.declared.outcome.Outcome.{Outcome};
 ghost use Rattle.ripemd_files.specs.declared.line.Layout.{Layout};
 ghost use Rattle.ripemd_files.specs.declared.list.Rules.{Rules};
 ghost use Rattle.ripemd_files.specs.declared.printing.Style.{Style};
 ghost use Rattle.ripemd_files.specs.declared.verdict.Options.{Options};
-ghost use Rattle.ripemd_files.specs.Determined.{Before, IsKnown, Print, Report};
+ghost use Rattle.ripemd_files.specs.Determined.{EarlyEnd, EarlyPrint, IsFront, IsKnown, Print, Report, Start};
+ghost use Rattle.ripemd_files.specs.Lists.{ended, failed};
+ghost use Rattle.ripemd_files.specs.Said.{Item};
 ghost use Rattle.ripemd_files.specs.Contents.{IsDigest};
 ghost use Rattle.ripemd_files.specs.Checking.{Event};
 ghost use Rattle.ripemd_files.specs.WorkedChecks.{DigestVerdicts, ErrorVerdicts, LinesOfEvents, RemarksOnEvents, Tallies, OtherTallies, LongCounts, ClosingRemarks, Answers, PassedOver, Bodies, NextLayouts, Wanted, PrintedLines, PrintedErrors};
@@ -17,21 +19,30 @@ use crate::folder::Folder;
 
 /// Where all is known of a folder, one report on a list is right.
 pub fn one_report<F: Folder>(_folder: &F)
-    // If all of the list was read,
-    ensures whole { (contents : List ℕ → Result (List ℕ) Error) (options : Options) (rules : Rules) (first : Option Layout) (list : List ℕ)
-        (before : Before) → IsKnown (F.place _folder.now) contents → (one other : Report (F.place _folder.now) options rules first list before)
-        → IsTrue one.checks.whole → IsTrue other.checks.whole → (one.last ≡ other.last) × (one.after ≡ other.after) }
-    // or as much of it.
-    ensures as_far { (contents : List ℕ → Result (List ℕ) Error) (options : Options) (rules : Rules) (first : Option Layout) (list : List ℕ)
-        (before : Before) → IsKnown (F.place _folder.now) contents → (one other : Report (F.place _folder.now) options rules first list before)
-        → one.checks.whole ≡ other.checks.whole → length one.checks.bytes ≡ length other.checks.bytes
-        → (one.last ≡ other.last) × (one.after ≡ other.after) }
+    // If all of the list was read, or as much of it, one thing is told and answered.
+    ensures same { (contents : List ℕ → Result (List ℕ) Error) (options : Options) (rules : Rules) (first : Option Layout) (start : Start)
+        → IsKnown (F.place _folder.now) contents → (one other : Report (F.place _folder.now) options rules first start)
+        → one.checks.stage ≡ other.checks.stage
+        → one.checks.stage ≡ ended ⊎ (length one.checks.report.read.bytes ≡ length other.checks.report.read.bytes)
+        → (one.last ≡ other.last) × (one.told.items ≡ other.told.items) × (one.success ≡ other.success) }
+    // A run that ends before its end, but for a list that can't be read, told the front of it.
+    ensures early { (contents : List ℕ → Result (List ℕ) Error) (options : Options) (rules : Rules) (first : Option Layout) (start : Start)
+        → IsKnown (F.place _folder.now) contents → (one : Report (F.place _folder.now) options rules first start) → one.checks.stage ≡ ended
+        → (end : EarlyEnd (F.place _folder.now) options rules first start) → end.stops.stage ≢ failed
+        → IsFront start.items end.told.items one.told.items }
 {}
 
 /// And one print of files.
 pub fn one_print<F: Folder>(_folder: &F)
-    ensures { (contents : List ℕ → Result (List ℕ) Error) (style : Style) (names : List (List ℕ)) (before : Before)
-        → IsKnown (F.place _folder.now) contents → (one other : Print (F.place _folder.now) style names before) → one.after ≡ other.after }
+    ensures same { (contents : List ℕ → Result (List ℕ) Error) (style : Style) (names : List (List ℕ)) (before : List Item) (failure : Option Error)
+        → IsKnown (F.place _folder.now) contents
+        → (one other : Print (F.place _folder.now) style names (record { items = Some before; failure = failure }))
+        → (one.told.items ≡ other.told.items) × (one.all ≡ other.all) }
+    ensures early { (contents : List ℕ → Result (List ℕ) Error) (style : Style) (names : List (List ℕ)) (before : List Item) (failure : Option Error)
+        → IsKnown (F.place _folder.now) contents
+        → (one : Print (F.place _folder.now) style names (record { items = Some before; failure = failure }))
+        → (end : EarlyPrint (F.place _folder.now) style names (record { items = Some before; failure = failure }))
+        → IsFront before end.told.items one.told.items }
 {}
 
 /// What a check finds of files.

@@ -1,27 +1,26 @@
 //! The check of a list.
 
-ghost use Rattle.std.specs.Prelude.{◌≡◌, ◌&&◌, not, ◌<◌, ◌++◌, [], ◌∷◌, get_or, length, IfOk, OnOk};
-ghost use Rattle.std.specs.Io.KnownBytes.{Appends};
+ghost use Rattle.std.specs.Prelude.{◌≡◌, ◌&&◌, not, ◌<◌, ◌++◌, [], ◌∷◌, flat_map, get_or, length, IfErr, IfOk, OnOk, List};
 ghost use Rattle.std.specs.List.{AllZip};
 ghost use Rattle.ripemd_batch.specs.Lanes.{targets};
 ghost use Rattle.ripemd_files.specs.Readings.{OfFirst};
-ghost use Rattle.ripemd_files.specs.Said.{Adds, Wrote, about_list};
-ghost use Rattle.ripemd_files.specs.Lists.{ChecksList};
-ghost use Rattle.ripemd_files.specs.Groups.{ChecksGroup, ChecksMisformatted};
-ghost use Rattle.ripemd_files.specs.Checking.{ChecksLines, IsNamed, IsOutcomeOf, checked, closing_remarks, count_remarks, has_lines, is_success, remark_where, line_of_event, remarks_on_event, report_of, shown};
+ghost use Rattle.ripemd_files.specs.Said.{Pends, Stops, Tells, about_list, written};
+ghost use Rattle.ripemd_files.specs.Lists.{ChecksList, StopsList};
+ghost use Rattle.ripemd_files.specs.Groups.{ChecksFirst, ChecksLines, misformatted_events};
+ghost use Rattle.ripemd_files.specs.Checking.{Event, IsNamed, IsOutcomeOf, IsTally, checked, closing_remarks, count_remarks, has_lines, is_success, items_of_event, line_of_event, remark_where, remarks_on_verdict, report_of, shown};
 
 use crate::digests::read_digests;
 use crate::fault::Fault;
 use crate::folder::Folder;
 use crate::line::{Layout, Line, Variant};
-use crate::list::{Cursor, Group, Next, ReadList, Rules, read_group};
+use crate::list::{Cursor, Next, Rules, read_group};
 use crate::log::{Complaint, Log};
 use crate::outcome::Outcome;
-use crate::printing::{BUFFER, new_buffer, put};
+use crate::piece::ReadList;
+use crate::printing::{BUFFER, new_buffer, put, remark_unreadable};
 use crate::verdict::{Options, Tally, Verdict};
 use crate::writing::push_text;
 use std::alloc::{AllocError, Global};
-use std::io::Write;
 
 /// Checks a list: reads it to its end, and the files that its lines name; writes a line for each of these, and
 /// remarks on those that can't be read, on lines that say nothing, and on what was counted. Whether the check
@@ -31,22 +30,24 @@ use std::io::Write;
 ///
 /// # Errors
 ///
-/// - `Write`: a write or a flush of a line, or a remark, failed with this error.
+/// - `Write`: a call of the log failed with this error.
 /// - `NoMemory`: there is no memory left.
 /// - `TooManyLines`: the list has more than 2^64 - 2 lines.
-pub fn check_list<F: Folder, R: ReadList, W: Write, L: Log>(
+///
+/// Till then the first part of the report was told.
+pub fn check_list<F: Folder, R: ReadList, L: Log>(
     alloc: Global,
     folder: &F,
     options: Options,
     rules: Rules,
     layout: &mut Option<Layout>,
     reader: &mut R,
-    out: &mut W,
     log: &mut L,
 ) -> Result<bool, Fault>
-    ensures { IfOk result (ChecksList (F.place folder.now) options rules layout.old layout.new
-        (R.remaining reader.old) (R.remaining reader.new) (W.contents out.old) (W.contents out.new)
-        (L.said log.old) (L.said log.new)) }
+    ensures ok { IfOk result (ChecksList (F.place folder.now) options rules layout.old layout.new
+        (R.state reader.old) (R.state reader.new) (L.told log.old) (L.told log.new)) }
+    ensures err { IfErr result (StopsList (F.place folder.now) options rules layout.old
+        (R.state reader.old) (R.state reader.new) (L.told log.old) (L.told log.new)) }
 {
     let mut buffer = new_buffer(alloc, BUFFER)?;
     let mut cursor = Cursor {
@@ -61,15 +62,14 @@ pub fn check_list<F: Folder, R: ReadList, W: Write, L: Log>(
         &mut cursor,
         reader,
         &mut buffer,
-        out,
         log,
     )?;
     *layout = cursor.layout;
     Ok(success)
 }
 
-// The same, group by group.
-fn check_groups<F: Folder, R: ReadList, W: Write, L: Log>(
+// Checks a list, group by group of its lines.
+fn check_groups<F: Folder, R: ReadList, L: Log>(
     alloc: Global,
     folder: &F,
     options: Options,
@@ -77,19 +77,28 @@ fn check_groups<F: Folder, R: ReadList, W: Write, L: Log>(
     cursor: &mut Cursor,
     reader: &mut R,
     buffer: &mut [u8],
-    out: &mut W,
     log: &mut L,
 ) -> Result<bool, Fault>
     requires room { 0 < length buffer.old }
     requires start { cursor.old.number ≡ 1 }
-    ensures { IfOk result (ChecksList (F.place folder.now) options rules cursor.old.layout cursor.new.layout
-        (R.remaining reader.old) (R.remaining reader.new) (W.contents out.old) (W.contents out.new)
-        (L.said log.old) (L.said log.new)) }
+    ensures ok { IfOk result (ChecksList (F.place folder.now) options rules cursor.old.layout cursor.new.layout
+        (R.state reader.old) (R.state reader.new) (L.told log.old) (L.told log.new)) }
+    ensures err { IfErr result (StopsList (F.place folder.now) options rules cursor.old.layout
+        (R.state reader.old) (R.state reader.new) (L.told log.old) (L.told log.new)) }
 {
     let mut tally = Tally::new();
     'groups: loop {
         let group = read_group(alloc, folder, options.ignore_missing, rules, cursor, reader)?;
-        check_group(alloc, folder, options, &group, buffer, &mut tally, out, log)?;
+        check_lines(
+            alloc,
+            folder,
+            options,
+            group.lines.as_slice(),
+            buffer,
+            &mut tally,
+            log,
+        )?;
+        check_misformatted(options, group.misformatted, &mut tally, log)?;
         match group.next {
             Next::More => {}
             Next::Ended => {
@@ -104,43 +113,17 @@ fn check_groups<F: Folder, R: ReadList, W: Write, L: Log>(
     }
 }
 
-// Reads the files of a group of lines, and writes and counts what was found.
-fn check_group<F: Folder, W: Write, L: Log>(
-    alloc: Global,
-    folder: &F,
-    options: Options,
-    group: &Group,
-    buffer: &mut [u8],
-    tally: &mut Tally,
-    out: &mut W,
-    log: &mut L,
-) -> Result<(), Fault>
-    requires room { 0 < length buffer.old }
-    ensures { OnOk result (ChecksGroup (F.place folder.now) options group.now (W.contents out.old) (W.contents out.new)
-        (L.said log.old) (L.said log.new) tally.old tally.new) }
-{
-    check_lines(
-        alloc,
-        folder,
-        options,
-        group.lines.as_slice(),
-        buffer,
-        tally,
-        out,
-        log,
-    )?;
-    check_misformatted(options, group.misformatted, tally, log)?;
-    Ok(())
-}
-
 // Counts a line that says nothing that can be read, if there is one, and remarks on it.
+#[tactic(auto, using(crate::proofs::Telling::telling))]
 fn check_misformatted<L: Log>(
     options: Options,
     misformatted: Option<u64>,
     tally: &mut Tally,
     log: &mut L,
 ) -> Result<(), Fault>
-    ensures { OnOk result (ChecksMisformatted options misformatted (L.said log.old) (L.said log.new) tally.old tally.new) }
+    ensures counts { (earlier : List Event) → IsTally earlier tally.old → IsTally (earlier ++ misformatted_events misformatted) tally.new }
+    ensures told { OnOk result (Tells (L.told log.old) (L.told log.new) (flat_map (items_of_event options) (misformatted_events misformatted))) }
+    ensures err { IfErr result (Stops ⊥ (L.told log.old) (L.told log.new) (flat_map (items_of_event options) (misformatted_events misformatted))) }
 {
     let Some(number) = misformatted else {
         return Ok(());
@@ -150,9 +133,11 @@ fn check_misformatted<L: Log>(
 }
 
 // Remarks on what was counted of a list. Whether its check succeeds.
+#[tactic(auto, using(crate::proofs::Telling::telling))]
 fn close<L: Log>(options: Options, tally: &Tally, log: &mut L) -> Result<bool, Fault>
-    ensures said { OnOk result (Adds (L.said log.old) (L.said log.new) (closing_remarks options tally.now)) }
+    ensures told { OnOk result (Tells (L.told log.old) (L.told log.new) (closing_remarks options tally.now)) }
     ensures success { IfOk result (λ success. success ≡ is_success options tally.now) }
+    ensures err { IfErr result (Stops ⊥ (L.told log.old) (L.told log.new) (closing_remarks options tally.now)) }
 {
     if !tally.checked {
         remark(log, Complaint::NoLines)?;
@@ -163,8 +148,10 @@ fn close<L: Log>(options: Options, tally: &Tally, log: &mut L) -> Result<bool, F
 }
 
 // Remarks on counts that are not 0, and on a list of which no file was verified.
+#[tactic(auto, using(crate::proofs::Telling::telling))]
 fn remark_counts<L: Log>(options: Options, tally: &Tally, log: &mut L) -> Result<(), Fault>
-    ensures { OnOk result (Adds (L.said log.old) (L.said log.new) (count_remarks options tally.now)) }
+    ensures told { OnOk result (Tells (L.told log.old) (L.told log.new) (count_remarks options tally.now)) }
+    ensures err { IfErr result (Stops ⊥ (L.told log.old) (L.told log.new) (count_remarks options tally.now)) }
 {
     let misformatted = Complaint::MisformattedLines(tally.misformatted);
     remark_if(log, tally.misformatted != 0, misformatted)?;
@@ -173,8 +160,7 @@ fn remark_counts<L: Log>(options: Options, tally: &Tally, log: &mut L) -> Result
     let differing = Complaint::Mismatches(tally.differing);
     remark_if(log, tally.differing != 0, differing)?;
     let nothing = verified_nothing(options, tally);
-    remark_if(log, nothing, Complaint::NothingVerified)?;
-    Ok(())
+    remark_if(log, nothing, Complaint::NothingVerified)
 }
 
 // Whether missing files were left out, and no other was verified.
@@ -186,14 +172,17 @@ fn verified_nothing(options: Options, tally: &Tally) -> bool
 
 // Says what is wrong with a list.
 fn remark<L: Log>(log: &mut L, complaint: Complaint) -> Result<(), Fault>
-    ensures { OnOk result (Adds (L.said log.old) (L.said log.new) (about_list complaint ∷ [])) }
+    ensures told { OnOk result (Tells (L.told log.old) (L.told log.new) (about_list complaint ∷ [])) }
+    ensures err { IfErr result (Stops ⊥ (L.told log.old) (L.told log.new) (about_list complaint ∷ [])) }
 {
     log.complain(complaint).map_err(Fault::Write)
 }
 
-// The same, if it is wrong.
+// Says what is wrong with a list, if it is.
+#[tactic(auto, using(crate::proofs::Telling::telling))]
 fn remark_if<L: Log>(log: &mut L, wrong: bool, complaint: Complaint) -> Result<(), Fault>
-    ensures { OnOk result (Adds (L.said log.old) (L.said log.new) (remark_where wrong complaint)) }
+    ensures told { OnOk result (Tells (L.told log.old) (L.told log.new) (remark_where wrong complaint)) }
+    ensures err { IfErr result (Stops ⊥ (L.told log.old) (L.told log.new) (remark_where wrong complaint)) }
 {
     if wrong {
         remark(log, complaint)?;
@@ -201,20 +190,19 @@ fn remark_if<L: Log>(log: &mut L, wrong: bool, complaint: Complaint) -> Result<(
     Ok(())
 }
 
-// Reads the files of some lines, and writes and counts what was found.
-fn check_lines<F: Folder, W: Write, L: Log>(
+// Reads the files of some lines, and tells and counts what was found.
+fn check_lines<F: Folder, L: Log>(
     alloc: Global,
     folder: &F,
     options: Options,
     lines: &[Line],
     buffer: &mut [u8],
     tally: &mut Tally,
-    out: &mut W,
     log: &mut L,
 ) -> Result<(), Fault>
     requires room { 0 < length buffer.old }
-    ensures { OnOk result (ChecksLines (F.place folder.now) options lines.now (W.contents out.old) (W.contents out.new)
-        (L.said log.old) (L.said log.new) tally.old tally.new) }
+    ensures ok { OnOk result (ChecksLines (F.place folder.now) options lines.now (L.told log.old) (L.told log.new) tally.old tally.new) }
+    ensures err { IfErr result (ChecksFirst (F.place folder.now) options lines.now (L.told log.old) (L.told log.new)) }
 {
     let mut start = 0;
     while start < lines.len() {
@@ -228,7 +216,6 @@ fn check_lines<F: Folder, W: Write, L: Log>(
             group,
             outcomes.as_slice(),
             tally,
-            out,
             log,
         )?;
         start = end;
@@ -236,28 +223,36 @@ fn check_lines<F: Folder, W: Write, L: Log>(
     Ok(())
 }
 
-// The same of lines whose files were read.
-fn check_outcomes<F: Folder, W: Write, L: Log>(
+// Tells and counts what was found of lines whose files were read. Their lines are written at once, and before a
+// remark.
+fn check_outcomes<F: Folder, L: Log>(
     alloc: Global,
     _folder: &F,
     options: Options,
     lines: &[Line],
     outcomes: &[Outcome],
     tally: &mut Tally,
-    out: &mut W,
     log: &mut L,
 ) -> Result<(), Fault>
     requires read { AllZip (IsOutcomeOf (F.place _folder.now)) lines.now outcomes.now }
-    ensures { OnOk result (ChecksLines (F.place _folder.now) options lines.now (W.contents out.old) (W.contents out.new)
-        (L.said log.old) (L.said log.new) tally.old tally.new) }
+    ensures ok { OnOk result (ChecksLines (F.place _folder.now) options lines.now (L.told log.old) (L.told log.new) tally.old tally.new) }
+    ensures err { IfErr result (ChecksFirst (F.place _folder.now) options lines.now (L.told log.old) (L.told log.new)) }
 {
+    let mut report = Vec::new(alloc);
     for k in 0..outcomes.len() {
         let line = &lines[k];
         let verdict = Verdict::of(options.ignore_missing, line.digest.as_slice(), &outcomes[k]);
-        tell(alloc, options, line.name.as_slice(), verdict, out, log)?;
+        tell(
+            alloc,
+            options,
+            line.name.as_slice(),
+            verdict,
+            &mut report,
+            log,
+        )?;
         tally.add(&verdict);
     }
-    Ok(())
+    put(log, report.as_slice())
 }
 
 // What comes of reading the files of the first lines: of one, or of several that name one hash.
@@ -292,26 +287,57 @@ fn names_of(alloc: Global, variant: Variant, lines: &[Line]) -> Result<Vec<&[u8]
     Ok(names)
 }
 
-// Writes what was found of the file of this name, and remarks on it.
-fn tell<W: Write, L: Log>(
+// Adds the line of what was found of the file of this name to some that are not written yet, and remarks on it.
+#[tactic(auto, using(crate::proofs::Telling::telling))]
+fn tell<L: Log>(
     alloc: Global,
     options: Options,
     name: &[u8],
     verdict: Verdict,
-    out: &mut W,
+    lines: &mut Vec<u8>,
     log: &mut L,
 ) -> Result<(), Fault>
-    ensures { OnOk result (Wrote (W.contents out.old) (W.contents out.new) (L.said log.old) (L.said log.new)
-        (line_of_event options (checked name.now verdict)) (remarks_on_event options (checked name.now verdict))) }
+    ensures told { OnOk result (Pends (L.told log.old) (L.told log.new) lines.old.items lines.new.items
+        (items_of_event options (checked name.now verdict))) }
+    ensures err { IfErr result (Stops ⊥ (L.told log.old) (L.told log.new)
+        (written lines.old.items ++ items_of_event options (checked name.now verdict))) }
+{
+    let line = line_of(alloc, options, name, verdict)?;
+    remark_on(name, verdict, lines, log)?;
+    lines.extend_from_slice(line.as_slice())?;
+    Ok(())
+}
+
+// Remarks on a file, if its verdict is an error.
+#[tactic(auto, using(crate::proofs::Telling::telling))]
+fn remark_on<L: Log>(
+    name: &[u8],
+    verdict: Verdict,
+    lines: &mut Vec<u8>,
+    log: &mut L,
+) -> Result<(), Fault>
+    ensures told { OnOk result (Pends (L.told log.old) (L.told log.new) lines.old.items lines.new.items (remarks_on_verdict name.now verdict)) }
+    ensures err { IfErr result (Stops ⊥ (L.told log.old) (L.told log.new) (written lines.old.items ++ remarks_on_verdict name.now verdict)) }
 {
     if let Verdict::Unreadable(error) = verdict {
-        log.unreadable(name, error).map_err(Fault::Write)?;
+        remark_unreadable(name, error, lines, log)?;
     }
+    Ok(())
+}
+
+// The line of what was found, if it has one.
+fn line_of(
+    alloc: Global,
+    options: Options,
+    name: &[u8],
+    verdict: Verdict,
+) -> Result<Vec<u8>, AllocError>
+    ensures { IfOk result (λ line. line.items ≡ line_of_event options (checked name.now verdict)) }
+{
     if options.status {
-        return Ok(());
+        return Ok(Vec::new(alloc));
     }
-    let line = report(alloc, options.quiet, name, verdict)?;
-    put(out, line.as_slice())
+    report(alloc, options.quiet, name, verdict)
 }
 
 // The line of a verdict, if it has one.

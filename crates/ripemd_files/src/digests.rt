@@ -1,6 +1,8 @@
 //! The digests of files, several at once.
 
-ghost use Rattle.std.specs.Prelude.{◌≡◌, ◌+◌, ◌<◌, ◌≤◌, ◌^◌, ◌++◌, ◌⊎◌, ◌*◌, ◌≢◌, ℕ, List, [], length, map, take, IfOk, IsErr};
+ghost use Rattle.std.specs.Prelude.{◌≡◌, ◌+◌, ◌<◌, ◌≤◌, ◌^◌, ◌++◌, ◌⊎◌, ◌*◌, ◌≢◌, ℕ, List, [], length, map, take, IfOk, IfErr};
+ghost use Rattle.std.specs.IoError.{error_kind};
+ghost use Rattle.std.specs.declared.io.ErrorKind.TheVariants.{FileTooLarge};
 ghost use Rattle.std.specs.Io.KnownBytes.{Consumes, IsAtEnd};
 ghost use Rattle.ripemd_block.specs.Standard.Hashing.{hash};
 ghost use Rattle.ripemd.specs.Standard.Hashing.{ripemd};
@@ -39,8 +41,8 @@ fn fill<F: Folder>(folder: &F, file: &mut F::File, buffer: &mut [u8]) -> Result<
     ensures ok { IfOk result (λ count. (count ≤ length buffer.new)
         × Consumes ((F.place folder.now).left file.old) ((F.place folder.now).left file.new) (take count buffer.new)
         × (count < length buffer.new → IsAtEnd ((F.place folder.now).left file.new))) }
-    ensures err { IsErr result → (bytes : List ℕ) × (now : F.File) × Consumes ((F.place folder.now).left file.old) ((F.place folder.now).left now) bytes
-        × (F.place folder.now).may_fail now }
+    ensures err { IfErr result (λ error. (bytes : List ℕ) × (now : F.File) × Consumes ((F.place folder.now).left file.old) ((F.place folder.now).left now) bytes
+        × (F.place folder.now).may_fail now error) }
     ensures room { length buffer.new ≡ length buffer.old }
 {
     let mut count = 0;
@@ -64,8 +66,8 @@ fn hash_rest<D: Digest, F: Folder>(
     requires room { 0 < length buffer.old }
     ensures ok { IfOk result (λ digest. (rest : List ℕ) × Consumes ((F.place folder.now).left file.old) ((F.place folder.now).left file.new) rest
         × IsAtEnd ((F.place folder.now).left file.new) × (D.bytes_of digest ≡ hash D.start D.step D.output (buffer.old ++ rest))) }
-    ensures err { IsErr result → (rest : List ℕ) × (now : F.File) × Consumes ((F.place folder.now).left file.old) ((F.place folder.now).left now) rest
-        × ((F.place folder.now).may_fail now ⊎ (2 ^ 61 ≤ length (buffer.old ++ rest))) }
+    ensures err { IfErr result (λ error. (rest : List ℕ) × (now : F.File) × Consumes ((F.place folder.now).left file.old) ((F.place folder.now).left now) rest
+        × ((F.place folder.now).may_fail now error ⊎ ((2 ^ 61 ≤ length (buffer.old ++ rest)) × (error_kind error ≡ FileTooLarge)))) }
     ensures room { length buffer.new ≡ length buffer.old }
 {
     let mut hasher = D::new_with_prefix(buffer);

@@ -29,5 +29,5 @@ pub trait Folder {
     fn read(&self, file: &mut Self::File, buffer: &mut [u8]) -> io::Result<usize>
         ensures bound { ReadsAtMost result buffer.new }
         ensures bytes { ReadConsumes ((place self.now).left file.old) ((place self.now).left file.new) result buffer.new }
-        ensures err { IsErr result → (place self.now).may_fail file.old };
+        ensures err { IfErr result ((place self.now).may_fail file.old) };
 }

@@ -15,7 +15,7 @@ pub mod list;
 pub mod list_facts;
 pub mod log;
 pub mod outcome;
-mod piece;
+pub mod piece;
 pub mod printing;
 pub mod reading;
 pub mod verdict;

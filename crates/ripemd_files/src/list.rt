@@ -1,17 +1,16 @@
 //! Lists of lines, as a check reads them.
 
-ghost use Rattle.std.specs.Prelude.{◌≡◌, ◌≢◌, ◌↔◌, ◌+◌, ◌<◌, ◌^◌, ◌++◌, ◌∷◌, [], codes, length, IfOk, IsFalse, IsTrue, OnOk};
+ghost use Rattle.std.specs.Prelude.{◌≡◌, ◌≢◌, ◌↔◌, ◌+◌, ◌<◌, ◌^◌, ◌++◌, ◌∷◌, [], codes, length, IfErr, IfOk, IsFalse, IsTrue, OnOk};
 ghost use Rattle.ripemd_files.specs.Lists.{IsTaken, IsWanted, body_of_line, is_passed_over, layout_after};
-ghost use Rattle.ripemd_files.specs.Groups.{IsEntry, ReadsGroup, Takes};
+ghost use Rattle.ripemd_files.specs.Groups.{ExplainsReading, IsEntry, ReadsGroup, StopsReading, Takes};
 
 use crate::digests::GROUP;
 use crate::fault::Fault;
 use crate::folder::Folder;
 use crate::line::{Layout, Line, Variant};
-use crate::piece::{Piece, read_piece};
+use crate::piece::{Piece, ReadList};
 use crate::reading::read_line;
 use std::alloc::{AllocError, Global};
-use std::io::{BufRead, BufReader, Read};
 
 /// Which lines of a list count.
 #[derive(Clone, Copy, PartialEq, Eq, Debug)]
@@ -20,19 +19,6 @@ pub struct Rules {
     pub only: Option<Variant>,
     /// Whether the list is standard input, which no line of it can name.
     pub from_input: bool,
-}
-
-/// A list, as it is read.
-pub trait ReadList: BufRead {
-    /// Whether its next line is at hand, so that reading it does not wait. Before a read that may wait, what the
-    /// lines so far say is written.
-    fn has_line(&self) -> bool;
-}
-
-impl<R: Read> ReadList for BufReader<R> {
-    fn has_line(&self) -> bool {
-        self.buffer().contains(&b'\n')
-    }
 }
 
 // How far a list is read: its layout, if an untagged line said it, and the number of the next line.
@@ -139,6 +125,7 @@ fn take_line<F: Folder>(
     ensures takes { IfOk result (Takes (F.place _folder.now) ignore_missing rules cursor.old cursor.new text.now lines.old.items lines.new.items) }
     ensures advances { OnOk result (cursor.new.number ≡ cursor.old.number + 1) }
     ensures bound { OnOk result (cursor.new.number < 2 ^ 64) }
+    ensures err { IfErr result (ExplainsReading (cursor.old.number + 1) []) }
 {
     let number = cursor.number;
     if number == u64::MAX {
@@ -181,13 +168,14 @@ pub(crate) fn read_group<F: Folder, R: ReadList>(
     cursor: &mut Cursor,
     reader: &mut R,
 ) -> Result<Group, Fault>
-    ensures { IfOk result (ReadsGroup (F.place folder.now) ignore_missing rules (R.remaining reader.old) (R.remaining reader.new)
+    ensures ok { IfOk result (ReadsGroup (F.place folder.now) ignore_missing rules (R.state reader.old) (R.state reader.new)
         cursor.old cursor.new) }
+    ensures err { IfErr result (StopsReading (R.state reader.old).left (R.state reader.new).left cursor.old.number) }
 {
     let mut lines = Vec::with_capacity(alloc, GROUP)?;
     let mut text = Vec::new(alloc);
     'lines: while !is_group(lines.as_slice(), reader) {
-        match read_piece(reader, &mut text)? {
+        match reader.read_line(&mut text)? {
             Piece::Nothing => {
                 return Ok(Group {
                     lines,

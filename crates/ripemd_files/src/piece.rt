@@ -1,23 +1,76 @@
 //! Lists of lines, read line by line.
 
-ghost use Rattle.std.specs.Prelude.{◌≡◌, IfOk};
+ghost use Rattle.std.specs.Prelude.{◌≡◌, ◌||◌, IfErr, IfOk};
 ghost use Rattle.std.specs.Io.BufRead.{ends_with_byte, strip_last};
-ghost use Rattle.ripemd_files.specs.Splitting.{IsPiece};
+ghost use Rattle.ripemd_files.specs.Splitting.{IsPiece, ListState, ReadsOn, is_failure};
 
 use std::alloc::AllocError;
-use std::io::{BufRead, ErrorKind};
+use std::io::{BufRead, BufReader, ErrorKind, Read};
 
 /// What was read of a list.
 #[derive(Clone, Copy, PartialEq, Eq, Debug)]
-pub(crate) enum Piece {
+pub enum Piece {
     /// A line that ended with a newline.
     Line,
     /// The last line, which ended with the list.
     Last,
     /// No line: the list had ended.
     Nothing,
-    /// A read failed.
+    /// The front of a line, which may be empty: a read failed.
     Failed,
+}
+
+/// A list, as it is read.
+pub trait ReadList {
+    // What is left of it, and whether a read of it failed.
+    ghost state: { Self → ListState };
+
+    /// Whether its next line is at hand, so that reading it does not wait. Before a read that may wait, what the
+    /// lines so far say is written.
+    fn has_line(&self) -> bool;
+
+    /// Reads the next line to `text`, in place of what stood there, without its newline.
+    ///
+    /// # Errors
+    ///
+    /// `AllocError` if there is no memory left for it.
+    fn read_line(&mut self, text: &mut Vec<u8>) -> Result<Piece, AllocError>
+        ensures piece { IfOk result (IsPiece (state self.old).left (state self.new).left text.new.items) }
+        ensures failed { IfOk result (λ piece. (state self.new).failed ≡ ((state self.old).failed || is_failure piece)) }
+        ensures err { IfErr result (λ _. ReadsOn (state self.old).left (state self.new).left) };
+}
+
+/// A list that is read through a buffer.
+#[derive(Drop)]
+pub struct List<R> {
+    reader: BufReader<R>,
+    failed: bool,
+}
+
+impl<R: Read> List<R> {
+    /// A list of which no read has failed.
+    pub fn new(reader: BufReader<R>) -> List<R> {
+        List {
+            reader,
+            failed: false,
+        }
+    }
+}
+
+impl<R: Read> ReadList for List<R> {
+    ghost use Rattle.ripemd_files.specs.Splitting.{state_of};
+
+    ghost state = { state_of R.remaining };
+
+    fn has_line(&self) -> bool {
+        self.reader.buffer().contains(&b'\n')
+    }
+
+    fn read_line(&mut self, text: &mut Vec<u8>) -> Result<Piece, AllocError> {
+        let piece = read_piece(&mut self.reader, text)?;
+        self.failed |= piece == Piece::Failed;
+        Ok(piece)
+    }
 }
 
 // Takes the newline from the end of a text. Whether there was one.
@@ -36,21 +89,19 @@ fn pop_newline(text: &mut Vec<u8>) -> bool
 }
 
 // Reads the next line of a list to `text`, without its newline.
-pub(crate) fn read_piece<R: BufRead>(
-    reader: &mut R,
-    text: &mut Vec<u8>,
-) -> Result<Piece, AllocError>
-    ensures { IfOk result (IsPiece (R.remaining reader.old) (R.remaining reader.new) text.new.items) }
+fn read_piece<R: BufRead>(reader: &mut R, text: &mut Vec<u8>) -> Result<Piece, AllocError>
+    ensures piece { IfOk result (IsPiece (R.remaining reader.old) (R.remaining reader.new) text.new.items) }
+    ensures err { IfErr result (λ _. ReadsOn (R.remaining reader.old) (R.remaining reader.new)) }
 {
     text.clear();
-    match reader.read_until(b'\n', text) {
-        Ok(0) => Ok(Piece::Nothing),
-        Ok(_) => Ok(if pop_newline(text) {
-            Piece::Line
-        } else {
-            Piece::Last
-        }),
+    let outcome = reader.read_until(b'\n', text);
+    let has_newline = pop_newline(text);
+    match outcome {
         Err(error) if error.kind() == ErrorKind::OutOfMemory => Err(AllocError),
+        // Of a read that fails behind a newline, which none does, the next one tells.
+        _ if has_newline => Ok(Piece::Line),
         Err(_) => Ok(Piece::Failed),
+        Ok(0) => Ok(Piece::Nothing),
+        Ok(_) => Ok(Piece::Last),
     }
 }

@@ -1,13 +1,12 @@
 //! The lines of the digests of files.
 
-ghost use Rattle.std.specs.Prelude.{◌≡◌, ◌<◌, length, IfOk, OnOk};
-ghost use Rattle.std.specs.Io.KnownBytes.{Appends};
+ghost use Rattle.std.specs.Prelude.{◌≡◌, ◌<◌, ◌++◌, ◌∷◌, [], length, IfErr, IfOk, OnOk};
 ghost use Rattle.std.specs.List.{AllZip};
 ghost use Rattle.ripemd.specs.Standard.Hashing.{ripemd};
 ghost use Rattle.ripemd_batch.specs.Lanes.{targets};
 ghost use Rattle.ripemd_files.specs.Readings.{ComesTo, parameters_of};
-ghost use Rattle.ripemd_files.specs.Said.{Wrote};
-ghost use Rattle.ripemd_files.specs.Printing.{PrintsAll, line_for, remarks_on, was_read};
+ghost use Rattle.ripemd_files.specs.Said.{Pends, Stops, Tells, unreadable, written};
+ghost use Rattle.ripemd_files.specs.Printing.{PrintsAll, PrintsFirst, items_on, was_read};
 
 use crate::digests::read_digests;
 use crate::fault::Fault;
@@ -17,7 +16,7 @@ use crate::log::Log;
 use crate::outcome::Outcome;
 use crate::writing::write_line;
 use std::alloc::{AllocError, Global};
-use std::io::Write;
+use std::io;
 
 /// How lines are printed.
 #[derive(Clone, Copy, PartialEq, Eq, Debug)]
@@ -38,36 +37,34 @@ pub(crate) const BUFFER: usize = 1 << 16;
 ///
 /// # Errors
 ///
-/// - `Write`: a write or a flush of a line, or a remark, failed with this error.
+/// - `Write`: a call of the log failed with this error.
 /// - `NoMemory`: there is no memory left.
-pub fn print_digests<F: Folder, W: Write, L: Log>(
+pub fn print_digests<F: Folder, L: Log>(
     alloc: Global,
     folder: &F,
     style: Style,
     names: &[&[u8]],
-    out: &mut W,
     log: &mut L,
 ) -> Result<bool, Fault>
-    ensures { IfOk result (PrintsAll (F.place folder.now) style (targets names.now)
-        (W.contents out.old) (W.contents out.new) (L.said log.old) (L.said log.new)) }
+    ensures ok { IfOk result (PrintsAll (F.place folder.now) style (targets names.now) (L.told log.old) (L.told log.new)) }
+    ensures err { IfErr result (PrintsFirst (F.place folder.now) style (targets names.now) (L.told log.old) (L.told log.new)) }
 {
     let mut buffer = new_buffer(alloc, BUFFER)?;
-    print_groups(alloc, folder, style, names, &mut buffer, out, log)
+    print_groups(alloc, folder, style, names, &mut buffer, log)
 }
 
-// The same of groups of files, each of which is read through the buffer.
-fn print_groups<F: Folder, W: Write, L: Log>(
+// Prints files, group by group. Each is read through the buffer.
+fn print_groups<F: Folder, L: Log>(
     alloc: Global,
     folder: &F,
     style: Style,
     names: &[&[u8]],
     buffer: &mut [u8],
-    out: &mut W,
     log: &mut L,
 ) -> Result<bool, Fault>
     requires room { 0 < length buffer.old }
-    ensures { IfOk result (PrintsAll (F.place folder.now) style (targets names.now)
-        (W.contents out.old) (W.contents out.new) (L.said log.old) (L.said log.new)) }
+    ensures ok { IfOk result (PrintsAll (F.place folder.now) style (targets names.now) (L.told log.old) (L.told log.new)) }
+    ensures err { IfErr result (PrintsFirst (F.place folder.now) style (targets names.now) (L.told log.old) (L.told log.new)) }
 {
     let mut all = true;
     let mut start = 0;
@@ -75,7 +72,7 @@ fn print_groups<F: Folder, W: Write, L: Log>(
         let outcomes = read_digests(alloc, folder, style.variant, &names[start..], buffer)?;
         let end = start + outcomes.len();
         let group = &names[start..end];
-        let read = print_outcomes(alloc, folder, style, group, outcomes.as_slice(), out, log)?;
+        let read = print_outcomes(alloc, folder, style, group, outcomes.as_slice(), log)?;
         all &= read;
         start = end;
     }
@@ -90,41 +87,44 @@ pub(crate) fn new_buffer(alloc: Global, size: usize) -> Result<Vec<u8>, AllocErr
     vec![in alloc; 0; size]
 }
 
-// The same of files that were read.
-fn print_outcomes<F: Folder, W: Write, L: Log>(
+// Prints files that were read. Their lines are written at once, and before a remark.
+fn print_outcomes<F: Folder, L: Log>(
     alloc: Global,
     _folder: &F,
     style: Style,
     names: &[&[u8]],
     outcomes: &[Outcome],
-    out: &mut W,
     log: &mut L,
 ) -> Result<bool, Fault>
     requires read { AllZip (ComesTo (F.place _folder.now) (ripemd (parameters_of style.variant))) (targets names.now) outcomes.now }
-    ensures { IfOk result (PrintsAll (F.place _folder.now) style (targets names.now)
-        (W.contents out.old) (W.contents out.new) (L.said log.old) (L.said log.new)) }
+    ensures ok { IfOk result (PrintsAll (F.place _folder.now) style (targets names.now) (L.told log.old) (L.told log.new)) }
+    ensures err { IfErr result (PrintsFirst (F.place _folder.now) style (targets names.now) (L.told log.old) (L.told log.new)) }
 {
+    let mut lines = Vec::new(alloc);
     let mut all = true;
     for k in 0..outcomes.len() {
         let name = names[k];
-        let read = print_outcome(alloc, style, name, &outcomes[k], out, log)?;
+        let read = print_outcome(alloc, style, name, &outcomes[k], &mut lines, log)?;
         all &= read;
     }
+    put(log, lines.as_slice())?;
     Ok(all)
 }
 
-// The same of one file, by what came of it.
-fn print_outcome<W: Write, L: Log>(
+// Adds the line of a file to some that are not written yet, or remarks on it, by what came of it. Whether it was
+// read.
+#[tactic(auto, using(crate::proofs::Telling::telling))]
+fn print_outcome<L: Log>(
     alloc: Global,
     style: Style,
     name: &[u8],
     outcome: &Outcome,
-    out: &mut W,
+    lines: &mut Vec<u8>,
     log: &mut L,
 ) -> Result<bool, Fault>
-    ensures wrote { OnOk result (Wrote (W.contents out.old) (W.contents out.new) (L.said log.old) (L.said log.new)
-        (line_for style name.now outcome.now) (remarks_on name.now outcome.now)) }
+    ensures told { OnOk result (Pends (L.told log.old) (L.told log.new) lines.old.items lines.new.items (items_on style name.now outcome.now)) }
     ensures read { IfOk result (λ read. read ≡ was_read outcome.now) }
+    ensures err { IfErr result (Stops ⊥ (L.told log.old) (L.told log.new) (written lines.old.items ++ items_on style name.now outcome.now)) }
 {
     match outcome {
         Outcome::Digest(digest) => {
@@ -136,20 +136,39 @@ fn print_outcome<W: Write, L: Log>(
                 digest.as_slice(),
                 name,
             )?;
-            put(out, line.as_slice())?;
+            lines.extend_from_slice(line.as_slice())?;
             Ok(true)
         }
         Outcome::Refused(error) | Outcome::Broken(error) => {
-            log.unreadable(name, *error).map_err(Fault::Write)?;
+            remark_unreadable(name, *error, lines, log)?;
             Ok(false)
         }
     }
 }
 
-// Writes a line, and flushes it.
-pub(crate) fn put<W: Write>(out: &mut W, line: &[u8]) -> Result<(), Fault>
-    ensures { OnOk result (Appends (W.contents out.old) (W.contents out.new) line.now) }
+// Writes lines, and says then that the file of a name can't be read.
+#[tactic(auto, using(crate::proofs::Telling::telling))]
+pub(crate) fn remark_unreadable<L: Log>(
+    name: &[u8],
+    error: io::Error,
+    lines: &mut Vec<u8>,
+    log: &mut L,
+) -> Result<(), Fault>
+    ensures told { OnOk result (Pends (L.told log.old) (L.told log.new) lines.old.items lines.new.items (unreadable name.now error ∷ [])) }
+    ensures err { IfErr result (Stops ⊥ (L.told log.old) (L.told log.new) (written lines.old.items ++ unreadable name.now error ∷ [])) }
 {
-    out.write_all(line).map_err(Fault::Write)?;
-    out.flush().map_err(Fault::Write)
+    put(log, lines.as_slice())?;
+    lines.clear();
+    log.unreadable(name, error).map_err(Fault::Write)
+}
+
+// Writes lines, if there are any.
+pub(crate) fn put<L: Log>(log: &mut L, lines: &[u8]) -> Result<(), Fault>
+    ensures ok { OnOk result (Tells (L.told log.old) (L.told log.new) (written lines.now)) }
+    ensures err { IfErr result (Stops ⊥ (L.told log.old) (L.told log.new) (written lines.now)) }
+{
+    if lines.is_empty() {
+        return Ok(());
+    }
+    log.write(lines).map_err(Fault::Write)
 }

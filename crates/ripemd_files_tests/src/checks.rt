@@ -1,10 +1,11 @@
 //! Checks of lists in memory. The digests are the authors'.
 
-use crate::doubles::{Calls, List, Memory, Page, Remarks};
+use crate::doubles::{Bytes, Calls, Memory, Page, list_of};
 use ripemd_files::checking::check_list;
 use ripemd_files::fault::Fault;
 use ripemd_files::list::Rules;
 use ripemd_files::log::Complaint;
+use ripemd_files::piece::List;
 use ripemd_files::verdict::Options;
 use ripemd_files::{Layout, Variant};
 use std::alloc::Global;
@@ -44,18 +45,15 @@ const FILES: &[(&[u8], &[u8])] = &[(b"abc", b"abc"), (b"empty", b"")];
 // What a check of a list answers, and what it leaves.
 fn check(
     alloc: Global,
-    mut list: List<'_>,
+    mut list: List<Bytes<'_>>,
     calls: Calls,
     page: &mut Page,
-    remarks: &mut Remarks,
 ) -> Result<bool, Fault> {
     let memory = Memory {
         files: FILES,
         calls,
     };
-    check_list(
-        alloc, &memory, PLAIN, RULES, &mut None, &mut list, page, remarks,
-    )
+    check_list(alloc, &memory, PLAIN, RULES, &mut None, &mut list, page)
 }
 
 // A list, how it is checked, in which layout, and what comes of that.
@@ -208,10 +206,10 @@ fn lists_are_checked(rt: HostRuntime) -> Result<(), Fail> {
             files: FILES,
             calls: Calls::failing_at(0),
         };
-        let mut list = List::new(case.list, number < CASES.len(), 0);
+        let at_hand = if number < CASES.len() { 7 } else { 1 << 16 };
+        let mut list = list_of(alloc, case.list, at_hand, 0)?;
         let mut layout = case.first;
         let mut page = Page::new(alloc, 0);
-        let mut remarks = Remarks::new(alloc, 0);
         let success = check_list(
             alloc,
             &memory,
@@ -220,11 +218,10 @@ fn lists_are_checked(rt: HostRuntime) -> Result<(), Fail> {
             &mut layout,
             &mut list,
             &mut page,
-            &mut remarks,
         )?;
         assert_eq!(rt; page.bytes.as_slice(), case.report);
-        assert_eq!(rt; remarks.unreadable, case.unreadable);
-        assert_eq!(rt; remarks.complaints.as_slice(), case.complaints);
+        assert_eq!(rt; page.unreadable, case.unreadable);
+        assert_eq!(rt; page.complaints.as_slice(), case.complaints);
         assert_eq!(rt; success, case.success);
         assert_eq!(rt; layout, case.last);
     }
@@ -238,9 +235,8 @@ fn each_read_of_a_list_may_fail(rt: HostRuntime) -> Result<(), Fail> {
     let mut failed = 0usize;
     for failing in 1..1000 {
         let mut page = Page::new(alloc, 0);
-        let mut remarks = Remarks::new(alloc, 0);
-        let list = List::new(LIST, true, failing);
-        let success = check(alloc, list, Calls::failing_at(0), &mut page, &mut remarks)?;
+        let list = list_of(alloc, LIST, 7, failing)?;
+        let success = check(alloc, list, Calls::failing_at(0), &mut page)?;
         assert!(rt; !success);
         assert!(rt; REPORT.starts_with(page.bytes.as_slice()));
         if page.bytes.as_slice() == REPORT {
@@ -248,7 +244,7 @@ fn each_read_of_a_list_may_fail(rt: HostRuntime) -> Result<(), Fail> {
         }
         failed = failed.saturating_add(1);
         assert_eq!(rt;
-            remarks.complaints.as_slice(),
+            page.complaints.as_slice(),
             [Complaint::Unreadable].as_slice()
         );
     }
@@ -264,10 +260,9 @@ fn each_call_of_a_folder_may_fail(rt: HostRuntime) -> Result<(), Fail> {
         b"8eb208f7e05d987a9b044a8e98c6b087f15a0bfc  abc\n9c1185a5c5e9fc54612808977ee8f548b2258d31  empty\n";
     for failing in 1..7 {
         let mut page = Page::new(alloc, 0);
-        let mut remarks = Remarks::new(alloc, 0);
-        let list = List::new(list, true, 0);
+        let list = list_of(alloc, list, 1 << 16, 0)?;
         let calls = Calls::failing_at(failing);
-        let success = check(alloc, list, calls, &mut page, &mut remarks)?;
+        let success = check(alloc, list, calls, &mut page)?;
         let wanted: &[u8] = match failing {
             1..=3 => b"abc: FAILED open or read\nempty: OK\n",
             4 | 5 => b"abc: OK\nempty: FAILED open or read\n",
@@ -279,22 +274,22 @@ fn each_call_of_a_folder_may_fail(rt: HostRuntime) -> Result<(), Fail> {
     Ok(())
 }
 
-// Whichever write, flush or remark fails, the check ends with its error.
+// Whichever write or remark fails, the check ends with its error, and what was told is the front of the report.
 #[test]
 fn each_write_may_fail(rt: HostRuntime) -> Result<(), Fail> {
     let alloc = rt.alloc();
-    for failing in 1..13 {
-        // Four lines are written and flushed, and as many remarks made.
-        let (write, remark) = if failing <= 8 {
-            (failing, 0)
-        } else {
-            (0, failing - 8)
-        };
-        let mut page = Page::new(alloc, write);
-        let mut remarks = Remarks::new(alloc, remark);
-        let list = List::new(LIST, true, 0);
-        let outcome = check(alloc, list, Calls::failing_at(0), &mut page, &mut remarks);
+    for failing in 1..1000 {
+        let mut page = Page::new(alloc, failing);
+        let list = list_of(alloc, LIST, 7, 0)?;
+        let outcome = check(alloc, list, Calls::failing_at(0), &mut page);
+        assert!(rt; REPORT.starts_with(page.bytes.as_slice()));
+        if outcome.is_ok() {
+            // Three groups of lines, the error of a file, the line that says so, and three counts.
+            assert_eq!(rt; failing, 9);
+            break;
+        }
         assert!(rt; matches!(outcome, Err(Fault::Write(_))), "call {failing}");
+        assert_eq!(rt; page.calls.made(), failing);
     }
     Ok(())
 }

@@ -1,16 +1,16 @@
-//! A folder, a writer and a log in memory, which fail when they are told to.
+//! A folder, a list and a log in memory, which fail when they are told to.
 
-ghost use Rattle.std.specs.Prelude.{None};
+ghost use Rattle.std.specs.Prelude.{◌≡◌, IfErr, None, OnOk, Some};
 ghost use Rattle.std.specs.Io.{ReadsAtMost};
 ghost use Rattle.ripemd_files.specs.Readings.{any_place};
 
 use ripemd_files::folder::Folder;
-use ripemd_files::list::ReadList;
 use ripemd_files::log::{Complaint, Log};
+use ripemd_files::piece::List;
 use std::alloc::{AllocError, Global};
 use std::cell::Cell;
 use std::io;
-use std::io::{BufRead, ErrorKind, Read, Write};
+use std::io::{BufReader, ErrorKind, Read};
 
 /// Counts calls, one of which fails: the first is 1, and 0 is none.
 #[derive(Drop)]
@@ -93,54 +93,42 @@ fn take(rest: &mut &[u8], buffer: &mut [u8]) -> io::Result<usize>
     rest.read(buffer)
 }
 
-/// A list, of which 7 bytes at most are at hand.
+/// The bytes of a list.
 #[derive(Drop)]
-pub struct List<'a> {
+pub struct Bytes<'a> {
     rest: &'a [u8],
-    has_line: bool,
-    pub calls: Calls,
+    calls: Calls,
 }
 
-impl<'a> List<'a> {
-    /// A list of these bytes, this call of which fails. It says that its next line is at hand, or that it is not.
-    pub fn new(rest: &'a [u8], has_line: bool, failing: usize) -> List<'a> {
-        List {
-            rest,
-            has_line,
-            calls: Calls::failing_at(failing),
-        }
-    }
-}
-
-impl Read for List<'_> {
+impl Read for Bytes<'_> {
     fn read(&mut self, buffer: &mut [u8]) -> io::Result<usize> {
         self.calls.make()?;
         take(&mut self.rest, buffer)
     }
 }
 
-impl BufRead for List<'_> {
-    fn fill_buf(&mut self) -> io::Result<&[u8]> {
-        self.calls.make()?;
-        Ok(&self.rest[..self.rest.len().min(7)])
-    }
-
-    fn consume(&mut self, amount: usize) {
-        self.rest = &self.rest[amount.min(self.rest.len())..];
-    }
+/// A list of these bytes, of which so many are at hand at most. This read of it fails.
+pub fn list_of(
+    alloc: Global,
+    rest: &[u8],
+    at_hand: usize,
+    failing: usize,
+) -> io::Result<List<Bytes<'_>>> {
+    let bytes = Bytes {
+        rest,
+        calls: Calls::failing_at(failing),
+    };
+    Ok(List::new(BufReader::with_capacity(alloc, at_hand, bytes)?))
 }
 
-impl ReadList for List<'_> {
-    fn has_line(&self) -> bool {
-        self.has_line
-    }
-}
-
-/// Keeps what it takes.
+/// Keeps what it is told: the lines, how many files could not be read, and what is wrong with a list.
 #[derive(Drop)]
 pub struct Page {
     pub bytes: Vec<u8>,
+    pub unreadable: usize,
+    pub complaints: Vec<Complaint>,
     pub calls: Calls,
+    failure: Option<io::Error>,
 }
 
 impl Page {
@@ -148,54 +136,58 @@ impl Page {
     pub fn new(alloc: Global, failing: usize) -> Page {
         Page {
             bytes: Vec::new(alloc),
-            calls: Calls::failing_at(failing),
-        }
-    }
-}
-
-impl Write for Page {
-    fn write(&mut self, bytes: &[u8]) -> io::Result<usize> {
-        self.calls.make()?;
-        self.bytes.extend_from_slice(bytes)?;
-        Ok(bytes.len())
-    }
-
-    fn flush(&mut self) -> io::Result<()> {
-        self.calls.make()
-    }
-}
-
-/// Keeps what is remarked: how many files could not be read, and what is wrong with a list.
-#[derive(Drop)]
-pub struct Remarks {
-    pub unreadable: usize,
-    pub complaints: Vec<Complaint>,
-    pub calls: Calls,
-}
-
-impl Remarks {
-    /// No remark yet; this call fails.
-    pub fn new(alloc: Global, failing: usize) -> Remarks {
-        Remarks {
             unreadable: 0,
             complaints: Vec::new(alloc),
             calls: Calls::failing_at(failing),
+            failure: None,
         }
+    }
+
+    // Makes a call, and keeps its error.
+    fn make(&mut self) -> io::Result<()>
+        ensures ok { OnOk result (self.new.failure ≡ self.old.failure) }
+        ensures err { IfErr result (λ error. self.new.failure ≡ Some error) }
+    {
+        let outcome = self.calls.make();
+        if let Err(error) = &outcome {
+            self.failure = Some(*error);
+        }
+        outcome
+    }
+
+    // Keeps that there is no memory left.
+    fn forget(&mut self) -> io::Error
+        ensures { self.new.failure ≡ Some result }
+    {
+        let error = io::Error::from(ErrorKind::OutOfMemory);
+        self.failure = Some(error);
+        error
     }
 }
 
-impl Log for Remarks {
-    ghost said = { λ remarks. None };
+impl Log for Page {
+    ghost told = { λ page. record { items = None; failure = page.failure } };
+
+    fn write(&mut self, lines: &[u8]) -> io::Result<()> {
+        self.make()?;
+        match self.bytes.extend_from_slice(lines) {
+            Ok(()) => Ok(()),
+            Err(_) => Err(self.forget()),
+        }
+    }
 
     fn unreadable(&mut self, _name: &[u8], _error: io::Error) -> io::Result<()> {
-        self.calls.make()?;
+        self.make()?;
         self.unreadable = self.unreadable.saturating_add(1);
         Ok(())
     }
 
     fn complain(&mut self, complaint: Complaint) -> io::Result<()> {
-        self.calls.make()?;
-        Ok(self.complaints.push(complaint)?)
+        self.make()?;
+        match self.complaints.push(complaint) {
+            Ok(()) => Ok(()),
+            Err(_) => Err(self.forget()),
+        }
     }
 }
 

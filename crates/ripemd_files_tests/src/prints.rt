@@ -1,6 +1,6 @@
 //! Lines of files in memory. The digests are the authors'.
 
-use crate::doubles::{Calls, Memory, Page, Remarks, letters};
+use crate::doubles::{Calls, Memory, Page, letters};
 use ripemd_files::fault::Fault;
 use ripemd_files::printing::{Style, print_digests};
 use ripemd_files::{Ending, Form, Variant};
@@ -33,14 +33,13 @@ fn files_are_printed_in_order(rt: HostRuntime) -> Result<(), Fail> {
         b"abc",
     ];
     let mut page = Page::new(alloc, 0);
-    let mut remarks = Remarks::new(alloc, 0);
-    let all = print_digests(alloc, &memory, STYLE, &listed, &mut page, &mut remarks)?;
+    let all = print_digests(alloc, &memory, STYLE, &listed, &mut page)?;
     let mut wanted = Vec::new(alloc);
     for line in [ABC, EMPTY, LONG, ABC, ABC, ABC, ABC, ABC, LONG, ABC] {
         wanted.extend_from_slice(line)?;
     }
     assert!(rt; !all);
-    assert_eq!(rt; remarks.unreadable, 1);
+    assert_eq!(rt; page.unreadable, 1);
     assert_eq!(rt; page.bytes, wanted);
     Ok(())
 }
@@ -59,14 +58,13 @@ fn each_call_of_a_folder_may_fail(rt: HostRuntime) -> Result<(), Fail> {
             calls: Calls::failing_at(failing),
         };
         let mut page = Page::new(alloc, 0);
-        let mut remarks = Remarks::new(alloc, 0);
-        let all = print_digests(alloc, &memory, STYLE, &listed, &mut page, &mut remarks)?;
+            let all = print_digests(alloc, &memory, STYLE, &listed, &mut page)?;
         if all {
             assert!(rt; memory.calls.made() < failing);
             break;
         }
         failed = failed.saturating_add(1);
-        assert_eq!(rt; remarks.unreadable, 1);
+        assert_eq!(rt; page.unreadable, 1);
         let wanted = if failing <= 3 { LONG } else { ABC };
         assert_eq!(rt; page.bytes.as_slice(), wanted, "call {failing}");
     }
@@ -74,27 +72,24 @@ fn each_call_of_a_folder_may_fail(rt: HostRuntime) -> Result<(), Fail> {
     Ok(())
 }
 
-// Whichever write, flush or remark fails, the run ends with its error, and no more is written.
+// Whichever write or remark fails, the run ends with its error, and no more is told.
 #[test]
 fn each_write_may_fail(rt: HostRuntime) -> Result<(), Fail> {
     let alloc = rt.alloc();
     let files: [(&[u8], &[u8]); 2] = [(b"abc", b"abc"), (b"empty", b"")];
     let listed: [&[u8]; 3] = [b"abc", b"missing", b"empty"];
-    for failing in 0..5 {
+    // A line, a remark and a line.
+    for failing in 1..4 {
         let memory = Memory {
             files: &files,
             calls: Calls::failing_at(0),
         };
         let mut page = Page::new(alloc, failing);
-        let mut remarks = Remarks::new(alloc, usize::from(failing == 0));
-        let outcome = print_digests(alloc, &memory, STYLE, &listed, &mut page, &mut remarks);
+        let outcome = print_digests(alloc, &memory, STYLE, &listed, &mut page);
         assert!(rt; matches!(outcome, Err(Fault::Write(_))), "write {failing}");
-        // Each line is written and flushed; in place of the second is a remark.
-        assert_eq!(rt; page.calls.made(), if failing == 0 { 2 } else { failing });
-        assert_eq!(rt;
-            remarks.calls.made(),
-            usize::from(failing == 0 || failing > 2)
-        );
+        assert_eq!(rt; page.calls.made(), failing);
+        assert_eq!(rt; page.bytes.as_slice(), if failing == 1 { b"" } else { ABC });
+        assert_eq!(rt; page.unreadable, usize::from(failing == 3));
     }
     Ok(())
 }

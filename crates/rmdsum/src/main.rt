@@ -14,11 +14,12 @@ mod system;
 
 use arguments::Request;
 use help::{HELP, VERSION};
-use messages::{Message, Remarks, say};
+use messages::{Console, Message, say};
 use names::Names;
 use ripemd_files::checking::check_list;
 use ripemd_files::fault::Fault;
 use ripemd_files::list::Rules;
+use ripemd_files::piece::List;
 use ripemd_files::printing::{Style, print_digests};
 use ripemd_files::verdict::Options;
 use ripemd_files::{Layout, Variant};
@@ -50,20 +51,19 @@ fn slices_of(alloc: Global, names: &[Vec<u8>]) -> Result<Vec<&[u8]>, AllocError>
 }
 
 // Writes a text, in parts. Whether that is done.
-fn print<W: Write>(out: &mut W, parts: &[&[u8]]) -> Result<bool, Fault> {
+fn print(rt: &HostRuntime, parts: &[&[u8]]) -> Result<bool, Fault> {
     for part in parts {
-        out.write_all(part).map_err(Fault::Write)?;
+        rt.stdout().write_all(part).map_err(Fault::Write)?;
     }
     Ok(true)
 }
 
 // Checks a list. Whether the check succeeds.
-fn check_one<W: Write>(
+fn check_one(
     rt: &HostRuntime,
     check: Check,
     name: &[u8],
     layout: &mut Option<Layout>,
-    out: &mut W,
 ) -> Result<bool, Fault> {
     let source = match Source::open(rt, name) {
         Ok(source) => source,
@@ -74,7 +74,6 @@ fn check_one<W: Write>(
     };
     let from_input = is_input(name);
     let shown = if from_input { b"standard input" } else { name };
-    let mut reader = buffered(rt, source)?;
     check_list(
         rt.alloc(),
         &System::new(rt, check.progress),
@@ -84,19 +83,13 @@ fn check_one<W: Write>(
             from_input,
         },
         layout,
-        &mut reader,
-        out,
-        &mut Remarks::on_list(rt, shown, check.only),
+        &mut List::new(buffered(rt, source)?),
+        &mut Console::of_list(rt, shown, check.only),
     )
 }
 
 // Checks lists. Whether all checks succeed.
-fn check_all<W: Write>(
-    rt: &HostRuntime,
-    check: Check,
-    names: arguments::Names,
-    out: &mut W,
-) -> Result<bool, Fault> {
+fn check_all(rt: &HostRuntime, check: Check, names: arguments::Names) -> Result<bool, Fault> {
     let Some(mut names) = Names::open(rt, names)? else {
         return Ok(false);
     };
@@ -108,7 +101,7 @@ fn check_all<W: Write>(
             break;
         }
         for name in &batch.names {
-            let checked = check_one(rt, check, name.as_slice(), &mut layout, out)?;
+            let checked = check_one(rt, check, name.as_slice(), &mut layout)?;
             success &= checked;
         }
         let named = names.tell(rt, batch.wrong)?;
@@ -118,12 +111,11 @@ fn check_all<W: Write>(
 }
 
 // Prints the digests of files. Whether all could be read.
-fn print_all<W: Write>(
+fn print_all(
     rt: &HostRuntime,
     style: Style,
     progress: bool,
     names: arguments::Names,
-    out: &mut W,
 ) -> Result<bool, Fault> {
     let Some(mut names) = Names::open(rt, names)? else {
         return Ok(false);
@@ -139,8 +131,7 @@ fn print_all<W: Write>(
             &System::new(rt, progress),
             style,
             &slices_of(rt.alloc(), batch.names.as_slice())?,
-            out,
-            &mut Remarks::on_files(rt),
+            &mut Console::of_files(rt),
         )?;
         let named = names.tell(rt, batch.wrong)?;
         success &= printed && named;
@@ -149,13 +140,13 @@ fn print_all<W: Write>(
 }
 
 // Does what is asked for. Whether all could be done.
-fn perform<W: Write>(rt: &HostRuntime, request: Request, out: &mut W) -> Result<bool, Fault> {
+fn perform(rt: &HostRuntime, request: Request) -> Result<bool, Fault> {
     match request {
         Request::Help => {
             let program = arguments::program(rt, rt.alloc())?;
-            print(out, &[b"Usage: ", program.as_slice(), HELP.as_bytes()])
+            print(rt, &[b"Usage: ", program.as_slice(), HELP.as_bytes()])
         }
-        Request::Version => print(out, &[VERSION.as_bytes()]),
+        Request::Version => print(rt, &[VERSION.as_bytes()]),
         Request::Print {
             variant,
             form,
@@ -168,7 +159,7 @@ fn perform<W: Write>(rt: &HostRuntime, request: Request, out: &mut W) -> Result<
                 form,
                 ending,
             };
-            print_all(rt, style, progress, names, out)
+            print_all(rt, style, progress, names)
         }
         Request::Check {
             only,
@@ -181,7 +172,7 @@ fn perform<W: Write>(rt: &HostRuntime, request: Request, out: &mut W) -> Result<
                 options,
                 progress,
             };
-            check_all(rt, check, names, out)
+            check_all(rt, check, names)
         }
     }
 }
@@ -191,7 +182,7 @@ fn run(rt: &HostRuntime) -> Result<bool, Fault> {
     let arguments = arguments::collect(rt, rt.alloc())?;
     let operands_last = !matches!(env::var(rt, "POSIXLY_CORRECT"), Err(VarError::NotPresent));
     match arguments::parse(rt.alloc(), operands_last, arguments.as_slice())? {
-        Ok(request) => { perform(rt, request, &mut rt.stdout()) }
+        Ok(request) => perform(rt, request),
         Err(misuse) => {
             say(rt, Message::Misuse(&misuse)).map_err(Fault::Write)?;
             Ok(false)

@@ -1,6 +1,6 @@
 //! What the program says on standard error.
 
-ghost use Rattle.std.specs.Prelude.{None};
+ghost use Rattle.std.specs.Prelude.{◌≡◌, IfErr, None, OnOk, Some};
 
 use crate::arguments::program;
 use crate::quoting::{Charset, quoteaf, quotef};
@@ -164,22 +164,22 @@ fn without_number(text: &str) -> &str {
     }
 }
 
-/// The remarks of a run, on standard error.
-#[derive(Clone, Copy)]
-pub struct Remarks<'a> {
+/// What a run tells: its lines on standard output, and its remarks on standard error.
+pub struct Console<'a> {
     rt: &'a HostRuntime,
     list: &'a [u8],
     hash: &'static str,
+    failure: Option<io::Error>,
 }
 
-impl<'a> Remarks<'a> {
-    /// On files alone.
-    pub fn on_files(rt: &'a HostRuntime) -> Remarks<'a> {
-        Remarks::on_list(rt, b"", None)
+impl<'a> Console<'a> {
+    /// Of files alone.
+    pub fn of_files(rt: &'a HostRuntime) -> Console<'a> {
+        Console::of_list(rt, b"", None)
     }
 
-    /// On a list and its files. Its lines are of one hash, or of any.
-    pub fn on_list(rt: &'a HostRuntime, list: &'a [u8], only: Option<Variant>) -> Remarks<'a> {
+    /// Of a list and its files. Its lines are of one hash, or of any.
+    pub fn of_list(rt: &'a HostRuntime, list: &'a [u8], only: Option<Variant>) -> Console<'a> {
         let hash = match only {
             None => "RIPEMD",
             Some(Variant::R128) => "RMD128",
@@ -187,18 +187,47 @@ impl<'a> Remarks<'a> {
             Some(Variant::R256) => "RMD256",
             Some(Variant::R320) => "RMD320",
         };
-        Remarks { rt, list, hash }
+        Console {
+            rt,
+            list,
+            hash,
+            failure: None,
+        }
+    }
+
+    // Keeps the error of a call that failed.
+    fn keep(&mut self, outcome: io::Result<()>) -> io::Result<()>
+        ensures ok { OnOk result (self.new.failure ≡ self.old.failure) }
+        ensures err { IfErr result (λ error. self.new.failure ≡ Some error) }
+    {
+        if let Err(error) = &outcome {
+            self.failure = Some(*error);
+        }
+        outcome
     }
 }
 
-impl Log for Remarks<'_> {
-    ghost said = { λ remarks. None };
+impl Log for Console<'_> {
+    ghost told = { λ console. record { items = None; failure = console.failure } };
+
+    fn write(&mut self, lines: &[u8]) -> io::Result<()> {
+        let outcome = write_lines(self.rt, lines);
+        self.keep(outcome)
+    }
 
     fn unreadable(&mut self, name: &[u8], error: io::Error) -> io::Result<()> {
-        say(self.rt, Message::Unreadable(name, error))
+        let outcome = say(self.rt, Message::Unreadable(name, error));
+        self.keep(outcome)
     }
 
     fn complain(&mut self, complaint: Complaint) -> io::Result<()> {
-        say(self.rt, Message::List(self.list, self.hash, complaint))
+        let outcome = say(self.rt, Message::List(self.list, self.hash, complaint));
+        self.keep(outcome)
     }
+}
+
+fn write_lines(rt: &HostRuntime, lines: &[u8]) -> io::Result<()> {
+    let mut out = rt.stdout();
+    out.write_all(lines)?;
+    out.flush()
 }

@@ -1,10 +1,10 @@
-use Rattle.ripemd_files.proofs.Determined.{one_report_as_far, one_report_whole}
+use Rattle.ripemd_files.proofs.Determined as laws
 use Rattle.ripemd_files.proofs.check_facts.one_report.Goals as goal
 
-pub returns-clause-whole : goal.returns-clause-whole
-returns-clause-whole g c contents options rules first list before known one other =
-    one_report_whole (g.F.Folder.place c.args._folder.now) contents known options rules first list before one other
+pub returns-clause-same : goal.returns-clause-same
+returns-clause-same g c contents options rules first start known one other stage far =
+    laws.one_report (g.F.Folder.place c.args._folder.now) contents known options rules first start one other stage far
 
-pub returns-clause-as_far : goal.returns-clause-as_far
-returns-clause-as_far g c contents options rules first list before known one other =
-    one_report_as_far (g.F.Folder.place c.args._folder.now) contents known options rules first list before one other
+pub returns-clause-early : goal.returns-clause-early
+returns-clause-early g c contents options rules first start known one whole end works =
+    laws.early_end (g.F.Folder.place c.args._folder.now) contents known options rules first start one whole end works

@@ -1,39 +1,79 @@
 use Rattle.std.proofs.Common.{rules, arith, refl, [], Some, None}
 use Rattle.ripemd_files.proofs.Cutting.{ended_since}
-use Rattle.ripemd_files.proofs.Grouped.{reads_line, reads_last, taken}
+use Rattle.ripemd_files.proofs.Grouped.{now_failed, still, reads_line, reads_last, reads_no_more, reads_nothing, stops_at_line, stops_at_last, stops_reading, taken}
 use Rattle.ripemd_files.proofs.list.read_group.Goals as goal
 
-pub returns-in-Last : goal.returns-in-Last
-returns-in-Last g c =
-    let piece = rw c.in-Last.is at c.in_ok-read_piece.ensures in
+pub lines-init : goal.lines-init
+lines-init g c = record {
+  reads = rw c.in_ok-lines.ensures.items (reads_nothing _ _ _ _ _);
+  works = refl;
+  advanced = λ some. search rules;
+  bounded = λ some. search rules;
+  behind = omega arith;
+}
+
+pub returns-in_err-read_line-clause-err : goal.returns-in_err-read_line-clause-err
+returns-in_err-read_line-clause-err g c =
+    search (rules, stops_reading _ _ _ _ _ _ _ _ _ c.lines.invariant.reads c.in_err-read_line.ensures.err)
+
+pub returns-in-Failed-clause-ok : goal.returns-in-Failed-clause-ok
+unfolding reads_no_more
+returns-in-Failed-clause-ok g c =
+    let piece = rw c.in-Failed.is at c.in_ok-read_line.ensures.piece in
     let before = c.lines.invariant.reads in
     record {
-      rest = [];
-      reads = reads_last _ _ _ _ _ _ _ _ _ before _ _ _ _ (rw c.as_slice-in-Last.ensures.value at c.in_ok-misformatted-in-Last.ensures.takes) piece;
-      ended = (refl, ended_since _ _ _ _ (taken _ _ _ _ _ (g.R.Read.remaining c.read_piece.new.reader) _ _ _ before) piece.1);
+      rest = c.read_line.new.text.items;
+      reads = reads_no_more _ _ _ _ _ _ _ _ _ before c.read_line.new.text.items piece.0;
+      ended = (before.whole refl, piece.1, now_failed _ _ (rw c.in-Failed.is at c.in_ok-read_line.ensures.failed));
       advanced = λ never. absurd (search (rules, never));
       bounded = λ never. absurd (search (rules, never));
     }
 
-pub returns-in-Some : goal.returns-in-Some
-returns-in-Some g c =
-    let piece = rw c.in-Line.is at c.in_ok-read_piece.ensures in
-    let line = c.in_ok-misformatted-in-Line in
+pub returns-in_err-misformatted-in-Last-clause-err : goal.returns-in_err-misformatted-in-Last-clause-err
+returns-in_err-misformatted-in-Last-clause-err g c =
+    search (rules, stops_at_last _ _ _ _ _ _ _ _ _ c.lines.invariant.reads _ _ c.in_err-misformatted-in-Last.ensures.err (rw c.in-Last.is at c.in_ok-read_line.ensures.piece))
+
+pub returns-in-Last-clause-ok : goal.returns-in-Last-clause-ok
+returns-in-Last-clause-ok g c =
+    let piece = rw c.in-Last.is at c.in_ok-read_line.ensures.piece in
+    let before = c.lines.invariant.reads in
+    let line = c.in_ok-misformatted-in-Last.ensures in
     record {
       rest = [];
-      reads = reads_line _ _ _ _ _ _ _ _ _ c.lines.invariant.reads _ _ _ (Some c.in-Some.number) (rw (c.as_slice-in-Line.ensures.value, c.in-Some.is) at line.ensures.takes) piece;
-      ended = refl;
-      advanced = λ _. omega (arith, line.ensures.advances, c.lines.invariant.behind);
-      bounded = λ _. line.ensures.bound;
+      reads = reads_last _ _ _ _ _ _ _ _ _ before _ _ _ _ (rw c.as_slice-in-Last.ensures.value at line.takes) line.advances piece;
+      ended = (
+        refl,
+        ended_since _ _ _ _ (taken _ _ _ _ _ (g.R.ReadList.state c.read_line.new.self).left _ _ _ before) piece.1,
+        still _ _ _ (rw c.in-Last.is at c.in_ok-read_line.ensures.failed) c.lines.invariant.works,
+      );
+      advanced = λ never. absurd (search (rules, never));
+      bounded = λ never. absurd (search (rules, never));
+    }
+
+pub returns-in_err-misformatted-in-Line-clause-err : goal.returns-in_err-misformatted-in-Line-clause-err
+returns-in_err-misformatted-in-Line-clause-err g c =
+    search (rules, stops_at_line _ _ _ _ _ _ _ _ _ c.lines.invariant.reads _ _ c.in_err-misformatted-in-Line.ensures.err (rw c.in-Line.is at c.in_ok-read_line.ensures.piece))
+
+pub returns-in-Some-clause-ok : goal.returns-in-Some-clause-ok
+returns-in-Some-clause-ok g c =
+    let piece = rw c.in-Line.is at c.in_ok-read_line.ensures.piece in
+    let line = c.in_ok-misformatted-in-Line.ensures in
+    record {
+      rest = [];
+      reads = reads_line _ _ _ _ _ _ _ _ _ c.lines.invariant.reads _ _ _ (Some c.in-Some.number) (rw (c.as_slice-in-Line.ensures.value, c.in-Some.is) at line.takes) line.advances piece;
+      ended = (refl, still _ _ _ (rw c.in-Line.is at c.in_ok-read_line.ensures.failed) c.lines.invariant.works);
+      advanced = λ _. omega (arith, line.advances, c.lines.invariant.behind);
+      bounded = λ _. line.bound;
     }
 
 pub lines-preserved : goal.lines-preserved
 lines-preserved g c =
-    let piece = rw c.in-Line.is at c.in_ok-read_piece.ensures in
-    let line = c.in_ok-misformatted-in-Line in
+    let piece = rw c.in-Line.is at c.in_ok-read_line.ensures.piece in
+    let line = c.in_ok-misformatted-in-Line.ensures in
     record {
-      reads = reads_line _ _ _ _ _ _ _ _ _ c.lines.invariant.reads _ _ _ None (rw (c.as_slice-in-Line.ensures.value, c.in-None.is) at line.ensures.takes) piece;
-      advanced = λ _. omega (arith, line.ensures.advances, c.lines.invariant.behind);
-      bounded = λ _. line.ensures.bound;
-      behind = omega (arith, line.ensures.advances, c.lines.invariant.behind);
+      reads = reads_line _ _ _ _ _ _ _ _ _ c.lines.invariant.reads _ _ _ None (rw (c.as_slice-in-Line.ensures.value, c.in-None.is) at line.takes) line.advances piece;
+      works = still _ _ _ (rw c.in-Line.is at c.in_ok-read_line.ensures.failed) c.lines.invariant.works;
+      advanced = λ _. omega (arith, line.advances, c.lines.invariant.behind);
+      bounded = λ _. line.bound;
+      behind = omega (arith, line.advances, c.lines.invariant.behind);
     }

@@ -1,6 +1,10 @@
 use Rattle.std.proofs.Common.{rules, refl}
-use Rattle.ripemd_files.proofs.Listed.{takes_misformatted, takes_said}
+use Rattle.ripemd_files.proofs.Listed.{takes_misformatted, takes_said, takes_skipped}
 use Rattle.ripemd_files.proofs.list.take_line.Goals as goal
+
+pub returns-then-is_skipped-clause-takes : goal.returns-then-is_skipped-clause-takes
+returns-then-is_skipped-clause-takes g c =
+    takes_skipped _ _ _ c.args.cursor.now _ c.args.text.now (search rules) refl (search rules) _
 
 pub returns-in-None-clause-takes : goal.returns-in-None-clause-takes
 returns-in-None-clause-takes g c =

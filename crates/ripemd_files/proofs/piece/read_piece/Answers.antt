@@ -1,14 +1,21 @@
 use Rattle.std.proofs.Common.{◌<◌, sym, ◌∙◌, ap, length, arith, rules}
-use Rattle.ripemd_files.proofs.Cutting.{read_line, read_last}
+use Rattle.ripemd_files.proofs.Cutting.{read_line, read_last, read_rest}
 use Rattle.ripemd_files.proofs.piece.read_piece.Goals as goal
 
-pub returns-then-pop_newline : goal.returns-then-pop_newline
-returns-then-pop_newline g c =
-    read_line _ _ _ _ _ c.clear.ensures.items c.read_until.ensures.stops c.read_until.ensures.none_lost
-    (sym c.pop_newline.ensures.found ∙ c.if-pop_newline.true) c.pop_newline.ensures.text
+pub returns-in_default-clause-piece : goal.returns-in_default-clause-piece
+returns-in_default-clause-piece g c =
+    read_line _ _ _ _ _ c.clear.ensures.items c.read_until-outcome.ensures.stops c.read_until-outcome.ensures.none_lost
+    (sym c.pop_newline-has_newline.ensures.found ∙ c.if-has_newline.true) c.pop_newline-has_newline.ensures.text
 
-pub returns-else-pop_newline : goal.returns-else-pop_newline
-returns-else-pop_newline g c =
-    let some : 0 < length c.read_until.new.buf.items = search rules in
-    read_last _ _ _ _ _ c.clear.ensures.items c.read_until.ensures.stops c.read_until.ensures.none_lost c.in-Ok.ensures.bytes c.in-Ok.ensures.rest
-    (λ none. omega (arith, ap length none)) (sym c.pop_newline.ensures.found ∙ c.if-pop_newline.false) c.pop_newline.ensures.text
+pub returns-in-Err-2-clause-piece : goal.returns-in-Err-2-clause-piece
+returns-in-Err-2-clause-piece g c =
+    let rest =
+    read_rest _ _ _ _ _ c.clear.ensures.items c.read_until-outcome.ensures.stops c.read_until-outcome.ensures.none_lost
+    (sym c.pop_newline-has_newline.ensures.found ∙ c.if-has_newline.false) c.pop_newline-has_newline.ensures.text in
+    (rest.1, rest.2)
+
+pub returns-in-Ok-clause-piece : goal.returns-in-Ok-clause-piece
+returns-in-Ok-clause-piece g c =
+    let some : 0 < length c.read_until-outcome.new.buf.items = search rules in
+    read_last _ _ _ _ _ c.clear.ensures.items c.read_until-outcome.ensures.stops c.read_until-outcome.ensures.none_lost c.in-Ok.ensures.bytes c.in-Ok.ensures.rest
+    (λ none. omega (arith, ap length none)) (sym c.pop_newline-has_newline.ensures.found ∙ c.if-has_newline.false) c.pop_newline-has_newline.ensures.text

@@ -4,8 +4,8 @@ use Rattle.ripemd_files.proofs.printing.print_groups.Given as goal
 
 abbrev pub invariant-loop-start : goal.invariant-loop-start
 invariant-loop-start g l = record {
-  printed : PrintsAll (g.F.Folder.place l.folder) l.style (map (λ r. r.now) (take l.start l.names)) (g.W.Write.contents l.initial.out)
-      (g.W.Write.contents l.out) (g.L.Log.said l.initial.log) (g.L.Log.said l.log) l.all;
+  printed : PrintsAll (g.F.Folder.place l.folder) l.style (map (λ r. r.now) (take l.start l.names)) (g.L.Log.told l.initial.log)
+      (g.L.Log.told l.log) l.all;
   within : l.start ≤ length l.names;
 }
 
