@@ -20,9 +20,9 @@ use Rattle.ripemd_files.specs.declared.verdict.Verdict.{Verdict}
 use Rattle.ripemd_files.specs.declared.verdict.Verdict.TheVariants.{Matches, Differs, Missing, Unreadable}
 use Rattle.ripemd_files.specs.declared.verdict.Options.{Options}
 use Rattle.ripemd_files.specs.declared.verdict.Tally.{Tally}
-use Rattle.ripemd_files.specs.Said.{about_list, unreadable}
-use Rattle.ripemd_files.specs.Printing.{line_for, remarks_on, was_read}
-use Rattle.ripemd_files.specs.Checking.{Event, IsTally, checked, closing_remarks, counted, is_misformatted, is_success, line_of_event, misformatted, remarks_on_event, verdict_of}
+use Rattle.ripemd_files.specs.Said.{about_list, unreadable, written}
+use Rattle.ripemd_files.specs.Printing.{items_on, line_for, remarks_on, was_read}
+use Rattle.ripemd_files.specs.Checking.{Event, IsTally, checked, closing_remarks, counted, is_misformatted, is_success, items_of_event, line_of_event, misformatted, remarks_on_event, verdict_of}
 use Rattle.ripemd_files.specs.Lists.{IsWanted, body_of_line, is_passed_over, layout_after}
 use Rattle.ripemd_files.specs.Worked.{digits_of, digits_then}
 
@@ -64,6 +64,15 @@ strictly = record plain { strict = true }
 abbrev pub warning : Options
 warning = record plain { warn = true }
 
+abbrev pub strictly_warning : Options
+strictly_warning = record warning { strict = true }
+
+abbrev pub strictly_silent : Options
+strictly_silent = record silently { strict = true }
+
+abbrev pub quietly_ignoring : Options
+quietly_ignoring = record quietly { ignore_missing = true }
+
 -- what is written of a verdict on the file "a"
 abbrev pub says_of_a : Options → Verdict → List ℕ
 says_of_a options verdict = line_of_event options (checked (codes "a") verdict)
@@ -81,12 +90,14 @@ pub record LinesOfEvents (error : Error) : Type 0 where
   pub silent_difference : says_of_a silently Differs ≡ []
   pub silent_error : says_of_a silently (Unreadable error) ≡ []
   pub strict : says_of_a strictly Matches ≡ codes "a: OK\n"
+  pub strict_silent : says_of_a strictly_silent Differs ≡ []
   pub ignoring_match : says_of_a ignoring Matches ≡ codes "a: OK\n"
   pub warned : says_of_a warning Matches ≡ codes "a: OK\n"
   pub no_name : line_of_event plain (checked [] (Unreadable error)) ≡ codes ": FAILED open or read\n"
   pub backslash : line_of_event plain (checked (codes "b\\c") Matches) ≡ codes "b\\c: OK\n"
   pub carriage_return : line_of_event plain (checked (codes "c\rd") Matches) ≡ codes "c\rd: OK\n"
   pub newline : line_of_event plain (checked (codes "a\nb") Differs) ≡ codes "\\a\\nb: FAILED\n"
+  pub newline_and_tab : line_of_event plain (checked (codes "a\n\tb") Differs) ≡ codes "\\a\\n\tb: FAILED\n"
   pub all_special : line_of_event plain (checked (codes "a\nb\\c\rd") Matches) ≡ codes "\\a\\nb\\\\c\\rd: OK\n"
 
 pub record RemarksOnEvents (error : Error) : Type 0 where
@@ -97,7 +108,14 @@ pub record RemarksOnEvents (error : Error) : Type 0 where
   pub silent_error : remarks_on_event silently (checked (codes "a") (Unreadable error)) ≡ unreadable (codes "a") error ∷ []
   pub quiet_error : remarks_on_event quietly (checked (codes "a") (Unreadable error)) ≡ unreadable (codes "a") error ∷ []
   pub warned : remarks_on_event warning (misformatted 3) ≡ about_list (complaints.Misformatted 3) ∷ []
+  pub warned_strictly : remarks_on_event strictly_warning (misformatted 3) ≡ about_list (complaints.Misformatted 3) ∷ []
   pub not_warned : remarks_on_event plain (misformatted 3) ≡ []
+  pub not_warned_strictly : remarks_on_event strictly (misformatted 3) ≡ []
+
+-- a remark on a file stands before its line
+pub record ItemsOfEvents (error : Error) : Type 0 where
+  pub an_error : items_of_event plain (checked [] (Unreadable error)) ≡ unreadable [] error ∷ written (codes ": FAILED open or read\n")
+  pub a_match : items_of_event plain (checked (codes "a") Matches) ≡ written (codes "a: OK\n")
 
 -- ---- counts
 
@@ -151,6 +169,8 @@ pub record ClosingRemarks : Type 0 where
   pub no_lines_but_damaged : closing_remarks ignoring (tally 1 0 0 false false) ≡ about_list complaints.NoLines ∷ []
   pub no_lines_silently : closing_remarks silently (tally 1 0 0 false false) ≡ about_list complaints.NoLines ∷ []
   pub silently_all : closing_remarks (record silently { ignore_missing = true }) (tally 1 2 3 false true) ≡ []
+  pub silently_strictly : closing_remarks strictly_silent (tally 1 2 3 true true) ≡ []
+  pub quietly_ignoring : closing_remarks quietly_ignoring (tally 0 0 0 false true) ≡ about_list complaints.NothingVerified ∷ []
   pub quietly_damaged : closing_remarks quietly (tally 1 0 0 true true) ≡ about_list (complaints.MisformattedLines 1) ∷ []
   pub strictly_damaged : closing_remarks strictly (tally 1 0 0 true true) ≡ about_list (complaints.MisformattedLines 1) ∷ []
   pub warned_damaged : closing_remarks warning (tally 1 0 0 true true) ≡ about_list (complaints.MisformattedLines 1) ∷ []
@@ -168,7 +188,9 @@ pub record Answers : Type 0 where
   pub ignoring_damaged : is_success ignoring (tally 1 0 0 true true) ≡ true
   pub silently_damaged : is_success silently (tally 1 0 0 true true) ≡ true
   pub silently_differs : is_success silently (tally 0 1 0 true true) ≡ false
-  pub silently_strictly : is_success (record silently { strict = true }) (tally 1 0 0 true true) ≡ false
+  pub silently_strictly : is_success strictly_silent (tally 1 0 0 true true) ≡ false
+  pub strictly_warned : is_success strictly_warning (tally 1 0 0 true true) ≡ false
+  pub quietly_ignoring_all : is_success quietly_ignoring (tally 0 0 0 false true) ≡ false
   pub quietly_differs : is_success quietly (tally 0 1 0 true true) ≡ false
   pub warned : is_success warning (tally 1 0 0 true true) ≡ true
 
@@ -208,6 +230,7 @@ pub record NextLayouts : Type 0 where
   pub ended_by_two : layout_after all_lines None (digits_then (codes "  a\r")) ≡ Some Standard
   pub no_name : layout_after all_lines None (digits_then (codes " \r")) ≡ None
   pub only_another : layout_after lines_of_128 None (digits_then (codes "  abc")) ≡ None
+  pub on_input : layout_after (record all_lines { from_input = true }) None (digits_then (codes " abc")) ≡ Some Reversed
   pub only_this : layout_after lines_of_128 None (digits_of R128 ++ codes " abc") ≡ Some Reversed
 
 pub record Wanted : Type 0 where
@@ -231,6 +254,7 @@ pub record PrintedLines (outcome : Outcome) : Type 0 where
   pub special : line_for (style Text Newline) (codes "b\\c") outcome ≡ codes "\\01ab  b\\\\c\n"
   pub remarks : remarks_on (codes "a") outcome ≡ []
   pub read : was_read outcome ≡ true
+  pub items : items_on (style Text Newline) (codes "a") outcome ≡ written (codes "01ab  a\n")
 
 pub record PrintedErrors (style : Style) (error : Error) : Type 0 where
   pub refused : line_for style (codes "a") (Refused error) ≡ []

@@ -13,7 +13,7 @@ ghost use Rattle.ripemd_files.specs.Lists.{ended, failed};
 ghost use Rattle.ripemd_files.specs.Said.{Item};
 ghost use Rattle.ripemd_files.specs.Contents.{IsDigest};
 ghost use Rattle.ripemd_files.specs.Checking.{Event};
-ghost use Rattle.ripemd_files.specs.WorkedChecks.{DigestVerdicts, ErrorVerdicts, LinesOfEvents, RemarksOnEvents, Tallies, OtherTallies, LongCounts, ClosingRemarks, Answers, PassedOver, Bodies, NextLayouts, Wanted, PrintedLines, PrintedErrors};
+ghost use Rattle.ripemd_files.specs.WorkedChecks.{DigestVerdicts, ErrorVerdicts, ItemsOfEvents, LinesOfEvents, RemarksOnEvents, Tallies, OtherTallies, LongCounts, ClosingRemarks, Answers, PassedOver, Bodies, NextLayouts, Wanted, PrintedLines, PrintedErrors};
 
 use crate::folder::Folder;
 
@@ -55,6 +55,7 @@ pub fn worked_verdicts()
 pub fn worked_events()
     ensures lines { (error : Error) → LinesOfEvents error }
     ensures remarks { (error : Error) → RemarksOnEvents error }
+    ensures items { (error : Error) → ItemsOfEvents error }
 {}
 
 /// What is counted, said at the end, and answered.

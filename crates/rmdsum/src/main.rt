@@ -3,6 +3,7 @@
 #![tactic(auto)]
 
 mod arguments;
+mod facts;
 mod help;
 mod messages;
 mod names;

@@ -165,6 +165,7 @@ fn without_number(text: &str) -> &str {
 }
 
 /// What a run tells: its lines on standard output, and its remarks on standard error.
+#[derive(Drop)]
 pub struct Console<'a> {
     rt: &'a HostRuntime,
     list: &'a [u8],
