@@ -48,4 +48,5 @@ pub record WorkedKeyLists : Type 0 where
   pub too_long_of_none : RefusesRoom (DerivesKeys 160 [] [] 1 (20 * (2 ^ 32 - 1) + 1)) 0
   pub other_room : RefusesRoom (Keys 2 25) 49
   pub one_salt : RefusesRoom (DerivesKeys 160 (codes "password" ∷ codes "secret" ∷ []) (codes "salt" ∷ []) 2 25) 50
+  pub more_salts : RefusesRoom (DerivesKeys 160 (codes "password" ∷ []) (codes "salt" ∷ codes "pepper" ∷ []) 2 25) 25
   pub blocks_of_list : Gives (FillsKeys five 1 ([] ∷ []) ([] ∷ []) 2 3) 3 (codes "000000")

@@ -52,6 +52,8 @@ pub record WorkedTags : Type 0 where
   pub verified : (answer : Bool) → VerifiesTag 160 key (codes "Hi There") tag answer → IsTrue answer
   pub wrong : (answer : Bool) → VerifiesTag 160 key (codes "Hi there") tag answer → IsFalse answer
   pub part : (answer : Bool) → VerifiesTag 160 key (codes "Hi There") (take 10 tag) answer → IsFalse answer
+  pub nothing : (answer : Bool) → VerifiesTag 160 key (codes "Hi There") [] answer → IsFalse answer
+  pub longer : (answer : Bool) → VerifiesTag 160 key (codes "Hi There") (tag ++ 0 ∷ []) answer → IsFalse answer
   pub no_variant : (answer : Bool) → VerifiesTag 0 key (codes "Hi There") tag answer → IsFalse answer
 
 -- ---- keys
@@ -156,6 +158,9 @@ pub record WorkedHmacStates : Type 0 where
   pub other_kind : (answer : Bool) → VerifiesHmac (20 ∷ (saved_inner ++ saved_outer) ++ replicate 40 0) tag answer → IsFalse answer
   pub verified : (answer : Bool) → VerifiesHmac (kept_hmac saved_inner saved_outer) tag answer → IsTrue answer
   pub wrong : (answer : Bool) → VerifiesHmac (kept_hmac saved_inner saved_outer) (replicate 20 0) answer → IsFalse answer
+  pub nothing : (answer : Bool) → VerifiesHmac (kept_hmac saved_inner saved_outer) [] answer → IsFalse answer
+  pub part : (answer : Bool) → VerifiesHmac (kept_hmac saved_inner saved_outer) (take 10 tag) answer → IsFalse answer
+  pub longer : (answer : Bool) → VerifiesHmac (kept_hmac saved_inner saved_outer) (tag ++ 0 ∷ []) answer → IsFalse answer
   pub not_verified : (some : List ℕ) (answer : Bool) → VerifiesHmac (kept_hmac saved_inner forged) some answer
       → IsFalse answer
   pub not_updated : (piece new : List ℕ) (done : Bool) → UpdatesHmac (kept_hmac saved_inner forged) piece new done

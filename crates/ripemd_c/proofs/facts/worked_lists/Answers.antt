@@ -33,5 +33,6 @@ returns-clause-keys c = record {
   too_long_of_none = λ new done does. refused done (λ fits. absurd (omega (arith, fits.0.1))) does;
   other_room = λ new done does. refused done (λ fits. absurd (omega (arith, fits.2))) does;
   one_salt = λ new done does. refused done (λ fits. absurd (omega (arith, fits.1))) does;
+  more_salts = λ new done does. refused done (λ fits. absurd (omega (arith, fits.1))) does;
   blocks_of_list = λ new done does. written ((search rules, omega arith), refl, refl) refl does;
 }

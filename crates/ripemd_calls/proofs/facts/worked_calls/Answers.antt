@@ -47,6 +47,8 @@ returns-clause-tags c = record {
   verified = λ answer does. does.1 refl;
   wrong = λ answer does. not_answered answer (λ same. omega (arith, ap (λ (bytes : List ℕ). get_or bytes 0 0) same)) does.0;
   part = λ answer does. not_answered answer (λ same. omega (arith, ap (λ (bytes : List ℕ). length bytes) same)) does.0;
+  nothing = λ answer does. not_answered answer (λ same. omega (arith, ap (λ (bytes : List ℕ). length bytes) same)) does.0;
+  longer = λ answer does. not_answered answer (λ same. omega (arith, ap (λ (bytes : List ℕ). length bytes) same)) does.0;
   no_variant = λ answer does. does;
 }
 

@@ -152,6 +152,15 @@ returns-clause-hmac_states c =
       wrong = λ answer does.
           not_answered answer (λ same. omega (arith, ap (λ (bytes : List ℕ). get_or bytes 0 0) same))
           (does.message key (codes "Hi There") text).0;
+      nothing = λ answer does.
+          not_answered answer (λ same. omega (arith, ap (λ (bytes : List ℕ). length bytes) same))
+          (does.message key (codes "Hi There") text).0;
+      part = λ answer does.
+          not_answered answer (λ same. omega (arith, ap (λ (bytes : List ℕ). length bytes) same))
+          (does.message key (codes "Hi There") text).0;
+      longer = λ answer does.
+          not_answered answer (λ same. omega (arith, ap (λ (bytes : List ℕ). length bytes) same))
+          (does.message key (codes "Hi There") text).0;
       not_verified = λ some answer does. does.refused (no_outer forged not_state);
       not_updated = λ piece new done does.
           let unfit = does.kept.refused.1 (no_outer forged not_state) in (unfit, does.unchanged unfit);
