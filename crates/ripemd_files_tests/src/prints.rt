@@ -58,7 +58,7 @@ fn each_call_of_a_folder_may_fail(rt: HostRuntime) -> Result<(), Fail> {
             calls: Calls::failing_at(failing),
         };
         let mut page = Page::new(alloc, 0);
-            let all = print_digests(alloc, &memory, STYLE, &listed, &mut page)?;
+        let all = print_digests(alloc, &memory, STYLE, &listed, &mut page)?;
         if all {
             assert!(rt; memory.calls.made() < failing);
             break;
