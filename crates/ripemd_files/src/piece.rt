@@ -67,9 +67,18 @@ impl<R: Read> ReadList for List<R> {
     }
 
     fn read_line(&mut self, text: &mut Vec<u8>) -> Result<Piece, AllocError> {
-        let piece = read_piece(&mut self.reader, text)?;
-        self.failed |= piece == Piece::Failed;
-        Ok(piece)
+        text.clear();
+        let outcome = self.reader.read_until(b'\n', text);
+        let has_newline = pop_newline(text);
+        // Of a read that fails behind a newline, which none does, the next one tells.
+        self.failed |= outcome.is_err() && !has_newline;
+        match outcome {
+            Err(error) if error.kind() == ErrorKind::OutOfMemory => Err(AllocError),
+            _ if has_newline => Ok(Piece::Line),
+            Err(_) => Ok(Piece::Failed),
+            Ok(0) => Ok(Piece::Nothing),
+            Ok(_) => Ok(Piece::Last),
+        }
     }
 }
 
@@ -86,22 +95,4 @@ fn pop_newline(text: &mut Vec<u8>) -> bool
     }
     text.truncate(end);
     true
-}
-
-// Reads the next line of a list to `text`, without its newline.
-fn read_piece<R: BufRead>(reader: &mut R, text: &mut Vec<u8>) -> Result<Piece, AllocError>
-    ensures piece { IfOk result (IsPiece (R.remaining reader.old) (R.remaining reader.new) text.new.items) }
-    ensures err { IfErr result (λ _. ReadsOn (R.remaining reader.old) (R.remaining reader.new)) }
-{
-    text.clear();
-    let outcome = reader.read_until(b'\n', text);
-    let has_newline = pop_newline(text);
-    match outcome {
-        Err(error) if error.kind() == ErrorKind::OutOfMemory => Err(AllocError),
-        // Of a read that fails behind a newline, which none does, the next one tells.
-        _ if has_newline => Ok(Piece::Line),
-        Err(_) => Ok(Piece::Failed),
-        Ok(0) => Ok(Piece::Nothing),
-        Ok(_) => Ok(Piece::Last),
-    }
 }

@@ -1,6 +1,7 @@
 use Rattle.std.proofs.Common.{◌<◌, sym, ◌∙◌, ap, length, arith, rules}
+use Rattle.std.proofs.lemmas.Result.{IfOk-at_ok}
 use Rattle.ripemd_files.proofs.Cutting.{read_line, read_last, read_rest}
-use Rattle.ripemd_files.proofs.piece.read_piece.Goals as goal
+use Rattle.ripemd_files.proofs.piece.ListReadList.read_line.Goals as goal
 
 pub returns-in_default-clause-piece : goal.returns-in_default-clause-piece
 returns-in_default-clause-piece g c =
@@ -17,5 +18,5 @@ returns-in-Err-2-clause-piece g c =
 pub returns-in-Ok-clause-piece : goal.returns-in-Ok-clause-piece
 returns-in-Ok-clause-piece g c =
     let some : 0 < length c.read_until-outcome.new.buf.items = search rules in
-    read_last _ _ _ _ _ c.clear.ensures.items c.read_until-outcome.ensures.stops c.read_until-outcome.ensures.none_lost c.in-Ok.ensures.bytes c.in-Ok.ensures.rest
+    read_last _ _ _ _ _ c.clear.ensures.items c.read_until-outcome.ensures.stops c.read_until-outcome.ensures.none_lost (IfOk-at_ok _ c.in-Ok.is c.read_until-outcome.ensures.bytes) (IfOk-at_ok _ c.in-Ok.is c.read_until-outcome.ensures.rest)
     (λ none. omega (arith, ap length none)) (sym c.pop_newline-has_newline.ensures.found ∙ c.if-has_newline.false) c.pop_newline-has_newline.ensures.text
