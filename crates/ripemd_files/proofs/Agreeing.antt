@@ -17,7 +17,7 @@ use Rattle.ripemd_files.specs.declared.outcome.Outcome.{Outcome}
 use Rattle.ripemd_files.specs.declared.outcome.Outcome.TheVariants.{Digest, Refused, Broken}
 use Rattle.ripemd_files.specs.declared.verdict.Verdict.{Verdict}
 use Rattle.ripemd_files.specs.declared.verdict.Verdict.TheVariants.{Differs, Matches, Missing, Unreadable}
-use Rattle.ripemd_files.specs.Lines.{IsLine, is_end}
+use Rattle.ripemd_files.specs.Lines.{IsLine, RoundTrips, is_end}
 use Rattle.ripemd_files.specs.Readings.{ComesTo, Gives, Place, parameters_of}
 use Rattle.ripemd_files.specs.Checking.{checked, is_missing, verdict_of}
 use Rattle.ripemd_files.specs.Lists.{IsEventOn, IsTaken, body_of_line}
@@ -25,6 +25,7 @@ use Rattle.ripemd_files.specs.Printed.{IsPrinted, printed_line}
 use Rattle.ripemd_files.proofs.Written.{IsLine-line_of}
 use Rattle.ripemd_files.proofs.Ends.{no_end}
 use Rattle.ripemd_files.proofs.Sayings.{one_line}
+use Rattle.ripemd_files.proofs.Sizes.{bytes-ripemd, length-ripemd}
 
 -- a line without the bytes that end lines has no carriage return at its end
 no_return : (line : List ℕ) → list_any is_end line ≡ false → ends_with_byte 13 line ≡ false
@@ -72,19 +73,32 @@ module _ {File : Type 0} (place : Place File) (hash : List ℕ → List ℕ) (na
   same_digest (Broken e) comes is = absurd cc
 
 module _ (kinds : Rules) (layout : Option Layout) (form : Form) (variant : Variant) (message name : List ℕ)
-    (printed : IsPrinted kinds layout form variant message name) where
+    (printed : IsPrinted kinds layout form variant name) where
   abbrev line : List ℕ
   line = printed_line form variant message name
 
   abbrev digest : List ℕ
   digest = ripemd (parameters_of variant) message
 
+  pub round_trips : RoundTrips (unwrap_or layout Standard) form variant digest name
+  round_trips = record {
+    size = length-ripemd variant message;
+    bytes = bytes-ripemd variant message;
+    readable = printed.readable;
+    no_zero = printed.no_zero;
+  }
+
+  -- the line has no end in it
+  pub whole : body_of_line line ≡ line
+  whole = whole_line line (no_end (unwrap_or layout Standard) form variant digest name round_trips)
+
+  pub is_line : IsLine (unwrap_or layout Standard) line variant digest name
+  is_line = IsLine-line_of (unwrap_or layout Standard) Newline form variant digest name round_trips
+
   -- the line counts
   pub printed_is_taken : IsTaken kinds layout line variant digest name
   printed_is_taken = record {
-    is_line = subst (λ b. IsLine (unwrap_or layout Standard) b variant digest name)
-        (sym (whole_line line (no_end (unwrap_or layout Standard) form variant digest name printed.readable)))
-        (IsLine-line_of (unwrap_or layout Standard) Newline form variant digest name printed.readable);
+    is_line = subst (λ b. IsLine (unwrap_or layout Standard) b variant digest name) (sym whole) is_line;
     wanted = printed.wanted;
     other = printed.other;
   }
@@ -92,15 +106,15 @@ module _ (kinds : Rules) (layout : Option Layout) (form : Form) (variant : Varia
   module _ {File : Type 0} (place : Place File) (ignore_missing : Bool) (number : ℕ) (found : List ℕ) (verdict : Verdict)
       (event : IsEventOn place ignore_missing kinds layout number line (checked found verdict)) where
     -- it is what the event is about
-    same_line : (event.0 ≡ variant) × (event.1 ≡ digest) × (found ≡ name)
+    pub same_line : (event.0 ≡ variant) × (event.1 ≡ digest) × (found ≡ name)
     same_line =
         one_line (unwrap_or layout Standard) (body_of_line line) event.0 variant event.1 digest found name event.3.is_line printed_is_taken.is_line
 
     -- reading its file came to this
-    came_to : ComesTo place (ripemd (parameters_of variant)) name event.2
+    pub came_to : ComesTo place (ripemd (parameters_of variant)) name event.2
     came_to = rw (same_line.2, same_line.0) at event.4
 
-    is_verdict : verdict ≡ verdict_of ignore_missing digest event.2
+    pub is_verdict : verdict ≡ verdict_of ignore_missing digest event.2
     is_verdict = rw same_line.1 at event.5
 
     pub no_difference : ((given : List ℕ) → Gives (place.opens name) place.left given → given ≡ message) → (found ≡ name) × (verdict ≢ Differs)

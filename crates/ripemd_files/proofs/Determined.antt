@@ -47,13 +47,13 @@ Same (Refused e) (Refused f) = e ≡ f
 Same _ _ = ⊥
 
 module _ {File : Type 0} (place : Place File) (contents : List ℕ → Result (List ℕ) Error) (known : IsKnown place contents) where
-  given_all : (name message : List ℕ) → Gives (place.opens name) place.left message → contents name ≡ Ok message
+  pub given_all : (name message : List ℕ) → Gives (place.opens name) place.left message → contents name ≡ Ok message
   given_all name message gives =
       let (bytes, named, left, short) = known.opened name gives.gave.opened gives.gave.is_opened in
       let taken : Consumes (Some bytes) (place.left gives.ended) message = rw left at gives.gave.given in
       named ∙ ap (λ (b : List ℕ). Ok b) (taken_all bytes message (place.left gives.ended) taken gives.at_end)
 
-  not_broken : (name : List ℕ) (error : Error) → ¬ Breaks (place.opens name) place.left place.may_fail error
+  pub not_broken : (name : List ℕ) (error : Error) → ¬ Breaks (place.opens name) place.left place.may_fail error
   not_broken name error breaks =
       let (bytes, named, left, short) = known.opened name breaks.gave.opened breaks.gave.is_opened in
       let taken : Consumes (Some bytes) (place.left breaks.now) breaks.bytes = rw left at breaks.gave.given in
@@ -63,7 +63,7 @@ module _ {File : Type 0} (place : Place File) (contents : List ℕ → Result (L
       ]
 
   -- reading a file comes to one thing
-  one_outcome : (hash : List ℕ → List ℕ) (name : List ℕ) (one other : Outcome) → ComesTo place hash name one
+  pub one_outcome : (hash : List ℕ → List ℕ) (name : List ℕ) (one other : Outcome) → ComesTo place hash name one
       → ComesTo place hash name other → Same one other
   one_outcome hash name (Digest d) (Digest e) (m, gives, is) (n, gave, was) =
       let same : m ≡ n = cc (sym (given_all name m gives) ∙ given_all name n gave) in
@@ -138,7 +138,7 @@ one_growth old some more None other same a b = absurd a
 one_growth old some more (Some xs) None same a b = absurd b
 one_growth old some more (Some xs) (Some ys) same a b = cc
 
-grown : (old more : List Item) (new : Option (List Item)) → Adds (Some old) new more → new ≡ Some (old ++ more)
+pub grown : (old more : List Item) (new : Option (List Item)) → Adds (Some old) new more → new ≡ Some (old ++ more)
 grown old more None a = absurd a
 grown old more (Some xs) a = ap Some a
 
@@ -156,7 +156,7 @@ behind_front list bytes rest None read = absurd read
 behind_front list bytes rest (Some more) read = (rest ++ more, read ∙ append_assoc bytes rest more)
 
 -- all of it was read
-all_read : (list bytes rest : List ℕ) (left : Option (List ℕ)) → Consumes (Some list) left (bytes ++ rest) → rest ≡ [] → IsAtEnd left → list ≡ bytes
+pub all_read : (list bytes rest : List ℕ) (left : Option (List ℕ)) → Consumes (Some list) left (bytes ++ rest) → rest ≡ [] → IsAtEnd left → list ≡ bytes
 all_read list bytes rest left read none end = taken_all list bytes left (rw (none, append-nil) at read) end
 
 -- some of the lines of a list were read

@@ -14,5 +14,7 @@ pub mod Cutting
 pub mod Layouts
 pub mod Listed
 pub mod Grouped
+pub mod Sizes
 pub mod Agreeing
 pub mod Determined
+pub mod PrintedLists

@@ -52,16 +52,21 @@ pub marked-front : (indent : List ℕ) (marked : Bool) (x : ℕ) (rest : List �
 marked-front indent true x rest blank other no_mark = rw (skip_blanks-front indent 92 (x ∷ rest) blank refl) refl
 marked-front indent false x rest blank other no_mark = rw (skip_blanks-front indent x rest blank other, no_mark) refl
 
+-- a line has this mark and this body
+pub marked_body : (layout : Layout) (line : List ℕ) (variant : Variant) (digest name : List ℕ) → (h : IsLine layout line variant digest name)
+    → strip_mark (skip_blanks line) ≡ (h.marked, h.body)
+marked_body layout line variant digest name h =
+    let first = starts-form layout h.body variant h.digits digest h.text h.form h.is_digest in
+    ap (λ (l : List ℕ). strip_mark (skip_blanks l)) (h.whole ∙ ap (λ (body : List ℕ). h.indent ++ (mark_of h.marked ++ body)) first.2)
+    ∙ marked-front h.indent h.marked first.0 first.1 h.is_indent first.3 first.4
+    ∙ ap (λ (body : List ℕ). (h.marked, body)) (sym first.2)
+
 -- what it is a line of, it says
 pub said_by-line : (layout : Layout) (line : List ℕ) (variant : Variant) (digest name : List ℕ) → IsLine layout line variant digest name
     → said_by layout line ≡ Some (record { variant = variant; digest = digest; name = name })
 unfolding said_by
 said_by-line layout line variant digest name h =
-    let first = starts-form layout h.body variant h.digits digest h.text h.form h.is_digest in
-    let marked : strip_mark (skip_blanks line) ≡ (h.marked, h.body) =
-    ap (λ (l : List ℕ). strip_mark (skip_blanks l)) (h.whole ∙ ap (λ (body : List ℕ). h.indent ++ (mark_of h.marked ++ body)) first.2)
-    ∙ marked-front h.indent h.marked first.0 first.1 h.is_indent first.3 first.4
-    ∙ ap (λ (body : List ℕ). (h.marked, body)) (sym first.2) in
+    let marked = marked_body layout line variant digest name h in
     let found = found_at-form layout h.body variant h.digits digest h.text h.form h.is_digest in
     rw (marked, found, digest_at-digest variant h.digits digest h.is_digest, name_at-spelled h.marked h.text name h.spelled h.no_zero) refl
 

@@ -1,6 +1,17 @@
 //! What is printed of a file, a check takes for what it is. The function does nothing; its contract is the theorem.
 
-ghost use Rattle.std.specs.Prelude.{◌≡◌, ◌≢◌, ℕ, List, Bool, Option};
+ghost use Rattle.std.specs.Prelude.{◌≡◌, ◌≢◌, ◌<◌, ◌++◌, ℕ, List, map, Bool, true, Option, None, Some, Result, Ok, length, unwrap_or};
+ghost use Rattle.std.specs.List.{All};
+ghost use Rattle.std.specs.declared.io.Error.{Error};
+ghost use Rattle.ripemd_files.specs.declared.line.Ending.TheVariants.{Newline};
+ghost use Rattle.ripemd_files.specs.declared.line.Layout.TheVariants.{Standard};
+ghost use Rattle.ripemd_files.specs.declared.printing.Style.{Style};
+ghost use Rattle.ripemd_files.specs.declared.verdict.Options.{Options};
+ghost use Rattle.ripemd_files.specs.Determined.{IsKnown, Print, Report, Start};
+ghost use Rattle.ripemd_files.specs.Lists.{ended};
+ghost use Rattle.ripemd_files.specs.Said.{Item, written};
+ghost use Rattle.hex.specs.Hex.{IsBytes};
+ghost use Rattle.ripemd_files.specs.Lines.{size_of};
 ghost use Rattle.ripemd.specs.Standard.Hashing.{ripemd};
 ghost use Rattle.ripemd_files.specs.declared.line.Form.{Form};
 ghost use Rattle.ripemd_files.specs.declared.line.Layout.{Layout};
@@ -10,10 +21,16 @@ ghost use Rattle.ripemd_files.specs.declared.verdict.Verdict.{Verdict};
 ghost use Rattle.ripemd_files.specs.declared.verdict.Verdict.TheVariants.{Differs, Matches};
 ghost use Rattle.ripemd_files.specs.Checking.{checked};
 ghost use Rattle.ripemd_files.specs.Lists.{IsEventOn, IsTaken};
-ghost use Rattle.ripemd_files.specs.Printed.{IsPrinted, printed_line};
+ghost use Rattle.ripemd_files.specs.Printed.{IsPrinted, Printed, events_now, printed_line, printed_text};
 ghost use Rattle.ripemd_files.specs.Readings.{Gives, parameters_of};
 
 use crate::folder::Folder;
+
+/// A digest has the length of its variant, and consists of bytes.
+pub fn digest_laws()
+    ensures size { (variant : Variant) (message : List ℕ) → length (ripemd (parameters_of variant) message) ≡ size_of variant }
+    ensures bytes { (variant : Variant) (message : List ℕ) → IsBytes (ripemd (parameters_of variant) message) }
+{}
 
 /// What a check says of the line that was printed of a message and a name, whatever came of it since.
 ///
@@ -23,18 +40,43 @@ use crate::folder::Folder;
 pub fn printed_lines<F: Folder>(_folder: &F)
     // The line counts, for what it is.
     ensures taken { (rules : Rules) (layout : Option Layout) (form : Form) (variant : Variant) (message name : List ℕ)
-        → IsPrinted rules layout form variant message name
+        → IsPrinted rules layout form variant name
         → IsTaken rules layout (printed_line form variant message name) variant (ripemd (parameters_of variant) message) name }
     // No file that gives the same bytes differs.
     ensures accepted { (rules : Rules) (layout : Option Layout) (form : Form) (variant : Variant) (message name found : List ℕ)
-        (ignore_missing : Bool) (number : ℕ) (verdict : Verdict) → IsPrinted rules layout form variant message name
+        (ignore_missing : Bool) (number : ℕ) (verdict : Verdict) → IsPrinted rules layout form variant name
         → IsEventOn (F.place _folder.now) ignore_missing rules layout number (printed_line form variant message name) (checked found verdict)
         → ((given : List ℕ) → Gives ((F.place _folder.now).opens name) (F.place _folder.now).left given → given ≡ message)
         → (found ≡ name) × (verdict ≢ Differs) }
     // A file that matches gave a message with this digest.
     ensures matches { (rules : Rules) (layout : Option Layout) (form : Form) (variant : Variant) (message name found : List ℕ)
-        (ignore_missing : Bool) (number : ℕ) → IsPrinted rules layout form variant message name
+        (ignore_missing : Bool) (number : ℕ) → IsPrinted rules layout form variant name
         → IsEventOn (F.place _folder.now) ignore_missing rules layout number (printed_line form variant message name) (checked found Matches)
         → (given : List ℕ) × Gives ((F.place _folder.now).opens name) (F.place _folder.now).left given
         × (ripemd (parameters_of variant) given ≡ ripemd (parameters_of variant) message) }
+{}
+
+/// What a check says of a list that was printed, in a folder of which all is known.
+///
+/// A file that is found to match though it gives another message than the printed one has a message with the same
+/// digest: see [`printed_lines`].
+pub fn printed_lists<F: Folder>(_folder: &F)
+    // These lines are printed of files that give these messages,
+    ensures printed { (contents : List ℕ → Result (List ℕ) Error) (style : Style) (files : List Printed) (before : List Item) (failure : Option Error)
+        → IsKnown (F.place _folder.now) contents → style.ending ≡ Newline → All (λ (f : Printed). contents f.name ≡ Ok f.message) files
+        → (one : Print (F.place _folder.now) style (map (λ (f : Printed). f.name) files) (record { items = Some before; failure = failure }))
+        → (one.told.items ≡ Some (before ++ written (printed_text style.form style.variant files))) × (one.all ≡ true) }
+    // and of a list of them there is one event for each file, in order, by what it gives now.
+    ensures checked { (contents : List ℕ → Result (List ℕ) Error) (options : Options) (rules : Rules) (first : Option Layout) (form : Form)
+        (variant : Variant) (files : List Printed) (start : Start) → IsKnown (F.place _folder.now) contents → unwrap_or first Standard ≡ Standard
+        → All (λ (f : Printed). IsPrinted rules None form variant f.name) files → start.list ≡ printed_text form variant files
+        → (one : Report (F.place _folder.now) options rules first start) → one.checks.stage ≡ ended
+        → one.checks.report.events ≡ events_now options.ignore_missing variant contents files }
+    // Where all give the printed messages, the check succeeds.
+    ensures accepted { (contents : List ℕ → Result (List ℕ) Error) (options : Options) (rules : Rules) (first : Option Layout) (form : Form)
+        (variant : Variant) (files : List Printed) (start : Start) → IsKnown (F.place _folder.now) contents → unwrap_or first Standard ≡ Standard
+        → All (λ (f : Printed). IsPrinted rules None form variant f.name) files → start.list ≡ printed_text form variant files
+        → All (λ (f : Printed). contents f.name ≡ Ok f.message) files → 0 < length files
+        → (one : Report (F.place _folder.now) options rules first start) → one.checks.stage ≡ ended
+        → (one.checks.report.events ≡ map (λ (f : Printed). checked f.name Matches) files) × (one.success ≡ true) }
 {}

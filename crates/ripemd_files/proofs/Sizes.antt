@@ -1,0 +1,133 @@
+-- A digest has the length of its variant, and consists of bytes.
+use Rattle.std.proofs.Common.{rules, ◌≡◌, ◌⊎◌, ℕ, zero, suc, ◌+◌, ◌-◌, ◌*◌, ◌<◌, ◌≤◌, List, [], ◌∷◌, ◌++◌, length, take, drop, get_or, Option, Some, None, inl, inr, refl, sym, ap, ◌∙◌, arith}
+use Rattle.std.specs.List.{fold}
+use Rattle.std.specs.Prelude.{slice_get}
+use Rattle.std.specs.Int.{to_le_bytes, w32}
+use Rattle.std.proofs.lemmas.List.{length-append, length-take, length-drop, length-set}
+use Rattle.hex.specs.Hex.{IsBytes}
+use Rattle.ripemd_block.specs.Standard.Words.{word_bytes}
+use Rattle.ripemd_block.specs.Standard.Schedule.{Line, left_line, right_line}
+use Rattle.ripemd_block.specs.Standard.Compression.{Lines, Parameters, compress, double_state, exchange, from_place, joint_state, lines_after, lines_from, registers_after, ripemd128, ripemd160, ripemd256, ripemd320, step, word_sums}
+use Rattle.ripemd_block.specs.Standard.Hashing.{blocks, hash, padded_message}
+use Rattle.ripemd_block.specs.Laws.WordBytes.{length-word_bytes}
+use Rattle.ripemd.specs.Standard.Hashing.{ripemd}
+use Rattle.ripemd_files.specs.declared.line.Variant.{Variant}
+use Rattle.ripemd_files.specs.declared.line.Variant.TheVariants.{R128, R160, R256, R320}
+use Rattle.ripemd_files.specs.Lines.{size_of}
+use Rattle.ripemd_files.specs.Readings.{parameters_of}
+
+-- ---- the length
+
+length-sums : (xs ys : List ℕ) → length xs ≡ length ys → length (word_sums xs ys) ≡ length xs
+length-sums [] ys same = refl
+length-sums (x ∷ xs) [] same = absurd (omega (arith, same))
+length-sums (x ∷ xs) (y ∷ ys) same = ap suc (length-sums xs ys (omega (arith, same)))
+
+length-from_place : (k : ℕ) (xs : List ℕ) → length (from_place k xs) ≡ length xs
+length-from_place k xs = omega (arith, length-append (drop k xs) (take k xs), length-take k xs, length-drop k xs)
+
+length-step : (f : ℕ → ℕ → ℕ → ℕ) (x k s n : ℕ) (registers : List ℕ) → (n ≡ 4) ⊎ (n ≡ 5) → length registers ≡ n
+    → length (step f x k s registers) ≡ n
+length-step f x k s n [] is long = absurd (elim is [ | inl e ↦ omega (arith, long, e) | inr e ↦ omega (arith, long, e) ])
+length-step f x k s n (a ∷ []) is long = absurd (elim is [ | inl e ↦ omega (arith, long, e) | inr e ↦ omega (arith, long, e) ])
+length-step f x k s n (a ∷ b ∷ []) is long = absurd (elim is [ | inl e ↦ omega (arith, long, e) | inr e ↦ omega (arith, long, e) ])
+length-step f x k s n (a ∷ b ∷ c ∷ []) is long = absurd (elim is [ | inl e ↦ omega (arith, long, e) | inr e ↦ omega (arith, long, e) ])
+length-step f x k s n (a ∷ b ∷ c ∷ d ∷ []) is long = long
+length-step f x k s n (a ∷ b ∷ c ∷ d ∷ e ∷ []) is long = long
+length-step f x k s n (a ∷ b ∷ c ∷ d ∷ e ∷ g ∷ more) is long =
+    absurd (elim is [ | inl same ↦ omega (arith, long, same) | inr same ↦ omega (arith, long, same) ])
+
+length-registers : (line : Line) (block : List ℕ) (r count n : ℕ) (registers : List ℕ) → (n ≡ 4) ⊎ (n ≡ 5) → length registers ≡ n
+    → length (registers_after line block r count registers) ≡ n
+unfolding registers_after
+length-registers line block r zero n registers is long = long
+length-registers line block r (suc count) n registers is long =
+    length-step _ _ _ _ n (registers_after line block r count registers) is (length-registers line block r count n registers is long)
+
+-- both lines have so many registers
+abbrev AreLong : ℕ → Lines → Type 0
+AreLong n l = (length l.left ≡ n) × (length l.right ≡ n)
+
+long-exchange : (n : ℕ) (place : Option ℕ) (l : Lines) → AreLong n l → AreLong n (exchange place l)
+long-exchange n None l long = long
+long-exchange n (Some j) l long = (rw length-set long.0, rw length-set long.1)
+
+long-lines : (v : Parameters) (block : List ℕ) (n r : ℕ) (l : Lines) → (n ≡ 4) ⊎ (n ≡ 5) → AreLong n l → AreLong n (lines_after v block r l)
+unfolding lines_after
+long-lines v block n zero l is long = long
+long-lines v block n (suc r) l is long =
+    let before = lines_after v block r l in
+    let are = long-lines v block n r l is long in
+    long-exchange n (slice_get v.exchanges r) _
+    (length-registers left_line block r 16 n before.left is are.0, length-registers (right_line v.rounds) block r 16 n before.right is are.1)
+
+long-from : (v : Parameters) (state : List ℕ) → v.registers ≤ length state → AreLong v.registers (lines_from v state)
+long-from v state within =
+    (omega (arith, within, length-take v.registers state), omega (arith, within, length-drop (length state - v.registers) state))
+
+length-joint : (state left right : List ℕ) → length left ≡ length state → length right ≡ length state → length (joint_state state left right) ≡ length state
+length-joint state left right a b =
+    let first = length-sums (from_place 1 state) (from_place 2 left) (length-from_place 1 state ∙ sym a ∙ sym (length-from_place 2 left)) in
+    let sum : length (word_sums (from_place 1 state) (from_place 2 left)) ≡ length state = first ∙ length-from_place 1 state in
+    length-sums (word_sums (from_place 1 state) (from_place 2 left)) (from_place 3 right) (sum ∙ sym b ∙ sym (length-from_place 3 right)) ∙ sum
+
+length-double : (n : ℕ) (state left right : List ℕ) → length state ≡ n + n → length left ≡ n → length right ≡ n
+    → length (double_state state left right) ≡ length state
+length-double n state left right whole a b = length-sums state (left ++ right) (omega (arith, whole, a, b, length-append left right))
+
+length-compress : (variant : Variant) (state block : List ℕ) → length state ≡ length (parameters_of variant).start
+    → length (compress (parameters_of variant) state block) ≡ length (parameters_of variant).start
+unfolding compress
+length-compress R128 state block long =
+    let are = long-lines ripemd128 block 4 4 (lines_from ripemd128 state) (inl refl) (long-from ripemd128 state (omega (arith, long))) in
+    length-joint state _ _ (are.0 ∙ sym long) (are.1 ∙ sym long) ∙ long
+length-compress R160 state block long =
+    let are = long-lines ripemd160 block 5 5 (lines_from ripemd160 state) (inr refl) (long-from ripemd160 state (omega (arith, long))) in
+    length-joint state _ _ (are.0 ∙ sym long) (are.1 ∙ sym long) ∙ long
+length-compress R256 state block long =
+    let are = long-lines ripemd256 block 4 4 (lines_from ripemd256 state) (inl refl) (long-from ripemd256 state (omega (arith, long))) in
+    length-double 4 state _ _ long are.0 are.1 ∙ long
+length-compress R320 state block long =
+    let are = long-lines ripemd320 block 5 5 (lines_from ripemd320 state) (inr refl) (long-from ripemd320 state (omega (arith, long))) in
+    length-double 5 state _ _ long are.0 are.1 ∙ long
+
+length-walk : (variant : Variant) (state : List ℕ) (bs : List (List ℕ)) → length state ≡ length (parameters_of variant).start
+    → length (fold (compress (parameters_of variant)) state bs) ≡ length (parameters_of variant).start
+length-walk variant state [] long = long
+length-walk variant state (b ∷ bs) long =
+    length-walk variant (compress (parameters_of variant) state b) bs (length-compress variant state b long)
+
+in_bytes : (variant : Variant) → 4 * length (parameters_of variant).start ≡ size_of variant
+in_bytes R128 = refl
+in_bytes R160 = refl
+in_bytes R256 = refl
+in_bytes R320 = refl
+
+pub length-ripemd : (variant : Variant) (message : List ℕ) → length (ripemd (parameters_of variant) message) ≡ size_of variant
+unfolding hash
+length-ripemd variant message =
+    let v = parameters_of variant in
+    let words = fold (compress v) v.start (blocks (padded_message message)) in
+    length-word_bytes words ∙ ap (λ n. 4 * n) (length-walk variant v.start (blocks (padded_message message)) refl) ∙ in_bytes variant
+
+-- ---- the bytes
+
+bytes-append : (xs ys : List ℕ) → IsBytes xs → IsBytes ys → IsBytes (xs ++ ys)
+bytes-append [] ys a b i = b i
+bytes-append (x ∷ xs) ys a b zero = a zero
+bytes-append (x ∷ xs) ys a b (suc i) = bytes-append xs ys (λ j. a (suc j)) b i
+
+bytes-word : (w : ℕ) → IsBytes (to_le_bytes w32 w)
+bytes-word w zero = omega arith
+bytes-word w (suc zero) = omega arith
+bytes-word w (suc (suc zero)) = omega arith
+bytes-word w (suc (suc (suc zero))) = omega arith
+bytes-word w (suc (suc (suc (suc i)))) = omega arith
+
+bytes-words : (words : List ℕ) → IsBytes (word_bytes words)
+bytes-words [] i = omega arith
+bytes-words (w ∷ words) i = bytes-append (to_le_bytes w32 w) (word_bytes words) (bytes-word w) (bytes-words words) i
+
+pub bytes-ripemd : (variant : Variant) (message : List ℕ) → IsBytes (ripemd (parameters_of variant) message)
+unfolding hash
+bytes-ripemd variant message = bytes-words _
