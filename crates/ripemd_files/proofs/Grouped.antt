@@ -18,15 +18,6 @@ use Rattle.ripemd_files.specs.declared.fault.Fault.TheVariants.{Write, NoMemory,
 use Rattle.ripemd_files.specs.Groups.{ExplainsReading, ReadsLines, ReportsFirst, ReportsFrom, StopsReading, Takes, misformatted_events}
 use Rattle.ripemd_files.proofs.Cutting.{cut, lines_first, lines_last}
 
--- whether a read has failed, after one that did not, and after one that did
-pub still : (old new first : Bool) → new ≡ (old || false) → old ≡ first → new ≡ first
-still true new first is same = is ∙ same
-still false new first is same = is ∙ same
-
-pub now_failed : (old new : Bool) → new ≡ (old || true) → new ≡ true
-now_failed true new is = is
-now_failed false new is = is
-
 module _ {File : Type 0} (place : Place File) (ignore_missing : Bool) (kinds : Rules) where
   -- what comes of the first lines, when there are more
   pub first_of_more : (cursor : Cursor) (lines more : List (List ℕ)) (events : List Event) → ReportsFirst place ignore_missing kinds cursor lines events

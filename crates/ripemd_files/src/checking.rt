@@ -1,6 +1,6 @@
 //! The check of a list.
 
-ghost use Rattle.std.specs.Prelude.{◌≡◌, ◌&&◌, not, ◌<◌, ◌++◌, [], ◌∷◌, flat_map, get_or, length, IfErr, IfOk, OnOk, List};
+ghost use Rattle.std.specs.Prelude.{◌≡◌, ◌&&◌, not, ◌<◌, ◌++◌, [], ◌∷◌, false, flat_map, get_or, length, IfErr, IfOk, IsErr, None, OnOk, List};
 ghost use Rattle.std.specs.List.{AllZip};
 ghost use Rattle.ripemd_batch.specs.Lanes.{targets};
 ghost use Rattle.ripemd_files.specs.Readings.{OfFirst};
@@ -22,7 +22,7 @@ use crate::verdict::{Options, Tally, Verdict};
 use crate::writing::push_text;
 use std::alloc::{AllocError, Global};
 
-/// Checks a list: reads it to its end, and the files that its lines name; writes a line for each of these, and
+/// Checks a list of which no read has failed: reads it to its end, and the files that its lines name; writes a line for each of these, and
 /// remarks on those that can't be read, on lines that say nothing, and on what was counted. Whether the check
 /// succeeds.
 ///
@@ -34,7 +34,7 @@ use std::alloc::{AllocError, Global};
 /// - `NoMemory`: there is no memory left.
 /// - `TooManyLines`: the list has more than 2^64 - 2 lines.
 ///
-/// Till then the first part of the report was told.
+/// Till then the first part of the report was told. `layout` is as it was.
 pub fn check_list<F: Folder, R: ReadList, L: Log>(
     alloc: Global,
     folder: &F,
@@ -44,10 +44,13 @@ pub fn check_list<F: Folder, R: ReadList, L: Log>(
     reader: &mut R,
     log: &mut L,
 ) -> Result<bool, Fault>
+    requires told { (L.told log.old).failure ≡ None }
+    requires works { (R.state reader.old).failed ≡ false }
     ensures ok { IfOk result (ChecksList (F.place folder.now) options rules layout.old layout.new
         (R.state reader.old) (R.state reader.new) (L.told log.old) (L.told log.new)) }
     ensures err { IfErr result (StopsList (F.place folder.now) options rules layout.old
         (R.state reader.old) (R.state reader.new) (L.told log.old) (L.told log.new)) }
+    ensures layout { IsErr result → layout.new ≡ layout.old }
 {
     let mut buffer = new_buffer(alloc, BUFFER)?;
     let mut cursor = Cursor {
@@ -79,8 +82,10 @@ fn check_groups<F: Folder, R: ReadList, L: Log>(
     buffer: &mut [u8],
     log: &mut L,
 ) -> Result<bool, Fault>
+    requires told { (L.told log.old).failure ≡ None }
     requires room { 0 < length buffer.old }
     requires start { cursor.old.number ≡ 1 }
+    requires works { (R.state reader.old).failed ≡ false }
     ensures ok { IfOk result (ChecksList (F.place folder.now) options rules cursor.old.layout cursor.new.layout
         (R.state reader.old) (R.state reader.new) (L.told log.old) (L.told log.new)) }
     ensures err { IfErr result (StopsList (F.place folder.now) options rules cursor.old.layout
@@ -121,6 +126,7 @@ fn check_misformatted<L: Log>(
     tally: &mut Tally,
     log: &mut L,
 ) -> Result<(), Fault>
+    requires told { (L.told log.old).failure ≡ None }
     ensures counts { (earlier : List Event) → IsTally earlier tally.old → IsTally (earlier ++ misformatted_events misformatted) tally.new }
     ensures told { OnOk result (Tells (L.told log.old) (L.told log.new) (flat_map (items_of_event options) (misformatted_events misformatted))) }
     ensures err { IfErr result (Stops ⊥ (L.told log.old) (L.told log.new) (flat_map (items_of_event options) (misformatted_events misformatted))) }
@@ -135,6 +141,7 @@ fn check_misformatted<L: Log>(
 // Remarks on what was counted of a list. Whether its check succeeds.
 #[tactic(auto, using(crate::proofs::Telling::telling))]
 fn close<L: Log>(options: Options, tally: &Tally, log: &mut L) -> Result<bool, Fault>
+    requires told { (L.told log.old).failure ≡ None }
     ensures told { OnOk result (Tells (L.told log.old) (L.told log.new) (closing_remarks options tally.now)) }
     ensures success { IfOk result (λ success. success ≡ is_success options tally.now) }
     ensures err { IfErr result (Stops ⊥ (L.told log.old) (L.told log.new) (closing_remarks options tally.now)) }
@@ -150,6 +157,7 @@ fn close<L: Log>(options: Options, tally: &Tally, log: &mut L) -> Result<bool, F
 // Remarks on counts that are not 0, and on a list of which no file was verified.
 #[tactic(auto, using(crate::proofs::Telling::telling))]
 fn remark_counts<L: Log>(options: Options, tally: &Tally, log: &mut L) -> Result<(), Fault>
+    requires told { (L.told log.old).failure ≡ None }
     ensures told { OnOk result (Tells (L.told log.old) (L.told log.new) (count_remarks options tally.now)) }
     ensures err { IfErr result (Stops ⊥ (L.told log.old) (L.told log.new) (count_remarks options tally.now)) }
 {
@@ -172,6 +180,7 @@ fn verified_nothing(options: Options, tally: &Tally) -> bool
 
 // Says what is wrong with a list.
 fn remark<L: Log>(log: &mut L, complaint: Complaint) -> Result<(), Fault>
+    requires told { (L.told log.old).failure ≡ None }
     ensures told { OnOk result (Tells (L.told log.old) (L.told log.new) (about_list complaint ∷ [])) }
     ensures err { IfErr result (Stops ⊥ (L.told log.old) (L.told log.new) (about_list complaint ∷ [])) }
 {
@@ -181,6 +190,7 @@ fn remark<L: Log>(log: &mut L, complaint: Complaint) -> Result<(), Fault>
 // Says what is wrong with a list, if it is.
 #[tactic(auto, using(crate::proofs::Telling::telling))]
 fn remark_if<L: Log>(log: &mut L, wrong: bool, complaint: Complaint) -> Result<(), Fault>
+    requires told { (L.told log.old).failure ≡ None }
     ensures told { OnOk result (Tells (L.told log.old) (L.told log.new) (remark_where wrong complaint)) }
     ensures err { IfErr result (Stops ⊥ (L.told log.old) (L.told log.new) (remark_where wrong complaint)) }
 {
@@ -200,6 +210,7 @@ fn check_lines<F: Folder, L: Log>(
     tally: &mut Tally,
     log: &mut L,
 ) -> Result<(), Fault>
+    requires told { (L.told log.old).failure ≡ None }
     requires room { 0 < length buffer.old }
     ensures ok { OnOk result (ChecksLines (F.place folder.now) options lines.now (L.told log.old) (L.told log.new) tally.old tally.new) }
     ensures err { IfErr result (ChecksFirst (F.place folder.now) options lines.now (L.told log.old) (L.told log.new)) }
@@ -234,6 +245,7 @@ fn check_outcomes<F: Folder, L: Log>(
     tally: &mut Tally,
     log: &mut L,
 ) -> Result<(), Fault>
+    requires told { (L.told log.old).failure ≡ None }
     requires read { AllZip (IsOutcomeOf (F.place _folder.now)) lines.now outcomes.now }
     ensures ok { OnOk result (ChecksLines (F.place _folder.now) options lines.now (L.told log.old) (L.told log.new) tally.old tally.new) }
     ensures err { IfErr result (ChecksFirst (F.place _folder.now) options lines.now (L.told log.old) (L.told log.new)) }
@@ -297,6 +309,7 @@ fn tell<L: Log>(
     lines: &mut Vec<u8>,
     log: &mut L,
 ) -> Result<(), Fault>
+    requires told { (L.told log.old).failure ≡ None }
     ensures told { OnOk result (Pends (L.told log.old) (L.told log.new) lines.old.items lines.new.items
         (items_of_event options (checked name.now verdict))) }
     ensures err { IfErr result (Stops ⊥ (L.told log.old) (L.told log.new)
@@ -316,6 +329,7 @@ fn remark_on<L: Log>(
     lines: &mut Vec<u8>,
     log: &mut L,
 ) -> Result<(), Fault>
+    requires told { (L.told log.old).failure ≡ None }
     ensures told { OnOk result (Pends (L.told log.old) (L.told log.new) lines.old.items lines.new.items (remarks_on_verdict name.now verdict)) }
     ensures err { IfErr result (Stops ⊥ (L.told log.old) (L.told log.new) (written lines.old.items ++ remarks_on_verdict name.now verdict)) }
 {

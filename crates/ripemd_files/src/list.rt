@@ -1,6 +1,6 @@
 //! Lists of lines, as a check reads them.
 
-ghost use Rattle.std.specs.Prelude.{◌≡◌, ◌≢◌, ◌↔◌, ◌+◌, ◌<◌, ◌^◌, ◌++◌, ◌∷◌, [], codes, length, IfErr, IfOk, IsFalse, IsTrue, OnOk};
+ghost use Rattle.std.specs.Prelude.{◌≡◌, ◌≢◌, ◌↔◌, ◌+◌, ◌<◌, ◌^◌, ◌++◌, ◌∷◌, [], codes, false, length, IfErr, IfOk, IsFalse, IsTrue, OnOk};
 ghost use Rattle.ripemd_files.specs.Lists.{IsTaken, IsWanted, body_of_line, is_passed_over, layout_after};
 ghost use Rattle.ripemd_files.specs.Groups.{ExplainsReading, IsEntry, ReadsGroup, StopsReading, Takes};
 
@@ -168,6 +168,7 @@ pub(crate) fn read_group<F: Folder, R: ReadList>(
     cursor: &mut Cursor,
     reader: &mut R,
 ) -> Result<Group, Fault>
+    requires works { (R.state reader.old).failed ≡ false }
     ensures ok { IfOk result (ReadsGroup (F.place folder.now) ignore_missing rules (R.state reader.old) (R.state reader.new)
         cursor.old cursor.new) }
     ensures err { IfErr result (StopsReading (R.state reader.old).left (R.state reader.new).left cursor.old.number) }

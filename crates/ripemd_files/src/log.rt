@@ -1,6 +1,6 @@
 //! Where the lines of a run are written, and its remarks beside them.
 
-ghost use Rattle.std.specs.Prelude.{◌≡◌, [], ◌∷◌, IfErr, OnOk, Some};
+ghost use Rattle.std.specs.Prelude.{◌≡◌, [], ◌∷◌, IfErr, None, OnOk, Some};
 ghost use Rattle.ripemd_files.specs.Said.{AddsFirst, Tells, Told, about_list, unreadable, written};
 
 use std::io;
@@ -24,25 +24,28 @@ pub enum Complaint {
     Unreadable,
 }
 
-/// Where lines and remarks go, in order. An error ends the run.
+/// Where lines and remarks go, in order. An error ends the run: after it nothing is told.
 pub trait Log {
     // What it was told so far, and the error of the last call that failed.
     ghost told: { Self → Told };
 
     /// Writes lines, and flushes them. If it fails, it may have written the first of their bytes.
     fn write(&mut self, lines: &[u8]) -> io::Result<()>
+        requires works { (told self.old).failure ≡ None }
         ensures ok { OnOk result (Tells (told self.old) (told self.new) (written lines.now)) }
         ensures err { IfErr result (λ error. AddsFirst (told self.old).items (told self.new).items (written lines.now)
             × ((told self.new).failure ≡ Some error)) };
 
     /// Says that the file of a name could not be opened or read, with this error.
     fn unreadable(&mut self, name: &[u8], error: io::Error) -> io::Result<()>
+        requires works { (told self.old).failure ≡ None }
         ensures ok { OnOk result (Tells (told self.old) (told self.new) (unreadable name.now error ∷ [])) }
         ensures err { IfErr result (λ failure. AddsFirst (told self.old).items (told self.new).items (unreadable name.now error ∷ [])
             × ((told self.new).failure ≡ Some failure)) };
 
     /// Says what is wrong with a list.
     fn complain(&mut self, complaint: Complaint) -> io::Result<()>
+        requires works { (told self.old).failure ≡ None }
         ensures ok { OnOk result (Tells (told self.old) (told self.new) (about_list complaint ∷ [])) }
         ensures err { IfErr result (λ failure. AddsFirst (told self.old).items (told self.new).items (about_list complaint ∷ [])
             × ((told self.new).failure ≡ Some failure)) };

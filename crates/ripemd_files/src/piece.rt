@@ -1,6 +1,7 @@
 //! Lists of lines, read line by line.
 
-ghost use Rattle.std.specs.Prelude.{◌≡◌, ◌||◌, IfErr, IfOk};
+ghost use Rattle.std.specs.Prelude.{◌≡◌, false, IfErr, IfOk};
+ghost use Rattle.std.specs.Io.Buffered.{reader_remaining};
 ghost use Rattle.std.specs.Io.BufRead.{ends_with_byte, strip_last};
 ghost use Rattle.ripemd_files.specs.Splitting.{IsPiece, ListState, ReadsOn, is_failure};
 
@@ -29,14 +30,16 @@ pub trait ReadList {
     /// lines so far say is written.
     fn has_line(&self) -> bool;
 
-    /// Reads the next line to `text`, in place of what stood there, without its newline.
+    /// Reads the next line to `text`, in place of what stood there, without its newline. After a read that failed
+    /// nothing is read.
     ///
     /// # Errors
     ///
     /// `AllocError` if there is no memory left for it.
     fn read_line(&mut self, text: &mut Vec<u8>) -> Result<Piece, AllocError>
+        requires works { (state self.old).failed ≡ false }
         ensures piece { IfOk result (IsPiece (state self.old).left (state self.new).left text.new.items) }
-        ensures failed { IfOk result (λ piece. (state self.new).failed ≡ ((state self.old).failed || is_failure piece)) }
+        ensures failed { IfOk result (λ piece. (state self.new).failed ≡ is_failure piece) }
         ensures err { IfErr result (λ _. ReadsOn (state self.old).left (state self.new).left) };
 }
 
@@ -48,8 +51,13 @@ pub struct List<R> {
 }
 
 impl<R: Read> List<R> {
-    /// A list of which no read has failed.
-    pub fn new(reader: BufReader<R>) -> List<R> {
+    ghost use Rattle.ripemd_files.specs.Splitting.{state_of};
+
+    /// A list of which no read has failed. Its buffer has room.
+    pub fn new(reader: BufReader<R>) -> List<R>
+        ensures works { (state_of R.remaining result).failed ≡ false }
+        ensures left { (state_of R.remaining result).left ≡ reader_remaining R.remaining reader }
+    {
         List {
             reader,
             failed: false,

@@ -1,6 +1,6 @@
 //! The lines of the digests of files.
 
-ghost use Rattle.std.specs.Prelude.{◌≡◌, ◌<◌, ◌++◌, ◌∷◌, [], length, IfErr, IfOk, OnOk};
+ghost use Rattle.std.specs.Prelude.{◌≡◌, ◌<◌, ◌++◌, ◌∷◌, [], length, IfErr, IfOk, None, OnOk};
 ghost use Rattle.std.specs.List.{AllZip};
 ghost use Rattle.ripemd.specs.Standard.Hashing.{ripemd};
 ghost use Rattle.ripemd_batch.specs.Lanes.{targets};
@@ -46,6 +46,7 @@ pub fn print_digests<F: Folder, L: Log>(
     names: &[&[u8]],
     log: &mut L,
 ) -> Result<bool, Fault>
+    requires told { (L.told log.old).failure ≡ None }
     ensures ok { IfOk result (PrintsAll (F.place folder.now) style (targets names.now) (L.told log.old) (L.told log.new)) }
     ensures err { IfErr result (PrintsFirst (F.place folder.now) style (targets names.now) (L.told log.old) (L.told log.new)) }
 {
@@ -62,6 +63,7 @@ fn print_groups<F: Folder, L: Log>(
     buffer: &mut [u8],
     log: &mut L,
 ) -> Result<bool, Fault>
+    requires told { (L.told log.old).failure ≡ None }
     requires room { 0 < length buffer.old }
     ensures ok { IfOk result (PrintsAll (F.place folder.now) style (targets names.now) (L.told log.old) (L.told log.new)) }
     ensures err { IfErr result (PrintsFirst (F.place folder.now) style (targets names.now) (L.told log.old) (L.told log.new)) }
@@ -96,6 +98,7 @@ fn print_outcomes<F: Folder, L: Log>(
     outcomes: &[Outcome],
     log: &mut L,
 ) -> Result<bool, Fault>
+    requires told { (L.told log.old).failure ≡ None }
     requires read { AllZip (ComesTo (F.place _folder.now) (ripemd (parameters_of style.variant))) (targets names.now) outcomes.now }
     ensures ok { IfOk result (PrintsAll (F.place _folder.now) style (targets names.now) (L.told log.old) (L.told log.new)) }
     ensures err { IfErr result (PrintsFirst (F.place _folder.now) style (targets names.now) (L.told log.old) (L.told log.new)) }
@@ -122,6 +125,7 @@ fn print_outcome<L: Log>(
     lines: &mut Vec<u8>,
     log: &mut L,
 ) -> Result<bool, Fault>
+    requires told { (L.told log.old).failure ≡ None }
     ensures told { OnOk result (Pends (L.told log.old) (L.told log.new) lines.old.items lines.new.items (items_on style name.now outcome.now)) }
     ensures read { IfOk result (λ read. read ≡ was_read outcome.now) }
     ensures err { IfErr result (Stops ⊥ (L.told log.old) (L.told log.new) (written lines.old.items ++ items_on style name.now outcome.now)) }
@@ -154,6 +158,7 @@ pub(crate) fn remark_unreadable<L: Log>(
     lines: &mut Vec<u8>,
     log: &mut L,
 ) -> Result<(), Fault>
+    requires told { (L.told log.old).failure ≡ None }
     ensures told { OnOk result (Pends (L.told log.old) (L.told log.new) lines.old.items lines.new.items (unreadable name.now error ∷ [])) }
     ensures err { IfErr result (Stops ⊥ (L.told log.old) (L.told log.new) (written lines.old.items ++ unreadable name.now error ∷ [])) }
 {
@@ -164,6 +169,7 @@ pub(crate) fn remark_unreadable<L: Log>(
 
 // Writes lines, if there are any.
 pub(crate) fn put<L: Log>(log: &mut L, lines: &[u8]) -> Result<(), Fault>
+    requires told { (L.told log.old).failure ≡ None }
     ensures ok { OnOk result (Tells (L.told log.old) (L.told log.new) (written lines.now)) }
     ensures err { IfErr result (Stops ⊥ (L.told log.old) (L.told log.new) (written lines.now)) }
 {

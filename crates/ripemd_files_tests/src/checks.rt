@@ -1,5 +1,8 @@
 //! Checks of lists in memory. The digests are the authors'.
 
+ghost use Rattle.std.specs.Prelude.{◌≡◌, false, None};
+ghost use Rattle.ripemd_files.specs.Splitting.{state_of};
+
 use crate::doubles::{Bytes, Calls, Memory, Page, list_of};
 use ripemd_files::checking::check_list;
 use ripemd_files::fault::Fault;
@@ -48,7 +51,10 @@ fn check(
     mut list: List<Bytes<'_>>,
     calls: Calls,
     page: &mut Page,
-) -> Result<bool, Fault> {
+) -> Result<bool, Fault>
+    requires list { (state_of (λ bytes. None) list).failed ≡ false }
+    requires page { page.old.failure ≡ None }
+{
     let memory = Memory {
         files: FILES,
         calls,

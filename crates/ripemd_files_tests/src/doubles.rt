@@ -1,6 +1,7 @@
 //! A folder, a list and a log in memory, which fail when they are told to.
 
-ghost use Rattle.std.specs.Prelude.{◌≡◌, IfErr, None, OnOk, Some};
+ghost use Rattle.std.specs.Prelude.{◌≡◌, false, IfErr, IfOk, None, OnOk, Some};
+ghost use Rattle.ripemd_files.specs.Splitting.{state_of};
 ghost use Rattle.std.specs.Io.{ReadsAtMost};
 ghost use Rattle.ripemd_files.specs.Readings.{any_place};
 
@@ -113,7 +114,9 @@ pub fn list_of(
     rest: &[u8],
     at_hand: usize,
     failing: usize,
-) -> io::Result<List<Bytes<'_>>> {
+) -> io::Result<List<Bytes<'_>>>
+    ensures { IfOk result (λ list. (state_of (λ bytes. None) list).failed ≡ false) }
+{
     let bytes = Bytes {
         rest,
         calls: Calls::failing_at(failing),
@@ -128,12 +131,14 @@ pub struct Page {
     pub unreadable: usize,
     pub complaints: Vec<Complaint>,
     pub calls: Calls,
-    failure: Option<io::Error>,
+    pub failure: Option<io::Error>,
 }
 
 impl Page {
     /// An empty page, this call of which fails.
-    pub fn new(alloc: Global, failing: usize) -> Page {
+    pub fn new(alloc: Global, failing: usize) -> Page
+        ensures { result.failure ≡ None }
+    {
         Page {
             bytes: Vec::new(alloc),
             unreadable: 0,

@@ -175,12 +175,16 @@ pub struct Console<'a> {
 
 impl<'a> Console<'a> {
     /// Of files alone.
-    pub fn of_files(rt: &'a HostRuntime) -> Console<'a> {
+    pub fn of_files(rt: &'a HostRuntime) -> Console<'a>
+        ensures { result.failure ≡ None }
+    {
         Console::of_list(rt, b"", None)
     }
 
     /// Of a list and its files. Its lines are of one hash, or of any.
-    pub fn of_list(rt: &'a HostRuntime, list: &'a [u8], only: Option<Variant>) -> Console<'a> {
+    pub fn of_list(rt: &'a HostRuntime, list: &'a [u8], only: Option<Variant>) -> Console<'a>
+        ensures { result.failure ≡ None }
+    {
         let hash = match only {
             None => "RIPEMD",
             Some(Variant::R128) => "RMD128",

@@ -1,6 +1,6 @@
-use Rattle.std.proofs.Common.{rules, arith, refl, [], Some, None}
+use Rattle.std.proofs.Common.{rules, arith, refl, [], Some, None, sym, ◌∙◌}
 use Rattle.ripemd_files.proofs.Cutting.{ended_since}
-use Rattle.ripemd_files.proofs.Grouped.{now_failed, still, reads_line, reads_last, reads_no_more, reads_nothing, stops_at_line, stops_at_last, stops_reading, taken}
+use Rattle.ripemd_files.proofs.Grouped.{reads_line, reads_last, reads_no_more, reads_nothing, stops_at_line, stops_at_last, stops_reading, taken}
 use Rattle.ripemd_files.proofs.list.read_group.Goals as goal
 
 pub lines-init : goal.lines-init
@@ -24,7 +24,7 @@ returns-in-Failed-clause-ok g c =
     record {
       rest = c.read_line.new.text.items;
       reads = reads_no_more _ _ _ _ _ _ _ _ _ before c.read_line.new.text.items piece.0;
-      ended = (before.whole refl, piece.1, now_failed _ _ (rw c.in-Failed.is at c.in_ok-read_line.ensures.failed));
+      ended = (before.whole refl, piece.1, rw c.in-Failed.is at c.in_ok-read_line.ensures.failed);
       advanced = λ never. absurd (search (rules, never));
       bounded = λ never. absurd (search (rules, never));
     }
@@ -44,7 +44,7 @@ returns-in-Last-clause-ok g c =
       ended = (
         refl,
         ended_since _ _ _ _ (taken _ _ _ _ _ (g.R.ReadList.state c.read_line.new.self).left _ _ _ before) piece.1,
-        still _ _ _ (rw c.in-Last.is at c.in_ok-read_line.ensures.failed) c.lines.invariant.works,
+        (rw c.in-Last.is at c.in_ok-read_line.ensures.failed) ∙ sym c.requires.works,
       );
       advanced = λ never. absurd (search (rules, never));
       bounded = λ never. absurd (search (rules, never));
@@ -61,7 +61,7 @@ returns-in-Some-clause-ok g c =
     record {
       rest = [];
       reads = reads_line _ _ _ _ _ _ _ _ _ c.lines.invariant.reads _ _ _ (Some c.in-Some.number) (rw (c.as_slice-in-Line.ensures.value, c.in-Some.is) at line.takes) line.advances piece;
-      ended = (refl, still _ _ _ (rw c.in-Line.is at c.in_ok-read_line.ensures.failed) c.lines.invariant.works);
+      ended = (refl, (rw c.in-Line.is at c.in_ok-read_line.ensures.failed) ∙ sym c.requires.works);
       advanced = λ _. omega (arith, line.advances, c.lines.invariant.behind);
       bounded = λ _. line.bound;
     }
@@ -72,7 +72,7 @@ lines-preserved g c =
     let line = c.in_ok-misformatted-in-Line.ensures in
     record {
       reads = reads_line _ _ _ _ _ _ _ _ _ c.lines.invariant.reads _ _ _ None (rw (c.as_slice-in-Line.ensures.value, c.in-None.is) at line.takes) line.advances piece;
-      works = still _ _ _ (rw c.in-Line.is at c.in_ok-read_line.ensures.failed) c.lines.invariant.works;
+      works = (rw c.in-Line.is at c.in_ok-read_line.ensures.failed) ∙ sym c.requires.works;
       advanced = λ _. omega (arith, line.advances, c.lines.invariant.behind);
       bounded = λ _. line.bound;
       behind = omega (arith, line.advances, c.lines.invariant.behind);

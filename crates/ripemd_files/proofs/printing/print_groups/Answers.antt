@@ -1,4 +1,4 @@
-use Rattle.std.proofs.Common.{rules, arith}
+use Rattle.std.proofs.Common.{rules, arith, ◌∙◌}
 use Rattle.ripemd_files.proofs.Printed.{first_from, prints_no_more, prints_nothing, prints_on, prints_part}
 use Rattle.ripemd_files.proofs.printing.print_groups.Goals as goal
 
@@ -7,6 +7,7 @@ loop-start-init g c = record { printed = prints_nothing _ _ _; within = omega ar
 
 pub print_outcomes-requires : goal.print_outcomes-requires
 print_outcomes-requires g c = record {
+  told = c.loop-start.invariant.printed.tells.works ∙ c.requires.told;
   read = rw c.as_slice.ensures.value (first_from _ c.args.names.now _ c.loop-start.start c.len.result c.loop-start.invariant.within (search rules) c.in_ok-outcomes.ensures).1;
 }
 
