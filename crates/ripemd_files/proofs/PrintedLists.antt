@@ -1,6 +1,6 @@
 -- Lists that were printed, and are checked.
-use Rattle.std.proofs.Common.{rules, ◌≡◌, ◌≢◌, ◌⊎◌, ℕ, ◌+◌, ◌<◌, ◌-◌, ◌^◌, ◌==◌, ◌&&◌, ◌||◌, Bool, true, false, List, [], ◌∷◌, ◌++◌, codes, length, map, flat_map, Option, Some, None, unwrap_or, All, inl, inr, refl, sym, ap, subst, ◌∙◌, cond, arith, append_assoc}
-use Rattle.std.specs.Prelude.{IfSome, not, Result, Ok, Err, MatchBool, count_by, min}
+use Rattle.std.proofs.Common.{◌≡◌, ℕ, ◌+◌, ◌<◌, ◌-◌, ◌^◌, ◌==◌, ◌&&◌, ◌||◌, Bool, true, false, List, [], ◌∷◌, ◌++◌, codes, length, map, flat_map, Option, Some, None, unwrap_or, All, inl, inr, refl, sym, ap, ◌∙◌, cond, arith, append_assoc}
+use Rattle.std.specs.Prelude.{IfSome, not, Result, Ok, MatchBool, count_by, min}
 use Rattle.std.specs.List.{list_all, list_any}
 use Rattle.std.specs.declared.io.Error.{Error}
 use Rattle.std.proofs.lemmas.Bool.{ne_eqb, or_parts}
@@ -17,13 +17,12 @@ use Rattle.ripemd_files.specs.declared.list.Rules.{Rules}
 use Rattle.ripemd_files.specs.declared.outcome.Outcome.{Outcome}
 use Rattle.ripemd_files.specs.declared.outcome.Outcome.TheVariants.{Digest, Refused, Broken}
 use Rattle.ripemd_files.specs.declared.verdict.Options.{Options}
-use Rattle.ripemd_files.specs.declared.verdict.Verdict.{Verdict}
 use Rattle.ripemd_files.specs.declared.verdict.Verdict.TheVariants.{Differs, Matches}
 use Rattle.ripemd_files.specs.declared.line.Ending.TheVariants.{Newline}
 use Rattle.ripemd_files.specs.declared.printing.Style.{Style}
 use Rattle.ripemd_files.specs.Lines.{IsLine, end_of, is_end, line_of}
 use Rattle.ripemd_files.specs.Layouts.{HasLayout, layout_at, layout_of}
-use Rattle.ripemd_files.specs.Reading.{first_of_two, skip_blanks, strip_mark, strip_tag}
+use Rattle.ripemd_files.specs.Reading.{first_of_two, strip_tag}
 use Rattle.ripemd_files.specs.Readings.{ComesTo, Place, parameters_of}
 use Rattle.ripemd_files.specs.Splitting.{lines_of}
 use Rattle.ripemd_files.specs.Checking.{Event, IsTally, checked, counted, has_verdict, is_difference, is_match, is_misformatted, is_unreadable, misformatted, verdict_of, verdict_of_digest}
@@ -31,7 +30,7 @@ use Rattle.ripemd_files.specs.Lists.{IsEventOn, IsWanted, Reaches, Reports, ende
 use Rattle.ripemd_files.specs.Determined.{IsKnown, Print, Report, Start, list_before}
 use Rattle.ripemd_files.specs.Printing.{Reading, items_on, was_read}
 use Rattle.ripemd_files.specs.Said.{Item, byte, written}
-use Rattle.ripemd_files.specs.Printed.{IsPrinted, Printed, events_now, printed_line, printed_text, verdict_now}
+use Rattle.ripemd_files.specs.Printed.{IsPrinted, Printed, printed_line, printed_text, verdict_now}
 use Rattle.ripemd_files.proofs.Agreeing.{came_to, is_line, is_verdict, printed_is_taken, round_trips, same_line, whole}
 use Rattle.ripemd_files.proofs.Bodies.{strip_tag-tag}
 use Rattle.ripemd_files.proofs.Cutting.{lines_first}
@@ -237,10 +236,9 @@ module _ {File : Type 0} (place : Place File) (contents : List ℕ → Result (L
   print_one : (f : Printed) (outcome : Outcome) → Gave f → ComesTo place hashed f.name outcome
       → (items_on style f.name outcome ≡ written (printed_line style.form style.variant f.message f.name ++ codes "\n")) × (was_read outcome ≡ true)
   print_one f (Digest d) gave (m, gives, is) =
-      let same : m ≡ f.message = cc (sym (given_all place contents known f.name m gives) ∙ gave) in
-      (
+      let same : m ≡ f.message = cc (sym (given_all place contents known f.name m gives) ∙ gave) in (
         ap (λ bytes. written (line_of style.ending style.form style.variant bytes f.name ++ end_of style.ending)) (is ∙ ap hashed same)
-        ∙ ap (λ ending. written (line_of ending style.form style.variant (hashed f.message) f.name ++ end_of ending)) newline,
+            ∙ ap (λ ending. written (line_of ending style.form style.variant (hashed f.message) f.name ++ end_of ending)) newline,
         refl,
       )
   print_one f (Refused e) gave comes = absurd (cc (sym gave ∙ known.refused f.name e comes))
@@ -257,12 +255,11 @@ module _ {File : Type 0} (place : Place File) (contents : List ℕ → Result (L
       let name : r.name ≡ f.name = cc named in
       let comes : ComesTo place hashed f.name r.outcome = rw (← name) (All-head IsRead r rs read) in
       let one = print_one f r.outcome (All-head Gave f files gave) comes in
-      let others = print_all files rs (cc named) (All-tail IsRead r rs read) (All-tail Gave f files gave) in
-      (
+      let others = print_all files rs (cc named) (All-tail IsRead r rs read) (All-tail Gave f files gave) in (
         ap (λ n. items_on style n r.outcome ++ flat_map (λ (r : Reading). items_on style r.name r.outcome) rs) name
-        ∙ ap (λ l. l ++ flat_map (λ (r : Reading). items_on style r.name r.outcome) rs) one.0
-        ∙ ap (λ l. written (printed_line style.form style.variant f.message f.name ++ codes "\n") ++ l) others.0
-        ∙ sym (map-append byte (printed_line style.form style.variant f.message f.name ++ codes "\n") (printed_text style.form style.variant files)),
+            ∙ ap (λ l. l ++ flat_map (λ (r : Reading). items_on style r.name r.outcome) rs) one.0
+            ∙ ap (λ l. written (printed_line style.form style.variant f.message f.name ++ codes "\n") ++ l) others.0
+            ∙ sym (map-append byte (printed_line style.form style.variant f.message f.name ++ codes "\n") (printed_text style.form style.variant files)),
         rw (one.1, others.1) refl,
       )
 
@@ -271,8 +268,7 @@ module _ {File : Type 0} (place : Place File) (contents : List ℕ → Result (L
       → (one.told.items ≡ Some (before ++ written (printed_text style.form style.variant files))) × (one.all ≡ true)
   prints_list files before failure gave one =
       let prints = one.prints.prints in
-      let all = print_all files prints.readings prints.named prints.each gave in
-      (
+      let all = print_all files prints.readings prints.named prints.each gave in (
         grown before one.prints.items one.told.items one.prints.tells.adds ∙ ap (λ l. Some (before ++ l)) (prints.said ∙ all.0),
         prints.answer ∙ all.1,
       )

@@ -1,5 +1,5 @@
 -- A digest has the length of its variant, and consists of bytes.
-use Rattle.std.proofs.Common.{rules, ◌≡◌, ◌⊎◌, ℕ, zero, suc, ◌+◌, ◌-◌, ◌*◌, ◌<◌, ◌≤◌, List, [], ◌∷◌, ◌++◌, length, take, drop, get_or, Option, Some, None, inl, inr, refl, sym, ap, ◌∙◌, arith}
+use Rattle.std.proofs.Common.{◌≡◌, ◌⊎◌, ℕ, zero, suc, ◌+◌, ◌-◌, ◌*◌, ◌≤◌, List, [], ◌∷◌, ◌++◌, length, take, drop, Option, Some, None, inl, inr, refl, sym, ap, ◌∙◌, arith}
 use Rattle.std.specs.List.{fold}
 use Rattle.std.specs.Prelude.{slice_get}
 use Rattle.std.specs.Int.{to_le_bytes, w32}
@@ -28,14 +28,14 @@ length-from_place k xs = omega (arith, length-append (drop k xs) (take k xs), le
 
 length-step : (f : ℕ → ℕ → ℕ → ℕ) (x k s n : ℕ) (registers : List ℕ) → (n ≡ 4) ⊎ (n ≡ 5) → length registers ≡ n
     → length (step f x k s registers) ≡ n
-length-step f x k s n [] is long = absurd (elim is [ | inl e ↦ omega (arith, long, e) | inr e ↦ omega (arith, long, e) ])
-length-step f x k s n (a ∷ []) is long = absurd (elim is [ | inl e ↦ omega (arith, long, e) | inr e ↦ omega (arith, long, e) ])
-length-step f x k s n (a ∷ b ∷ []) is long = absurd (elim is [ | inl e ↦ omega (arith, long, e) | inr e ↦ omega (arith, long, e) ])
-length-step f x k s n (a ∷ b ∷ c ∷ []) is long = absurd (elim is [ | inl e ↦ omega (arith, long, e) | inr e ↦ omega (arith, long, e) ])
+length-step f x k s n [] is long = absurd (elim is [ inl e ↦ omega (arith, long, e) | inr e ↦ omega (arith, long, e) ])
+length-step f x k s n (a ∷ []) is long = absurd (elim is [ inl e ↦ omega (arith, long, e) | inr e ↦ omega (arith, long, e) ])
+length-step f x k s n (a ∷ b ∷ []) is long = absurd (elim is [ inl e ↦ omega (arith, long, e) | inr e ↦ omega (arith, long, e) ])
+length-step f x k s n (a ∷ b ∷ c ∷ []) is long = absurd (elim is [ inl e ↦ omega (arith, long, e) | inr e ↦ omega (arith, long, e) ])
 length-step f x k s n (a ∷ b ∷ c ∷ d ∷ []) is long = long
 length-step f x k s n (a ∷ b ∷ c ∷ d ∷ e ∷ []) is long = long
 length-step f x k s n (a ∷ b ∷ c ∷ d ∷ e ∷ g ∷ more) is long =
-    absurd (elim is [ | inl same ↦ omega (arith, long, same) | inr same ↦ omega (arith, long, same) ])
+    absurd (elim is [ inl same ↦ omega (arith, long, same) | inr same ↦ omega (arith, long, same) ])
 
 length-registers : (line : Line) (block : List ℕ) (r count n : ℕ) (registers : List ℕ) → (n ≡ 4) ⊎ (n ≡ 5) → length registers ≡ n
     → length (registers_after line block r count registers) ≡ n

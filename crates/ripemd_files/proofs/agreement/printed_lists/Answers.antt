@@ -12,10 +12,9 @@ returns-clause-checked g c contents options rules first form variant files start
     printed text one over
 
 pub returns-clause-accepted : goal.returns-clause-accepted
-returns-clause-accepted g c contents options rules first form variant files start known standard printed text gave some one over =
-    (
-      laws.all_matches (g.F.Folder.place c.args._folder.now) contents known options.ignore_missing rules form variant options refl first start files
-          standard printed text one over gave,
-      laws.succeeds_all (g.F.Folder.place c.args._folder.now) contents known options.ignore_missing rules form variant options refl first start files
-          standard printed text one over gave some,
-    )
+returns-clause-accepted g c contents options rules first form variant files start known standard printed text gave some one over = (
+  laws.all_matches (g.F.Folder.place c.args._folder.now) contents known options.ignore_missing rules form variant options refl first start files
+      standard printed text one over gave,
+  laws.succeeds_all (g.F.Folder.place c.args._folder.now) contents known options.ignore_missing rules form variant options refl first start files
+      standard printed text one over gave some,
+)
