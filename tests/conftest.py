@@ -128,6 +128,34 @@ def library(once):
     return BUILT
 
 
+# Digests and tags of which one bit is wrong, by the right functions under other names.
+BROKEN = """#include "nattizhu.h"
+#define BROKEN(name, parameters, arguments) \\
+  extern bool right_##name parameters; \\
+  bool name parameters { bool done = right_##name arguments; *digest ^= 1; return done; }
+BROKEN(nattizhu_final, (const nattizhu_state *state, uint8_t *digest, size_t size), (state, digest, size))
+BROKEN(nattizhu_hmac_final, (const nattizhu_hmac_state *state, uint8_t *digest, size_t size), (state, digest, size))
+BROKEN(nattizhu_digest, (nattizhu_variant variant, const uint8_t *bytes, size_t length, uint8_t *digest, size_t size),
+       (variant, bytes, length, digest, size))
+"""
+
+
+@pytest.fixture(scope="session")
+def broken(library, once):
+    """A folder with static libraries in place of ours, whose digests are wrong: what uses ours is wrong by them."""
+    need("objcopy", "binutils")
+
+    def build(folder):
+        shutil.copytree(library, folder)
+        names = re.findall(r"^BROKEN\((\w+)", BROKEN, re.MULTILINE)
+        run("objcopy", *(f"--redefine-sym={name}=right_{name}" for name in names), folder / "libnattizhu.a")
+        run("cc", "-O2", "-fPIC", "-Wall", "-Wextra", "-Werror", "-I", ROOT / "crates/ripemd_c", "-x", "c", "-c", "-",
+            "-o", folder / "broken.o", input=BROKEN)
+        run("ar", "r", folder / "libnattizhu.a", folder / "broken.o")
+
+    return once("broken", build)
+
+
 @pytest.fixture(scope="session")
 def wasm(once):
     """The library of which build/js makes the package for JavaScript."""

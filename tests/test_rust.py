@@ -1,10 +1,12 @@
-"""Tries the crate for Rust: its tests and the examples of its documentation, clippy, rustfmt and rustdoc, how its
-build finds the library, and the programs of docs/RUST.md. Other crates are Debian's: nothing is downloaded."""
+"""Tries the crates for Rust: their tests and the examples of their documentation, clippy, rustfmt and rustdoc, how the
+build finds the library, the crate of tests/ripemd, which depends on `ripemd`, and the programs of docs/RUST.md. Other
+crates are Debian's: nothing is downloaded."""
 import pathlib
 import shutil
 
 import pytest
-from conftest import DATA, NOTICED, ROOT, SECRETS, fences, memcheck, need, programs, run
+from conftest import DATA, NOTICED, ROOT, SECRETS, fences, lines, memcheck, need, programs, run
+from test_openssl import DIGESTS, TAGS, counted
 
 REGISTRY = pathlib.Path("/usr/share/cargo/registry")
 PACKAGES = {"clippy": "rust-clippy", "fmt": "rustfmt"}
@@ -47,18 +49,48 @@ def fixture_cargo(once):
     return runs
 
 
+def write_blobs(file, rows):
+    """Writes rows of bytes as the macros of `digest` read them: behind the number of pieces that are stored once for
+    several, which is 0, each piece, with its doubled length in front."""
+    written = bytearray(1)
+    for piece in (piece for row in rows for piece in row):
+        rest = 2 * len(piece)
+        number = [rest % 128]
+        while rest := rest // 128:
+            rest -= 1
+            number.insert(0, 128 + rest % 128)
+        written += bytes(number) + piece
+    file.write_bytes(written)
+
+
+def write_vectors(folder):
+    """Writes what the tests of tests/ripemd read."""
+    folder.mkdir()
+    for bits in ("128", "160", "256", "320"):
+        write_blobs(folder / f"digests-{bits}.blb", [(counted(length), bytes.fromhex(digest))
+                                                     for (variant, length), digest in DIGESTS.items() if variant == bits])
+        write_blobs(folder / f"tags-{bits}.blb", [map(bytes.fromhex, row) for variant, *row in TAGS if variant == bits])
+        write_blobs(folder / f"keys-{bits}.blb", [
+            (counted(int(password), 1), counted(int(salt)), int(rounds).to_bytes(4, "big"), bytes.fromhex(key))
+            for variant, password, salt, rounds, key in lines("keys.txt") if variant == bits])
+    write_blobs(folder / "streams.blb", [(bits.encode(), bytes.fromhex(digest)) for bits, digest in lines("streams.txt")])
+
+
 def copy_crate(folder):
-    """Copies the crate into a folder, and returns where it is."""
+    """Copies the crates into a folder, and returns where that over the library is."""
     return shutil.copytree(ROOT / "rust", folder / "rust", ignore=shutil.ignore_patterns("target", "Cargo.lock"))
 
 
 @pytest.fixture(scope="module", name="crate")
 def fixture_crate(library, once):
-    """A copy of the crate, with the library where the repository has it."""
+    """A copy of the crates, with the library where the repository has it."""
 
     def copy(folder):
         copy_crate(folder)
         shutil.copytree(DATA, folder / "tests/data")
+        shutil.copytree(ROOT / "tests/ripemd", folder / "tests/ripemd",
+                        ignore=shutil.ignore_patterns("target", "Cargo.lock"))
+        write_vectors(folder / "tests/ripemd/data")
         (folder / "crates/ripemd_c/out").mkdir(parents=True)
         for archive in library.glob("*.a"):
             shutil.copy(archive, folder / "crates/ripemd_c/out")
@@ -98,11 +130,25 @@ def fixture_page(cargo, prefix, once):
 @pytest.mark.parametrize("command", [
     "test", "test --no-default-features --tests", "clippy --all-targets -- -D warnings",
     "clippy --all-targets --no-default-features -- -D warnings", "fmt --check", "doc --no-deps"])
-def test_crate(cargo, crate, command):
+@pytest.mark.parametrize("folder", ["rust", "rust/ripemd"])
+def test_crate(cargo, crate, folder, command):
     words = command.split()
     if words[0] in PACKAGES:
         need_cargo(PACKAGES[words[0]], words[0])
-    cargo(crate, *words)
+    cargo(crate.parent / folder, *words)
+
+
+@pytest.mark.parametrize("command", ["test", "test --all-features", "clippy --all-targets -- -D warnings", "fmt --check"])
+def test_dependent(cargo, crate, command):
+    """The crate that depends on `ripemd` 0.1, and on `hmac` and `pbkdf2` over it."""
+    test_crate(cargo, crate, "tests/ripemd", command)
+
+
+def test_dependent_has_this_library(cargo, crate, broken, tmp_path):
+    """Its tests fail, all of them, over a library whose digests are wrong."""
+    said = cargo(crate.parent / "tests/ripemd", "test", status=101,
+                 env={"NATTIZHU_LIB_DIR": str(broken), "CARGO_TARGET_DIR": str(tmp_path)}).stdout
+    assert "test result: FAILED. 0 passed; 20 failed" in said
 
 
 def test_named_folder_without_the_library(cargo, crate, tmp_path):
