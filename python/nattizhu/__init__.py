@@ -20,14 +20,15 @@ from ._nattizhu import (
 )
 
 __all__ = [
-    "Hasher", "Hmac", "algorithms_available", "digest_each", "digest_list",
-    "file_digest", "from_state", "hmac_digest", "hmac_digest_each",
-    "hmac_digest_list", "hmac_from_state", "hmac_new", "hmac_verify", "new",
-    "pbkdf2_hmac", "ripemd128", "ripemd160", "ripemd256", "ripemd320",
+    "Hasher", "Hmac", "algorithms_available", "algorithms_guaranteed",
+    "digest_each", "digest_list", "file_digest", "from_state", "hmac_digest",
+    "hmac_digest_each", "hmac_digest_list", "hmac_from_state", "hmac_new",
+    "hmac_verify", "new", "pbkdf2_hmac", "ripemd128", "ripemd160", "ripemd256",
+    "ripemd320",
 ]
 
-algorithms_available = frozenset(
-    {"ripemd128", "ripemd160", "ripemd256", "ripemd320"})
+algorithms_guaranteed = {"ripemd128", "ripemd160", "ripemd256", "ripemd320"}
+algorithms_available = set(algorithms_guaranteed)
 
 
 def file_digest(fileobj, name, /, *, _bufsize=2**18):

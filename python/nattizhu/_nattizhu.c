@@ -56,34 +56,34 @@ static bool taken(bool answer) {
 typedef struct {
   nattizhu_variant number;
   Py_ssize_t size;      /* of a digest */
-  const char *names[4]; /* the first is the name of its hashers */
+  const char *names[6]; /* the first is the name of its hashers; object identifiers are TeleTrusT's */
 } Variant;
 
-#define VARIANT(bits)                                                                              \
+#define VARIANT(bits, ...)                                                                         \
   {NATTIZHU_RIPEMD##bits, NATTIZHU_RIPEMD##bits##_SIZE,                                            \
-   {"ripemd" #bits, "ripemd-" #bits, "rmd" #bits, NULL}}
+   {"ripemd" #bits, "ripemd-" #bits, "rmd" #bits, __VA_ARGS__}}
 
 enum { VARIANTS = 4 };
-static const Variant variants[VARIANTS] = {VARIANT(128), VARIANT(160), VARIANT(256), VARIANT(320)};
+static const Variant variants[VARIANTS] = {
+    VARIANT(128, "1.3.36.3.2.2"), VARIANT(160, "ripemd", "1.3.36.3.2.1"),
+    VARIANT(256, "1.3.36.3.2.3"), VARIANT(320, NULL)};
 
-/* The variant with this name, in either case; null and an exception if there is none. */
+/* The variant with this name, in either case; null and an exception if there is none. As for hashlib, bytes 0
+ * and lone surrogates make no string. */
 static const Variant *variant_named(PyObject *name) {
   Py_ssize_t length;
-  const char *text;
+  const char *text = PyUnicode_Check(name) ? PyUnicode_AsUTF8AndSize(name, &length) : NULL;
   char lower[16];
-  if (!PyUnicode_Check(name)) {
+  if (text == NULL || strlen(text) != (size_t)length) {
     PyErr_SetString(PyExc_TypeError, "name must be a string");
     return NULL;
   }
-  text = PyUnicode_AsUTF8AndSize(name, &length);
-  if (text == NULL)
-    return NULL;
   if (length < (Py_ssize_t)sizeof lower) {
     for (Py_ssize_t i = 0; i <= length; i++)
       lower[i] = (char)(text[i] >= 'A' && text[i] <= 'Z' ? text[i] - 'A' + 'a' : text[i]);
     for (int v = 0; v < VARIANTS; v++)
       for (const char *const *known = variants[v].names; *known != NULL; known++)
-        if (strlen(lower) == (size_t)length && strcmp(lower, *known) == 0)
+        if (strcmp(lower, *known) == 0)
           return &variants[v];
   }
   PyErr_Format(PyExc_ValueError, "unsupported hash type %U", name);
@@ -93,7 +93,7 @@ static const Variant *variant_named(PyObject *name) {
 /* ---- Arguments */
 
 /* How a function is called: its parameters in order, of which so many may be given by position. The first
- * ones have to be given, so many, and the one for the variant, which may have an alias. */
+ * ones have to be given, so many. The one for the variant may have an alias. */
 typedef struct {
   const char *function;
   const char *parameters[6];
@@ -136,8 +136,8 @@ static bool bind(const Signature *signature, PyObject *const *arguments, Py_ssiz
     }
     places[place] = arguments[count + i];
   }
-  for (Py_ssize_t i = 0; signature->parameters[i] != NULL; i++)
-    if (places[i] == NULL && (i < signature->required || i == signature->variant)) {
+  for (Py_ssize_t i = 0; i < signature->required; i++)
+    if (places[i] == NULL) {
       PyErr_Format(PyExc_TypeError, "%s() missing required argument '%s' (pos %zd)",
                    signature->function, signature->parameters[i], i + 1);
       return false;
@@ -261,6 +261,14 @@ static PyObject *hash_update(PyObject *self, PyObject *data) {
   return update_by((Hash *)self, data) ? Py_NewRef(Py_None) : NULL;
 }
 
+/* That of an HMAC, whose argument may be given by its name. */
+static PyObject *update(PyObject *self, PyObject *const *arguments, Py_ssize_t count,
+                        PyObject *names) {
+  static const Signature signature = {"update", {"msg", NULL}, 1, 1, -1, NULL};
+  PyObject *given[1] = {NULL};
+  return bind(&signature, arguments, count, names, given) ? hash_update(self, given[0]) : NULL;
+}
+
 static bool digest_of(Hash *self, uint8_t digest[NATTIZHU_MAX_SIZE]) {
   size_t size = (size_t)self->variant->size;
   bool done;
@@ -356,14 +364,15 @@ static PyObject *hash_block_size(PyObject *Py_UNUSED(self), void *Py_UNUSED(none
 
 static PyObject *hash_repr(PyObject *self) {
   return PyUnicode_FromFormat(((Hash *)self)->keyed ? "<hmac-%s nattizhu.Hmac object at %p>"
-                                                    : "<%s nattizhu.Hasher object at %p>",
+                                                    : "<%s nattizhu.Hasher object @ %p>",
                               ((Hash *)self)->variant->names[0], (void *)self);
 }
 
+#define FUNCTION(name, doc)                                                                        \
+  {#name, (PyCFunction)(void (*)(void))name, METH_FASTCALL | METH_KEYWORDS, PyDoc_STR(doc)}
+
 #define METHODS                                                                                    \
-  {"update", hash_update, METH_O, PyDoc_STR("Appends the bytes of data.")},                        \
-      {"digest", hash_digest, METH_NOARGS,                                                         \
-       PyDoc_STR("The digest, or tag, of the bytes so far.")},                                     \
+  {"digest", hash_digest, METH_NOARGS, PyDoc_STR("The digest, or tag, of the bytes so far.")},     \
       {"hexdigest", hash_hexdigest, METH_NOARGS,                                                   \
        PyDoc_STR("The same in lower case hexadecimal.")},                                          \
       {"copy", hash_copy, METH_NOARGS, PyDoc_STR("Another one, of the same bytes so far.")},       \
@@ -371,9 +380,13 @@ static PyObject *hash_repr(PyObject *self) {
        PyDoc_STR("The saved bytes, from which another process may go on.")},                       \
       {"__reduce__", hash_reduce, METH_NOARGS, NULL}
 
-static PyMethodDef hasher_methods[] = {METHODS, {NULL, NULL, 0, NULL}};
+static PyMethodDef hasher_methods[] = {
+    METHODS,
+    {"update", hash_update, METH_O, PyDoc_STR("Appends the bytes of data.")},
+    {NULL, NULL, 0, NULL}};
 static PyMethodDef hmac_methods[] = {
     METHODS,
+    FUNCTION(update, "update($self, /, msg)\n--\n\nAppends the bytes of msg."),
     {"verify", hmac_verify_tag, METH_O,
      PyDoc_STR("Whether these bytes are the tag, all of them. All bytes of a tag of the right length\n"
                "are compared, whatever they are.")},
@@ -469,9 +482,17 @@ static PyObject *hmac_new(PyObject *module, PyObject *const *arguments, Py_ssize
   static const Signature signature = {"hmac_new", {"key", "msg", "digestmod", NULL}, 3, 1, 2,
                                       "name"};
   PyObject *given[3] = {NULL};
-  const Variant *variant = bind_variant(&signature, arguments, count, names, given);
+  const Variant *variant;
   Py_buffer key;
   Hash *self;
+  int is_named;
+  if (!bind(&signature, arguments, count, names, given))
+    return NULL;
+  /* As for the standard hmac, what is false is no digestmod. */
+  is_named = given[2] == NULL ? 0 : PyObject_IsTrue(given[2]);
+  if (is_named == 0)
+    PyErr_SetString(PyExc_TypeError, "Missing required parameter 'digestmod'.");
+  variant = is_named == 1 ? variant_of(given[2]) : NULL;
   if (variant == NULL || !hold(given[0], &key, "key"))
     return NULL;
   self = made(((Module *)PyModule_GetState(module))->hmac, variant, 1);
@@ -806,9 +827,6 @@ static PyObject *pbkdf2_hmac(PyObject *Py_UNUSED(module), PyObject *const *argum
 }
 
 /* ---- The module */
-
-#define FUNCTION(name, doc)                                                                        \
-  {#name, (PyCFunction)(void (*)(void))name, METH_FASTCALL | METH_KEYWORDS, PyDoc_STR(doc)}
 
 #define MAKER(bits)                                                                                \
   FUNCTION(ripemd##bits, "ripemd" #bits "($module, /, data=b'', *, usedforsecurity=True)\n--\n\n"  \

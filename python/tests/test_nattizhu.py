@@ -120,6 +120,7 @@ class Digests(unittest.TestCase):
             with self.assertRaises(AttributeError):
                 hasher.name = "md5"
         self.assertEqual(nattizhu.algorithms_available, set(NAMES))
+        self.assertEqual(nattizhu.algorithms_guaranteed, set(NAMES))
 
     def test_copies(self):
         for name in NAMES:
@@ -445,14 +446,15 @@ class Errors(unittest.TestCase):
         self.assertEqual(nattizhu.new("RIPEMD160").name, "ripemd160")
 
     def test_names(self):
-        for name in ("", "ripemd", "ripemd161", "sha256"):
+        for name in ("", "ripe", "ripemd161", "sha256", "1.3.36.3.2.4"):
             for call in (nattizhu.new,
                          lambda name: nattizhu.from_state(name, bytes(92)),
                          lambda name: nattizhu.digest_each(name, b"", 1),
                          lambda name: nattizhu.digest_list(name, [b""]),
                          lambda name: nattizhu.hmac_digest_list(
                              b"", [b""], name),
-                         lambda name: nattizhu.hmac_new(b"", b"", name),
+                         lambda name: nattizhu.hmac_new(
+                             b"", b"", name or "md5"),
                          lambda name: nattizhu.hmac_digest(b"", b"", name),
                          lambda name: nattizhu.hmac_digest_each(
                              b"", b"", 1, name),
@@ -460,11 +462,44 @@ class Errors(unittest.TestCase):
                              b"", b"", name, b"")):
                 with self.assertRaises(ValueError):
                     call(name)
-        with self.assertRaises(TypeError):
-            nattizhu.hmac_new(b"key", b"text")
         for name in (None, 160, b"ripemd160"):
             with self.assertRaises(TypeError):
                 nattizhu.new(name)
+
+    def test_no_digestmod(self):
+        """The error is that of the standard hmac."""
+        class Failing:
+            def __bool__(self):
+                raise LookupError
+
+        for arguments in ((), (b"text",), (None, None), (None, ""),
+                          (b"text", 0)):
+            with self.assertRaises(TypeError) as theirs:
+                hmac.new(b"key", *arguments)
+            with self.assertRaises(TypeError) as ours:
+                nattizhu.hmac_new(b"key", *arguments)
+            self.assertEqual(str(ours.exception), str(theirs.exception))
+        for call in (hmac.new, nattizhu.hmac_new):
+            with self.assertRaises(LookupError):
+                call(b"key", b"text", Failing())
+
+    def test_update_by_name(self):
+        """An HMAC's takes msg, as that of the standard hmac; a hasher's, as
+        that of hashlib, takes no name."""
+        for tag in (hmac.new(b"key", digestmod=nattizhu.ripemd160),
+                    nattizhu.hmac_new(b"key", digestmod="ripemd160")):
+            tag.update(msg=b"text")
+            self.assertEqual(tag.digest(), nattizhu.hmac_digest(
+                b"key", b"text", "ripemd160"))
+            for arguments, named in (((), {}), ((b"",), {"msg": b""}),
+                                     ((b"", b""), {}), ((), {"data": b""}),
+                                     ((), {"msg": "text"})):
+                with self.assertRaises(TypeError):
+                    tag.update(*arguments, **named)
+        for hasher in (hashlib.sha256(), nattizhu.ripemd160()):
+            for named in ({}, {"data": b""}, {"msg": b""}, {"obj": b""}):
+                with self.assertRaises(TypeError):
+                    hasher.update(**named)
 
     def test_records(self):
         for size in (0, -1, 4, 2**64 + 3, 2**70):
@@ -566,8 +601,15 @@ class Names(unittest.TestCase):
                 self.assertEqual(nattizhu.new(name).name, f"ripemd{bits}")
                 self.assertEqual(nattizhu.hmac_new(b"", digestmod=name).name,
                                  f"hmac-ripemd{bits}")
-        for name in ("ripemd160\0", "ripemd16\u0660", "\ud800", "r" * 1000):
+        for name, bits in (("ripemd", "160"), ("RIPEMD", "160"),
+                           ("1.3.36.3.2.1", "160"), ("1.3.36.3.2.2", "128"),
+                           ("1.3.36.3.2.3", "256")):
+            self.assertEqual(nattizhu.new(name).name, f"ripemd{bits}")
+        for name in ("ripemd16\u0660", "r" * 1000):
             with self.assertRaises(ValueError):
+                nattizhu.new(name)
+        for name in ("ripemd160\0", "\ud800"):
+            with self.assertRaises(TypeError):
                 nattizhu.new(name)
 
     def test_constructors(self):
@@ -648,7 +690,8 @@ class Leaks(unittest.TestCase):
             lambda: nattizhu.hmac_new(data, data, "ripemd160"),
             lambda: nattizhu.hmac_new(data, 3, "ripemd160"),
             lambda: nattizhu.hmac_new(3, data, "ripemd160"),
-            lambda: nattizhu.hmac_new(data),
+            lambda: nattizhu.hmac_new(data), lambda: tag.update(msg=data),
+            lambda: tag.update(message=data),
             lambda: nattizhu.hmac_digest(data, data, "ripemd160"),
             lambda: nattizhu.hmac_digest(data, 3, "ripemd160"),
             lambda: nattizhu.hmac_verify(data, data, "ripemd160", data),
