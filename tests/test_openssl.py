@@ -1,5 +1,6 @@
 """Tries the provider for OpenSSL: tests/evp.c, which calls it through EVP; the program openssl with the values of
-tests/data; Python's hashlib; the commands of docs/OPENSSL.md; and libraries that it cannot use."""
+tests/data; Python's hashlib, and a package of Debian over it; the commands of docs/OPENSSL.md, and that of docs/PYTHON.md;
+and libraries that it cannot use."""
 import os
 import re
 import shutil
@@ -12,8 +13,10 @@ CRATE = ROOT / "crates/ripemd_c"
 SOURCE = ROOT / "openssl/provider.c"
 CNF = ROOT / "openssl/openssl.cnf"
 EVP = ROOT / "tests/evp.c"
-# The commands of the page, but for the one that is for other folders than that of the Debian package.
-PAGE = [(text, printed or "") for text, printed in programs("docs/OPENSSL.md", "sh") if "OPENSSL_MODULES" not in text]
+# The commands of the page, but for the one that is for other folders than that of the Debian package, and those of Python's
+# that are about the provider.
+PAGE = [(text, printed or "") for page in ("docs/OPENSSL.md", "docs/PYTHON.md") for text, printed in programs(page, "sh")
+        if "OPENSSL_MODULES" not in text and (page == "docs/OPENSSL.md" or "openssl.cnf" in text)]
 
 PACKAGES = {"cc": "gcc", "clang": "clang"}
 STRICT = ["-O2", "-Wall", "-Wextra", "-pedantic", "-Wconversion", "-Werror"]
@@ -322,6 +325,27 @@ def test_configuration(over, configurations, tmp_path, name):
     theirs = run("openssl", "dgst", "-propquery", "provider=default", "-ripemd160", input="abc", env=env).stdout
     assert theirs == f"RIPEMD-160(stdin)= {ABC}\n"
     assert "SHA2-256(stdin)= ba7816bf" in run("openssl", "dgst", "-sha256", input="abc", env=env).stdout
+
+
+# bip32utils of Debian calls hashlib.new("ripemd160"): the first test vector of BIP 32. The others are of RFC 2286 and of
+# docs/PYTHON.md.
+DEPENDENT = """import bip32utils, hashlib, hmac
+print(bip32utils.BIP32Key.fromEntropy(bytes(range(16))).Identifier().hex())
+print(hmac.new(b"Jefe", b"what do ya want for nothing?", "ripemd160").hexdigest())
+print(hashlib.pbkdf2_hmac("ripemd160", b"password", bytes.fromhex("12345678"), 5, 20).hex()[:32])
+"""
+ANSWERS = ["3442193e1bb70916e914552172cd4e2dbc9df811", "dda6c0213a485a9e24f4742064a7f033b43c4069",
+           "7a3d7c03e7266bf83d78fb29d2641f56"]
+
+
+def test_dependent_of_hashlib(modules, over, configurations, tmp_path):
+    """It is answered by the provider: over another library it has the digests of that."""
+    if run("/usr/bin/python3", "-c", "import bip32utils", status=None).returncode:
+        pytest.skip("there is no bip32utils (Debian's python3-bip32utils)")
+    over(ZEROS, status=0)
+    for folder, answers in [(modules, ANSWERS), (tmp_path / "ossl-modules", ["0" * len(text) for text in ANSWERS])]:
+        env = {"OPENSSL_MODULES": folder, "OPENSSL_CONF": configurations["itself"]}
+        assert run("/usr/bin/python3", "-c", DEPENDENT, env=env).stdout.split() == answers
 
 
 def test_configuration_of_the_page():

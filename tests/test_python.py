@@ -1,6 +1,8 @@
-"""Tries the package for Python: what `make install` copied with the package's own tests and its stub, and the
-wheel in a fresh environment with the examples of docs/PYTHON.md and of examples/."""
+"""Tries the package for Python: what `make install` copied with the package's own tests, those of CPython, and its stub,
+and the wheel in a fresh environment with the examples of docs/PYTHON.md and of examples/."""
+import json
 import re
+import shutil
 import subprocess
 import sys
 import time
@@ -22,6 +24,34 @@ def test_tests_of_the_package(prefix):
     said = run(sys.executable, "-X", "dev", "-m", "pytest", "-q", "-p", "no:cacheprovider", ROOT / "python/tests",
                env={"PYTHONPATH": site(prefix), "PYTHONMALLOC": "debug"}).stdout
     assert int(said.split(" passed")[0].split()[-1]) >= 50
+
+
+@pytest.fixture(name="cpython")
+def fixture_cpython(tmp_path):
+    """Runs CPython's tests over the package in a folder, and returns what tests/cpython.py prints."""
+    code = "import sys, test.test_hashlib, test.test_hmac; sys.exit(sys.version_info[:2] != (3, 11))"
+    if run("/usr/bin/python3", "-c", code, status=None).returncode:
+        pytest.skip("there are no tests of CPython 3.11 (Debian's libpython3.11-testsuite)")
+    return lambda folder: json.loads(run("/usr/bin/python3", ROOT / "tests/cpython.py", cwd=tmp_path,
+                                         env={"PYTHONPATH": folder}).stdout)
+
+
+def test_tests_of_cpython(prefix, cpython):
+    """They refuse what the page names."""
+    said = cpython(site(prefix))
+    table = (ROOT / "docs/PYTHON.md").read_text("utf-8").split("## The tests of CPython")[1]
+    assert set(said["refused"]) == set(re.findall(r"`(test_\w+)`", table)), said
+    assert said["ran"] - len(said["skipped"]) >= 50, said
+
+
+def test_tests_of_cpython_have_this_library(broken, cpython, tmp_path):
+    """They fail over a library whose digests are wrong."""
+    run("build/wheel", tmp_path / "wheel", broken)
+    [wheel] = (tmp_path / "wheel").glob("*.whl")
+    shutil.unpack_archive(wheel, tmp_path / "package", "zip")
+    said = cpython(tmp_path / "package")
+    vectors = [f"test_case_ripemd{bits}_{number}" for bits, numbers in ((128, 3), (160, 4), (256, 4)) for number in range(numbers)]
+    assert {*vectors, "test_ripemd128_vectors", "test_sha_vectors", "test_withtext"} <= set(said["refused"]), said
 
 
 def test_stub(prefix, tmp_path):
