@@ -50,8 +50,8 @@ def test_tests_of_cpython_have_this_library(broken, cpython, tmp_path):
     [wheel] = (tmp_path / "wheel").glob("*.whl")
     shutil.unpack_archive(wheel, tmp_path / "package", "zip")
     said = cpython(tmp_path / "package")
-    vectors = [f"test_case_ripemd{bits}_{number}" for bits, numbers in ((128, 3), (160, 4), (256, 4)) for number in range(numbers)]
-    assert {*vectors, "test_ripemd128_vectors", "test_sha_vectors", "test_withtext"} <= set(said["refused"]), said
+    digests = {f"test_case_ripemd{bits}_{number}" for bits in (128, 160, 256) for number in range(3)}
+    assert digests | {"test_ripemd128_vectors", "test_sha_vectors", "test_withtext"} <= set(said["refused"]), said
 
 
 def test_stub(prefix, tmp_path):
