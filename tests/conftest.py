@@ -146,7 +146,9 @@ def broken(library, once):
     need("objcopy", "binutils")
 
     def build(folder):
-        shutil.copytree(library, folder)
+        folder.mkdir()
+        for archive in library.glob("*.a"):
+            shutil.copy(archive, folder)
         names = re.findall(r"^BROKEN\((\w+)", BROKEN, re.MULTILINE)
         run("objcopy", *(f"--redefine-sym={name}=right_{name}" for name in names), folder / "libnattizhu.a")
         run("cc", "-O2", "-fPIC", "-Wall", "-Wextra", "-Werror", "-I", ROOT / "crates/ripemd_c", "-x", "c", "-c", "-",
