@@ -1,8 +1,8 @@
-"""Runs CPython's own tests of hashlib and hmac over nattizhu, and prints how many ran and which of them it refuses.
+"""Runs CPython's own tests of hashlib and hmac over nattizhu, and prints how many ran, and which were skipped and failed.
 
-The files are read as they are, and then the names of MD5, SHA-1 and SHA-256 exchanged for those of RIPEMD-128, -160 and
--256, whose digests are as long; and the modules that they import, for nattizhu. Digests, tags and keys that they expect
-are exchanged for those of RIPEMD, by others. Tests of other hash functions alone, and of compare_digest, are left out."""
+Their files are read as they are. Then the names of MD5, SHA-1 and SHA-256 are exchanged for those of RIPEMD-128, -160
+and -256, whose digests are as long; the digests, tags and keys that they expect, for those of RIPEMD from outside; and
+the modules that they import, for nattizhu. Tests of other hash functions alone, and of compare_digest, are left out."""
 import hashlib
 import hmac
 import importlib.util
@@ -47,7 +47,7 @@ RFC_2286 = {(f"ripemd{bits}", bytes.fromhex(key), bytes.fromhex(text)): tag
 
 
 class HMAC:
-    """hmac.HMAC, which makes an HMAC of nattizhu: also by its private methods, of which tests make use."""
+    """In place of hmac.HMAC: it makes HMACs of nattizhu, also by the private methods by which tests make some."""
 
     def __new__(cls, *given, **named):
         return nattizhu.hmac_new(*given, **named) if given or named else super().__new__(cls)
@@ -71,7 +71,7 @@ MODULES = {
 
 
 def load(name):
-    """A file of tests, exchanged."""
+    """A file of tests, with its names exchanged."""
     spec = importlib.util.find_spec(f"test.{name}")
     source = spec.loader.get_source(spec.name)
     for theirs, ours in EXCHANGED.items():
@@ -82,7 +82,7 @@ def load(name):
 
 
 def exchange(case, name, values=None):
-    """A check of theirs is only of our names, and by our values."""
+    """Has a check of theirs pass over other names than ours, and expect these values."""
     check = getattr(case, name)
 
     def checks(self, variant, *rest, **options):
@@ -121,8 +121,8 @@ def main():
     result = unittest.TestResult()
     unittest.TestSuite(case for case in cases if not OTHERS.search(case.id())).run(result)
     print(json.dumps({"ran": result.testsRun, "skipped": {case.id(): why for case, why in result.skipped},
-                      "refused": {case.id().split(".")[-1]: why.strip().splitlines()[-1]
-                                  for case, why in result.errors + result.failures}}, indent=1))
+                      "failed": {case.id().split(".")[-1]: why.strip().splitlines()[-1]
+                                 for case, why in result.errors + result.failures}}, indent=1))
 
 
 if __name__ == "__main__":
