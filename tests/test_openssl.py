@@ -300,6 +300,12 @@ def test_hashlib(modules, configurations, python, name):
     assert run(python, "-c", PYTHON, env=env).stdout == f"{PUBLISHED} sha256 True\n"
 
 
+@pytest.mark.parametrize("bits", ["128", "256", "320"])
+def test_hashlib_without_the_provider(bits):
+    said = run("/usr/bin/python3", "-c", f"import hashlib; hashlib.new('ripemd{bits}')", status=1).stderr
+    assert said.endswith(f"ValueError: unsupported hash type ripemd{bits}\n")
+
+
 # A library by whose digests one sees that the provider was asked: all are zeros.
 ZEROS = """#include <string.h>
 const char *nattizhu_version(void) { return ""; }
