@@ -56,7 +56,7 @@ static bool taken(bool answer) {
 typedef struct {
   nattizhu_variant number;
   Py_ssize_t size;      /* of a digest */
-  const char *names[6]; /* the first is the name of its hashers; object identifiers are TeleTrusT's */
+  const char *names[6]; /* the first is that of its hashers; object identifiers are TeleTrusT's */
 } Variant;
 
 #define VARIANT(bits, ...)                                                                         \
