@@ -220,11 +220,13 @@ def by_javascript(folder):
     if (subprocess.run([ROOT / "build/crate", "ripemd_js", "wasm64-unknown-unknown"], stdout=sys.stderr, check=False).returncode
             or subprocess.run([ROOT / "build/js", package], check=False).returncode):
         return
-    subprocess.run(["npm", "install", "--offline", "--silent", "--prefix", project, *package.glob("*.tgz")],
+    subprocess.run(["npm", "install", "--offline", "--silent", "--prefix", project, *package.glob("nattizhu-[0-9]*.tgz")],
                    stdout=subprocess.DEVNULL, check=True)
+    replacing, = package.glob("nattizhu-ripemd160-*.tgz")
+    shutil.unpack_archive(replacing, folder / "ripemd160", "gztar")
     said = subprocess.run(["node", "--version"], capture_output=True, text=True, check=True).stdout.strip()
     title(f"From JavaScript, RIPEMD-160, Node.js {said}")
-    subprocess.run(["node", ROOT / "bench/javascript.mjs", project], env={**os.environ, "NODE_PATH": "/usr/share/nodejs"}, check=True)
+    subprocess.run(["node", ROOT / "bench/javascript.mjs", project, folder / "ripemd160/package"], env={**os.environ, "NODE_PATH": "/usr/share/nodejs"}, check=True)
 
 
 def main():

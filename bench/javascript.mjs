@@ -1,6 +1,7 @@
 // The speed of calls from JavaScript, RIPEMD-160, beside Node's crypto, and Debian's hash.js and ripemd160 where they
-// are there, as a table in Markdown.
-//   NODE_PATH=/usr/share/nodejs node bench/javascript.mjs FOLDER      the project in which nattizhu is installed
+// are there, as a table in Markdown. Then that of the package ripemd160 beside the one that it replaces.
+//   NODE_PATH=/usr/share/nodejs node bench/javascript.mjs FOLDER FOLDER
+//     the project in which nattizhu is installed, and the package ripemd160
 import crypto from 'node:crypto';
 import { createRequire } from 'node:module';
 import { pathToFileURL } from 'node:url';
@@ -79,3 +80,17 @@ row('key by 2,000 rounds, ms', {
   nattizhu: () => pbkdf2(ripemd160, PASSWORD, SALT, { c: ROUNDS, dkLen: 20 }),
   "Node's crypto": () => crypto.pbkdf2Sync(PASSWORD, SALT, ROUNDS, 20, 'ripemd160'),
 }, 1, (ns) => (ns / 1e6).toFixed(2));
+
+try {
+  const [Ours, Theirs] = [resolve(process.argv[3]), 'ripemd160'].map(project);
+  console.log('\nThe package `ripemd160`, ours beside theirs:\n');
+  print(['message of', 'ours, ns', 'theirs, ns', 'times as fast']);
+  console.log('|---|---|---|---|');
+  for (const [length, times] of [[32, 5000], [84, 5000], [1024, 500], [2 ** 20, 1]]) {
+    const message = Buffer.alloc(length);
+    const [ours, theirs] = least([Ours, Theirs].map((Kind) => () => new Kind().update(message).digest()), times);
+    print([`${length} bytes`, Math.round(ours), Math.round(theirs), (theirs / ours).toFixed(1)]);
+  }
+} catch {
+  console.error('javascript.mjs: there is no ripemd160 to compare with');
+}

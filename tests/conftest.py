@@ -167,7 +167,7 @@ def wasm(once):
 @pytest.fixture(scope="session")
 def javascript(wasm, once):
     """A folder with the package for JavaScript and the page."""
-    for tool, package in [("node", "nodejs"), ("npm", "npm"), ("wasm-opt", "binaryen")]:
+    for tool, package in [("node", "nodejs"), ("npm", "npm"), ("wasm-opt", "binaryen"), ("esbuild", "esbuild")]:
         need(tool, package)
     return once("javascript", lambda folder: run("build/js", folder))
 

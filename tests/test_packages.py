@@ -205,9 +205,10 @@ def test_build_that_the_wheel_takes(shell, python):
 
 def test_javascript_package(shell):
     """Its tests, under Debian's Node.js."""
-    shell("ls *.tgz", lacking="package for JavaScript (Debian's nodejs, npm, binaryen)")
+    archive = f"nattizhu-{version()}.tgz"
+    shell(f"ls {archive}", lacking="package for JavaScript (Debian's nodejs, npm, binaryen, esbuild)")
     shell("command -v node", lacking="node (Debian's nodejs)")
-    shell("mkdir project/node_modules && tar -xf *.tgz -C project/node_modules --transform s/package/nattizhu/")
+    shell(f"mkdir project/node_modules && tar -xf {archive} -C project/node_modules --transform s/package/nattizhu/")
     shell("""echo '{"type": "module"}' >project/package.json""")
     assert "# fail 0\n# cancelled 0\n# skipped 0\n" in shell("cd project && NATTIZHU_DATA=../data node --test *.test.js")
 

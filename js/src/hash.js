@@ -31,6 +31,13 @@ export const final = (run, kind, state) => run(0, kind.keyed, (calls, memory, ou
   return output(kind.size);
 });
 
+/** What `run` does for the digest of a message of at most PIECE bytes, which it is given. */
+export const whole = (kind) => (calls, memory, output, bytes) => {
+  memory.set(bytes, IN);
+  kind.digest(calls, big(bytes.length));
+  return output(kind.size);
+};
+
 // The bytes that a state is saved as, which are one fewer than those of the state.
 const save = (run, kind, state) => run(kind.length, kind.keyed, (calls, memory) => {
   memory.set(state, STATE);
@@ -116,14 +123,10 @@ export function loaded(type, run, kind, saved) {
 
 export function hasher(run, kind) {
   const create = () => new Hash(run, kind, init(run, kind));
-  const whole = (calls, memory, output, bytes) => {
-    memory.set(bytes, IN);
-    kind.digest(calls, big(bytes.length));
-    return output(kind.size);
-  };
+  const short = whole(kind);
   const hash = (message) => {
     const bytes = toBytes(message);
-    return bytes.length > PIECE ? create().update(bytes).digest() : run(0, false, whole, bytes);
+    return bytes.length > PIECE ? create().update(bytes).digest() : run(0, false, short, bytes);
   };
   bitsOf.set(hash, kind.size * 8);
   return Object.assign(hash, {

@@ -1,0 +1,21 @@
+// The memory of the module.
+import assert from 'node:assert/strict';
+import test from 'node:test';
+import { createRequire } from 'node:module';
+
+const instances = [];
+const { Instance } = WebAssembly;
+WebAssembly.Instance = function (...given) {
+  instances.push(new Instance(...given));
+  return instances.at(-1);
+};
+const RIPEMD160 = createRequire(import.meta.url)('ripemd160');
+
+test('it does not grow, though most hashes are dropped', () => {
+  const piece = Buffer.alloc(1000), kept = new RIPEMD160().update(piece);
+  const size = () => instances.map(({ exports }) => exports.memory.buffer.byteLength);
+  const before = size();
+  for (let i = 0; i < 100000; i++) new RIPEMD160().update(piece);
+  assert.deepEqual([size(), before.length], [before, 1]);
+  assert.equal(kept.digest('hex'), new RIPEMD160().update(piece).digest('hex'));
+});
