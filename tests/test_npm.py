@@ -1,6 +1,5 @@
 """Tries the package ripemd160 in place of npm's, below Debian's create-hash, create-hmac and pbkdf2: npm installs all of
-them, unchanged, with the override of docs/JAVASCRIPT.md. The suites of these packages come from Debian's sources."""
-import gzip
+them, unchanged, by the lines of docs/JAVASCRIPT.md. The suites of these packages come from Debian's sources."""
 import json
 import pathlib
 import platform
@@ -9,7 +8,7 @@ import shutil
 import tarfile
 
 import pytest
-from conftest import ABC, DATA, ROOT, fences, need, run, version
+from conftest import ABC, DATA, ROOT, fences, need, programs, run, version
 
 DEBIAN = pathlib.Path("/usr/share/nodejs")
 DEPENDENTS = ("create-hash", "create-hmac", "pbkdf2")
@@ -64,9 +63,10 @@ def fixture_project(archive, once):
                 file.add(DEBIAN / name, "package")
         # The other overrides are for want of a registry.
         files = {name: f"file:./{name}.tgz" for name in names}
-        ours = json.loads(dict(fences("docs/JAVASCRIPT.md"))["json"])["overrides"]
+        ours = json.loads(dict(fences("docs/JAVASCRIPT.md"))["json"])
         (folder / "package.json").write_text(json.dumps({
-            "type": "module", "dependencies": {name: files[name] for name in DEPENDENTS}, "overrides": {**files, **ours}}))
+            "type": "module", "dependencies": {name: files[name] for name in DEPENDENTS} | ours["dependencies"],
+            "overrides": files | ours["overrides"]}))
         run("npm", "install", "--offline", "--no-audit", "--no-fund", cwd=folder,
             env={"npm_config_cache": str(folder / "cache")})
 
@@ -92,7 +92,7 @@ def fixture_sources(once):
         keys = "/usr/share/keyrings/debian-archive-keyring.gpg"
         (folder / "list").write_text(f"deb-src [signed-by={keys}] http://deb.debian.org/debian {codename} main\n")
         settings = ["Dir::Etc::SourceList=" + str(folder / "list"), "Dir::Etc::SourceParts=-", "APT::Sandbox::User=root",
-                    f"Dir::State::Lists={folder}/lists", f"Dir::Cache={folder}/cache"]
+                    "Acquire::Retries=0", "Acquire::http::Timeout=20", f"Dir::State::Lists={folder}/lists", f"Dir::Cache={folder}/cache"]
         apt = ["apt-get", "-qq", *(word for setting in settings for word in ("-o", setting))]
         run(*apt, "update", cwd=folder, status=None)
         for name in SUITES:
@@ -132,6 +132,12 @@ def test_tests_of_the_package(project, name):
     assert passed and not failed
 
 
+def test_program_of_its_readme(project):
+    (text, _), = programs("js/ripemd160/README.md", "js")
+    (project / "readme.cjs").write_text(text)
+    assert run("node", "readme.cjs", cwd=project).stdout == ABC + "\n"
+
+
 def test_dependents_use_it(broken):
     assert tap(broken, "dependents.test.js") == [0, len(DEPENDENTS)]
 
@@ -166,3 +172,16 @@ def test_bundle_for_browsers(project, broken, tmp_path):
         run("esbuild", "--bundle", "--format=cjs", *(f"--external:{name}" for name in ("buffer", "events", "stream")),
             f"--outfile={tmp_path}/bundle.cjs", folder / "program.cjs", env=ENVIRONMENT)
         assert (run("node", tmp_path / "bundle.cjs").stdout.split() == PRINTED) == (folder == project)
+
+
+def test_size_in_a_bundle(project):
+    """Packed by brotli, without hash-base, beside the package that is replaced."""
+    need("esbuild", "esbuild")
+    code = "process.stdout.write(String(require('zlib').brotliCompressSync(require('fs').readFileSync(0)).length))"
+    sizes = []
+    for folder in (project / "node_modules", DEBIAN):
+        bundle = run("esbuild", "--bundle", "--minify", "--format=cjs", *(f"--external:{name}" for name in
+                     ("buffer", "hash-base", "inherits")), folder / "ripemd160/index.js").stdout
+        sizes.append(int(run("node", "-e", code, input=bundle).stdout))
+    print(f"{sizes[0]} bytes, in place of {sizes[1]}")
+    assert sizes[0] <= 5100

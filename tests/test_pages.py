@@ -22,6 +22,7 @@ VERSIONS = {
     "crates/rmdsum/src/help.rt": r'"rmdsum \(Nattizhu\) (.*)$',
     "rust/Cargo.toml": r'^version = "(.*)"$',
     "js/package.json": r'^  "version": "(.*)",$',
+    "js/ripemd160/package.json": r'^  "version": "(.*)",$',
     "CHANGELOG.md": r"^## (.*)$",
     "debian/changelog": r"^nattizhu \((.*)-[0-9]*\) ",
 }

@@ -43,6 +43,11 @@ test('it is another package', () => {
 same('buffers', LENGTHS.flatMap((length) => [randomBytes(length), Buffer.alloc(length + 3, 7).subarray(3)])
   .map((data) => (Kind) => new Kind().update(data).digest('hex')));
 
+same('buffers of a class of their own', [10, 200].map((length) => (Kind) => {
+  class Mine extends Buffer { subarray() { return Buffer.alloc(1); } }
+  return new Kind().update(Object.setPrototypeOf(Buffer.alloc(length, 7), Mine.prototype)).digest('hex');
+}));
+
 same('texts in encodings', TEXTS.flatMap((text) => ENCODINGS.flatMap((encoding) => [
   (Kind) => new Kind().update(text, encoding).digest('hex'),
   (Kind) => new Kind().update('a').update(text, encoding).update(text, encoding).digest('hex'),

@@ -1,4 +1,4 @@
-// The memory of the module.
+// The memory of the module, and what hashes keep.
 import assert from 'node:assert/strict';
 import test from 'node:test';
 import { createRequire } from 'node:module';
@@ -10,6 +10,14 @@ WebAssembly.Instance = function (...given) {
   return instances.at(-1);
 };
 const RIPEMD160 = createRequire(import.meta.url)('ripemd160');
+
+test('a digest leaves nothing in its hash', () => {
+  for (const length of [10, 1000]) {
+    const hash = new RIPEMD160().update(Buffer.alloc(length, 7)).update(Buffer.alloc(10, 7));
+    hash.digest();
+    for (const bytes of [hash._block, hash._state ?? []]) assert(bytes.every((byte) => byte === 0));
+  }
+});
 
 test('it does not grow, though most hashes are dropped', () => {
   const piece = Buffer.alloc(1000), kept = new RIPEMD160().update(piece);
