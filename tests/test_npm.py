@@ -102,11 +102,6 @@ def fixture_sources(once):
     return once("sources", fetch)
 
 
-def test_same_bytes_each_time(archive, tmp_path):
-    run("build/js", tmp_path)
-    assert (tmp_path / archive.name).read_bytes() == archive.read_bytes()
-
-
 def test_installed_packages(project):
     """There is one ripemd160, which is ours, and the dependents are Debian's to the byte."""
     modules = project / "node_modules"

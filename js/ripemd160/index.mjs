@@ -27,6 +27,7 @@ function take(hash, bytes) {
 }
 
 function empty(hash) {
+  if (!hash._blockOffset) return;
   take(hash, held(hash));
   hash._blockOffset = 0;
 }
@@ -35,7 +36,7 @@ RIPEMD160.prototype.update = function (data, encoding) {
   const isText = typeof data === 'string';
   if (this._finalized || !(isText || Buffer.isBuffer(data))) {
     // An error, or what other versions of hash-base take.
-    if (this._blockOffset) empty(this);
+    empty(this);
     return HashBase.prototype.update.call(this, data, encoding);
   }
   const bytes = isText ? Buffer.from(data, encoding) : data;
