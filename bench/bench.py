@@ -226,7 +226,8 @@ def by_javascript(folder):
     shutil.unpack_archive(replacing, folder / "ripemd160", "gztar")
     said = subprocess.run(["node", "--version"], capture_output=True, text=True, check=True).stdout.strip()
     title(f"From JavaScript, RIPEMD-160, Node.js {said}")
-    subprocess.run(["node", ROOT / "bench/javascript.mjs", project, folder / "ripemd160/package"], env={**os.environ, "NODE_PATH": "/usr/share/nodejs"}, check=True)
+    subprocess.run(["node", ROOT / "bench/javascript.mjs", project, folder / "ripemd160/package"],
+                   env={**os.environ, "NODE_PATH": "/usr/share/nodejs"}, check=True)
 
 
 def main():

@@ -16,8 +16,8 @@ TESTS = sorted(path.name for path in (ROOT / "js/ripemd160/test").glob("*.test.j
 ENVIRONMENT = {"NODE_PATH": str(DEBIAN), "NATTIZHU_DATA": str(DATA), "RIPEMD160_REPLACED": str(DEBIAN / "ripemd160")}
 
 # The suite of each package, how many of its assertions pass at least, and how many fail at least with wrong digests.
-SUITES = {"ripemd160": ("test/index.js", 392, 392), "create-hash": ("test.js", 6272, 1568), "create-hmac": ("test.js", 240, 30),
-          "pbkdf2": ("test/index.js", 1, 0)}
+SUITES = {"ripemd160": ("test/index.js", 392, 392), "create-hash": ("test.js", 6272, 1568),
+          "create-hmac": ("test.js", 240, 30), "pbkdf2": ("test/index.js", 1, 0)}
 
 # Appended to a package, this makes each digest wrong.
 BROKEN = """
@@ -91,8 +91,8 @@ def fixture_sources(once):
         (folder / "lists/partial").mkdir(parents=True)
         keys = "/usr/share/keyrings/debian-archive-keyring.gpg"
         (folder / "list").write_text(f"deb-src [signed-by={keys}] http://deb.debian.org/debian {codename} main\n")
-        settings = ["Dir::Etc::SourceList=" + str(folder / "list"), "Dir::Etc::SourceParts=-", "APT::Sandbox::User=root",
-                    "Acquire::Retries=0", "Acquire::http::Timeout=20", f"Dir::State::Lists={folder}/lists", f"Dir::Cache={folder}/cache"]
+        settings = [f"Dir::Etc::SourceList={folder}/list", "Dir::Etc::SourceParts=-", f"Dir::State::Lists={folder}/lists",
+                    f"Dir::Cache={folder}/cache", "APT::Sandbox::User=root", "Acquire::Retries=0", "Acquire::http::Timeout=20"]
         apt = ["apt-get", "-qq", *(word for setting in settings for word in ("-o", setting))]
         run(*apt, "update", cwd=folder, status=None)
         for name in SUITES:

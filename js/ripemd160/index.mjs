@@ -18,7 +18,7 @@ export default function RIPEMD160() {
 
 inherits(RIPEMD160, HashBase);
 
-// What the block holds, as a plain array: those of Buffers for browsers take longer.
+// What the block holds, as a plain array: bundles for browsers make a Buffer more slowly.
 const held = ({ _block, _blockOffset }) => new Uint8Array(_block.buffer, _block.byteOffset, _blockOffset);
 
 function take(hash, bytes) {
