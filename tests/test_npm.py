@@ -155,6 +155,8 @@ def test_suite(project, broken, sources, name, tmp_path):
         run("tar", "-xf", archive, "-C", package, "--strip-components=1", "--wildcards", "*/test*")
         said.append(run("node", file, cwd=package, status=None, timeout=300, env=ENVIRONMENT).stdout)
     passed, failed = ([len(re.findall(f"^{how} [0-9]", text, re.MULTILINE)) for text in said] for how in ("ok", "not ok"))
+    if not passed[1]:
+        pytest.skip(f"the suite of {name} does not run here over the package that is replaced either")
     print(f"{name}: {passed[0]} pass, {failed[0]} fail; with wrong digests {failed[2]} fail")
     assert said[0] == said[1] and passed[0] >= passing and failed[2] >= failing
 
