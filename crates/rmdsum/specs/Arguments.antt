@@ -1,14 +1,33 @@
--- What the program's arguments ask for.
-use Rattle.std.specs.Prelude.{◌≡◌, ◌<◌, ℕ, ◌*◌, List, ⊤, true, false, codes, vec_len}
+-- What the program's arguments say, by the rules of `getopt_long`.
+use Rattle.std.specs.Prelude.{◌≡◌, ℕ, ◌*◌, ◌==◌, Bool, true, false, if◌then◌else◌, List, [], ◌∷◌, ◌++◌, map, reverse, codes, Option, Some, None, bytes_eq, Result, Ok, Err, ⊤}
 use Rattle.std.specs.Fmt.{decimal}
 use Rattle.ripemd_files.specs.Lines.{size_of}
 use Rattle.ripemd_files.specs.declared.line.Variant.{Variant}
 use Rattle.ripemd_files.specs.declared.line.Variant.TheVariants.{R128, R160, R256, R320}
-use Rattle.rmdsum.specs.declared.arguments.Names.{Names}
-use Rattle.rmdsum.specs.declared.arguments.Names.TheVariants.{Operands, From}
-use Rattle.ripemd_files.specs.declared.verdict.Options.{Options}
-use Rattle.rmdsum.specs.declared.arguments.Request.{Request}
-use Rattle.rmdsum.specs.declared.arguments.Request.TheVariants.{Help, Version, Print, Check}
+use Rattle.rmdsum.specs.declared.switches.Flag.{Flag}
+use Rattle.rmdsum.specs.declared.switches.Flag.TheVariants.{Help, Version}
+use Rattle.rmdsum.specs.declared.switches.Parameter.{Parameter}
+use Rattle.rmdsum.specs.declared.switches.Parameter.TheVariants.{Algorithm, FilesFrom}
+use Rattle.rmdsum.specs.declared.switches.Switch.{Switch}
+use Rattle.rmdsum.specs.declared.switches.Switch.TheVariants as switches
+use Rattle.rmdsum.specs.declared.switches.Found.{Found}
+use Rattle.rmdsum.specs.declared.switches.Found.TheVariants.{Nothing, One, Several}
+use Rattle.rmdsum.specs.declared.refusals.Misuse.{Misuse}
+use Rattle.rmdsum.specs.declared.refusals.Misuse.TheVariants as misuses
+use Rattle.rmdsum.specs.declared.arguments.Stop.{Stop}
+use Rattle.rmdsum.specs.declared.arguments.Stop.TheVariants as stops
+use Rattle.rmdsum.specs.declared.arguments.Next.{Next}
+use Rattle.rmdsum.specs.declared.arguments.Next.TheVariants.{Any, Operand, Value, ShortValue}
+use Rattle.rmdsum.specs.declared.request.Request.{Request}
+use Rattle.rmdsum.specs.declared.request.Request.TheVariants as requests
+use Rattle.rmdsum.specs.declared.request.Refusal.TheVariants as refusals
+use Rattle.rmdsum.specs.Options.{by_letter, by_name}
+use Rattle.rmdsum.specs.Words.{Said, said}
+use Rattle.rmdsum.specs.declared.request.Word.{Word}
+use Rattle.rmdsum.specs.Words.Said.{Sets, Hashes, Lists, Names}
+use Rattle.rmdsum.specs.Asked.{Asks, IsRefused}
+
+-- ---- the names of the variants
 
 -- the name of a variant, the length of its digest in bits
 abbrev pub name_of : Variant → List ℕ
@@ -23,19 +42,162 @@ pub record NamesAreLengths : Type 0 where
   pub r256 : name_of R256 ≡ decimal (8 * size_of R256)
   pub r320 : name_of R320 ≡ decimal (8 * size_of R320)
 
--- there is a name, or a file that has the names
-abbrev pub HasNames : Names → Type 0
-HasNames (Operands operands) = 0 < vec_len operands
-HasNames (From file) = ⊤
+abbrev pub variant_named : List ℕ → Option Variant
+variant_named name =
+    if bytes_eq name (name_of R128) then Some R128
+    else if bytes_eq name (name_of R160) then Some R160
+    else if bytes_eq name (name_of R256) then Some R256
+    else if bytes_eq name (name_of R320) then Some R320
+    else None
 
--- at most one of the options that override one another is set
-pub record AreExclusive (options : Options) : Type 0 where
-  pub quiet : options.quiet ≡ true → (options.status ≡ false) × (options.warn ≡ false)
-  pub status : options.status ≡ true → options.warn ≡ false
+-- ---- what arguments say
 
--- a request that can be carried out
-abbrev pub IsSound : Request → Type 0
-IsSound Help = ⊤
-IsSound Version = ⊤
-IsSound (Print variant form ending names progress) = HasNames names
-IsSound (Check only options names progress) = HasNames names × AreExclusive options
+-- why no more arguments are read
+pub data Why : Type 0 where
+  AsksHelp : Why
+  AsksVersion : Why
+  UnknownLong : List ℕ → Why
+  Ambiguous : List ℕ → Why
+  UnwantedValue : Flag → Why
+  MissingValue : Parameter → Why
+  UnknownShort : ℕ → Why
+  MissingShortValue : ℕ → Why
+  UnknownVariant : List ℕ → Why
+  NoArgument : Why
+
+-- these words, and what the next argument is; or why there is no next
+pub data Reading : Type 0 where
+  Goes : List Said → Next → Reading
+  Stops : Why → Reading
+
+abbrev pub behind : List Said → Reading → Reading
+behind before (Goes words next) = Goes (before ++ words) next
+behind before (Stops why) = Stops why
+
+-- what is said, and then what is said behind it
+abbrev pub then_reads : Reading → (Next → Reading) → Reading
+then_reads (Goes words next) rest = behind words (rest next)
+then_reads (Stops why) rest = Stops why
+
+-- two options end the run at once
+abbrev pub flag_says : Flag → Reading
+flag_says Help = Stops AsksHelp
+flag_says Version = Stops AsksVersion
+flag_says flag = Goes (Sets flag ∷ []) Any
+
+abbrev pub or_unknown : List ℕ → Option Variant → Reading
+or_unknown value (Some variant) = Goes (Hashes variant ∷ []) Any
+or_unknown value None = Stops (UnknownVariant value)
+
+abbrev pub value_says : Parameter → List ℕ → Reading
+value_says Algorithm value = or_unknown value (variant_named value)
+value_says FilesFrom value = Goes (Lists value ∷ []) Any
+
+-- what stands before the first equals sign
+abbrev pub before_equals : List ℕ → List ℕ
+before_equals [] = []
+before_equals (byte ∷ text) = if byte == 61 then [] else byte ∷ before_equals text
+
+-- what stands behind it, if there is one
+abbrev pub behind_equals : List ℕ → Option (List ℕ)
+behind_equals [] = None
+behind_equals (byte ∷ text) = if byte == 61 then Some text else behind_equals text
+
+abbrev pub flag_with : Flag → Option (List ℕ) → Reading
+flag_with flag None = flag_says flag
+flag_with flag (Some value) = Stops (UnwantedValue flag)
+
+abbrev pub parameter_with : Parameter → Option (List ℕ) → Reading
+parameter_with parameter None = Goes [] (Value parameter)
+parameter_with parameter (Some value) = value_says parameter value
+
+abbrev pub switch_says : List ℕ → Found → Option (List ℕ) → Reading
+switch_says text Nothing value = Stops (UnknownLong text)
+switch_says text Several value = Stops (Ambiguous text)
+switch_says text (One (switches.Flag flag)) value = flag_with flag value
+switch_says text (One (switches.Parameter parameter)) value = parameter_with parameter value
+
+-- what stands behind `--`
+abbrev pub long_says : List ℕ → Reading
+long_says text = switch_says text (by_name (before_equals text)) (behind_equals text)
+
+-- the letter of an option, and what stands behind it
+abbrev pub letter_says : ℕ → Option Switch → List ℕ → Reading → Reading
+letter_says letter None value rest = Stops (UnknownShort letter)
+letter_says letter (Some (switches.Flag flag)) value rest = then_reads (flag_says flag) (λ next. rest)
+letter_says letter (Some (switches.Parameter parameter)) [] rest = Goes [] (ShortValue parameter letter)
+letter_says letter (Some (switches.Parameter parameter)) (byte ∷ value) rest = value_says parameter (byte ∷ value)
+
+-- letters behind `-`
+abbrev pub letters_say : List ℕ → Reading
+letters_say [] = Goes [] Any
+letters_say (letter ∷ letters) = letter_says letter (by_letter letter) letters (letters_say letters)
+
+abbrev pub operand_says : Bool → List ℕ → Reading
+operand_says last argument = Goes (Names argument ∷ []) (if last then Operand else Any)
+
+-- what stands behind a hyphen
+abbrev pub option_says : List ℕ → Reading
+option_says [] = letters_say []
+option_says (byte ∷ []) = if byte == 45 then Goes [] Operand else letters_say (byte ∷ [])
+option_says (byte ∷ other ∷ text) = if byte == 45 then long_says (other ∷ text) else letters_say (byte ∷ other ∷ text)
+
+-- a hyphen alone is an operand
+abbrev pub any_says : Bool → List ℕ → Reading
+any_says last [] = operand_says last []
+any_says last (byte ∷ []) = operand_says last (byte ∷ [])
+any_says last (byte ∷ other ∷ text) = if byte == 45 then option_says (other ∷ text) else operand_says last (byte ∷ other ∷ text)
+
+-- what an argument says
+abbrev pub says : Bool → Next → List ℕ → Reading
+says last Operand argument = Goes (Names argument ∷ []) Operand
+says last (Value parameter) argument = value_says parameter argument
+says last (ShortValue parameter letter) argument = value_says parameter argument
+says last Any argument = any_says last argument
+
+-- at the end no value may be missing
+abbrev pub at_end : Next → Reading
+at_end (Value parameter) = Stops (MissingValue parameter)
+at_end (ShortValue parameter letter) = Stops (MissingShortValue letter)
+at_end Operand = Goes [] Operand
+at_end Any = Goes [] Any
+
+-- what arguments say, of which the first is this
+abbrev pub reading : Bool → Next → List (List ℕ) → Reading
+reading last next [] = at_end next
+reading last next (argument ∷ arguments) = then_reads (says last next argument) (λ following. reading last following arguments)
+
+-- ---- the answer
+
+-- these words are added to what was said
+abbrev pub Reads : Reading → List Said → List Said → Next → Type 0
+Reads given before after next = behind before given ≡ Goes after next
+
+-- these words are said, and no value is missing
+abbrev pub Says : Reading → List Word → Type 0
+Says given words = (next : Next) × (given ≡ Goes (map said words) next)
+
+abbrev pub why_of : Misuse → Why
+why_of (misuses.UnknownLong text) = UnknownLong text.items
+why_of (misuses.Ambiguous text) = Ambiguous text.items
+why_of (misuses.UnwantedValue flag) = UnwantedValue flag
+why_of (misuses.MissingValue parameter) = MissingValue parameter
+why_of (misuses.UnknownShort letter) = UnknownShort letter
+why_of (misuses.MissingShortValue letter) = MissingShortValue letter
+why_of (misuses.UnknownVariant name) = UnknownVariant name.items
+why_of _ = NoArgument
+
+abbrev pub Answers : Reading → Result Request Misuse → Type 0
+Answers (Goes words next) (Ok request) = Asks (reverse words) request
+Answers (Goes words next) (Err misuse) = IsRefused (reverse words) (refusals.Misuse misuse)
+Answers (Stops AsksHelp) (Ok requests.Help) = ⊤
+Answers (Stops AsksVersion) (Ok requests.Version) = ⊤
+Answers (Stops why) (Ok request) = true ≡ false
+Answers (Stops why) (Err misuse) = why_of misuse ≡ why
+
+-- no more arguments are read for this reason; or memory is exhausted
+abbrev pub IsStop : Reading → Stop → Type 0
+IsStop given stops.Help = given ≡ Stops AsksHelp
+IsStop given stops.Version = given ≡ Stops AsksVersion
+IsStop given (stops.Misuse misuse) = given ≡ Stops (why_of misuse)
+IsStop given stops.OutOfMemory = ⊤

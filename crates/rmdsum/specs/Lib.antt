@@ -1,2 +1,6 @@
 -- What the arguments ask for.
+pub mod Options
+pub mod Words
+pub mod Asked
 pub mod Arguments
+pub mod Worked

@@ -1,8 +1,22 @@
-//! What is proved of the definitions. The function does nothing; its contract is the fact.
+//! What is proved of the definitions. The functions do nothing; their contracts are the facts.
 
 ghost use Rattle.rmdsum.specs.Arguments.{NamesAreLengths};
+ghost use Rattle.rmdsum.specs.Worked.{WorkedArguments, WorkedStops, WorkedWords, WorkedConflicts};
 
 /// The name of a variant is the length of its digest in bits.
 pub fn named_lengths()
     ensures { NamesAreLengths }
+{}
+
+/// What arguments say.
+#[tactic(auto, unfolding(crate::specs::Options::by_name))]
+pub fn worked_arguments()
+    ensures said { WorkedArguments }
+    ensures stops { WorkedStops }
+{}
+
+/// What they ask for together.
+pub fn worked_requests()
+    ensures words { WorkedWords }
+    ensures conflicts { WorkedConflicts }
 {}

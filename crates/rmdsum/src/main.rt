@@ -2,6 +2,8 @@
 //! coreutils does with its own.
 #![tactic(auto)]
 
+ghost use Rattle.std.specs.Prelude.{◌≡◌, ◌↔◌, true, codes};
+
 mod arguments;
 mod facts;
 mod help;
@@ -10,13 +12,14 @@ mod names;
 mod progress;
 mod quoting;
 mod refusals;
+mod request;
 mod switches;
 mod system;
 
-use arguments::Request;
 use help::{HELP, VERSION};
 use messages::{Console, Message, say};
 use names::Names;
+use request::Request;
 use ripemd_files::checking::check_list;
 use ripemd_files::fault::Fault;
 use ripemd_files::list::Rules;
@@ -59,6 +62,17 @@ fn print(rt: &HostRuntime, parts: &[&[u8]]) -> Result<bool, Fault> {
     Ok(true)
 }
 
+// What is asked of the lines of the list of this name.
+fn rules_of(only: Option<Variant>, name: &[u8]) -> Rules
+    ensures only { result.only ≡ only }
+    ensures input { (result.from_input ≡ true) ↔ (name.now ≡ codes "-") }
+{
+    Rules {
+        only,
+        from_input: is_input(name),
+    }
+}
+
 // Checks a list. Whether the check succeeds.
 fn check_one(
     rt: &HostRuntime,
@@ -73,16 +87,17 @@ fn check_one(
             return Ok(false);
         }
     };
-    let from_input = is_input(name);
-    let shown = if from_input { b"standard input" } else { name };
+    let rules = rules_of(check.only, name);
+    let shown = if rules.from_input {
+        b"standard input"
+    } else {
+        name
+    };
     check_list(
         rt.alloc(),
         &System::new(rt, check.progress),
         check.options,
-        Rules {
-            only: check.only,
-            from_input,
-        },
+        rules,
         layout,
         &mut List::new(buffered(rt, source)?),
         &mut Console::of_list(rt, shown, check.only),
@@ -90,7 +105,7 @@ fn check_one(
 }
 
 // Checks lists. Whether all checks succeed.
-fn check_all(rt: &HostRuntime, check: Check, names: arguments::Names) -> Result<bool, Fault> {
+fn check_all(rt: &HostRuntime, check: Check, names: request::Names) -> Result<bool, Fault> {
     let Some(mut names) = Names::open(rt, names)? else {
         return Ok(false);
     };
@@ -116,7 +131,7 @@ fn print_all(
     rt: &HostRuntime,
     style: Style,
     progress: bool,
-    names: arguments::Names,
+    names: request::Names,
 ) -> Result<bool, Fault> {
     let Some(mut names) = Names::open(rt, names)? else {
         return Ok(false);
@@ -191,14 +206,28 @@ fn run(rt: &HostRuntime) -> Result<bool, Fault> {
     }
 }
 
-fn main(rt: HostRuntime) -> ExitCode {
-    match run(&rt) {
-        Ok(true) => ExitCode::SUCCESS,
-        Ok(false) => ExitCode::from(1),
-        Err(Fault::Write(error)) if error.kind() == ErrorKind::BrokenPipe => ExitCode::from(CLOSED),
-        Err(fault) => {
-            let is_said = say(&rt, Message::Fault(&fault)).is_ok();
-            ExitCode::from(if is_said { 1 } else { CLOSED })
-        }
+// Whether a reader of the output or of the messages closed its pipe.
+fn is_closed(fault: &Fault) -> bool {
+    matches!(fault, Fault::Write(error) if error.kind() == ErrorKind::BrokenPipe)
+}
+
+// The status of a run: 0 if all could be done, and only then. Of a fault it may have been said what it is.
+fn status(outcome: &Result<bool, Fault>, is_said: bool) -> u8
+    ensures { (result ≡ 0) ↔ (outcome.now ≡ Ok true) }
+{
+    match outcome {
+        Ok(true) => 0,
+        Ok(false) => 1,
+        Err(_) if is_said => 1,
+        Err(_) => CLOSED,
     }
+}
+
+fn main(rt: HostRuntime) -> ExitCode {
+    let outcome = run(&rt);
+    let is_said = match &outcome {
+        Err(fault) => !is_closed(fault) && say(&rt, Message::Fault(fault)).is_ok(),
+        Ok(_) => true,
+    };
+    ExitCode::from(status(&outcome, is_said))
 }

@@ -1,7 +1,7 @@
 //! The names of files, as they come.
 
-use crate::arguments;
 use crate::messages::{Message, say};
+use crate::request;
 use crate::system::{Source, buffered, is_input};
 use ripemd_files::fault::Fault;
 use std::io::{BufRead, BufReader, ErrorKind};
@@ -41,16 +41,16 @@ pub enum Wrong {
 
 impl Names {
     /// Opens the file, if the arguments name one. If it can't be opened, it says so, and there are none.
-    pub fn open(rt: &HostRuntime, names: arguments::Names) -> Result<Option<Names>, Fault> {
+    pub fn open(rt: &HostRuntime, names: request::Names) -> Result<Option<Names>, Fault> {
         let alloc = rt.alloc();
         match names {
-            arguments::Names::Operands(given) => Ok(Some(Names {
+            request::Names::Operands(given) => Ok(Some(Names {
                 given,
                 file: Vec::new(alloc),
                 reader: None,
                 number: 0,
             })),
-            arguments::Names::From(file) => match Source::open(rt, file.as_slice()) {
+            request::Names::From(file) => match Source::open(rt, file.as_slice()) {
                 Ok(source) => Ok(Some(Names {
                     given: Vec::new(alloc),
                     file,

@@ -1,5 +1,9 @@
 //! The options by their names.
 
+ghost use Rattle.std.specs.Prelude.{◌≡◌, option_copied, List, ◌∷◌, find, filter};
+ghost use Rattle.rmdsum.specs.Options.{flag_name, parameter_name, long_name, by_letter, by_name, is_name, begins, alone, joined};
+ghost use Rattle.rmdsum.specs.Arguments.{before_equals, behind_equals};
+
 /// An option without a value.
 #[derive(Clone, Copy, PartialEq, Eq, Debug)]
 pub enum Flag {
@@ -59,9 +63,23 @@ pub enum Found {
     Several,
 }
 
+impl Found {
+    // These and another.
+    fn and(self, switch: Switch) -> Found
+        ensures { (more : List Switch) → joined result more ≡ joined self (switch ∷ more) }
+    {
+        match self {
+            Found::Nothing => Found::One(switch),
+            Found::One(_) | Found::Several => Found::Several,
+        }
+    }
+}
+
 impl Flag {
     /// What stands behind `--`.
-    pub fn long_name(self) -> &'static str {
+    pub fn long_name(self) -> &'static str
+        ensures { result.now ≡ flag_name self }
+    {
         match self {
             Flag::Binary => "binary",
             Flag::Check => "check",
@@ -82,7 +100,9 @@ impl Flag {
 
 impl Parameter {
     /// What stands behind `--`.
-    pub fn long_name(self) -> &'static str {
+    pub fn long_name(self) -> &'static str
+        ensures { result.now ≡ parameter_name self }
+    {
         match self {
             Parameter::Algorithm => "algorithm",
             Parameter::FilesFrom => "files0-from",
@@ -92,7 +112,9 @@ impl Parameter {
 
 impl Switch {
     /// What stands behind `--`.
-    pub fn long_name(self) -> &'static str {
+    pub fn long_name(self) -> &'static str
+        ensures { result.now ≡ long_name self }
+    {
         match self {
             Switch::Flag(flag) => flag.long_name(),
             Switch::Parameter(parameter) => parameter.long_name(),
@@ -101,7 +123,9 @@ impl Switch {
 }
 
 /// The option of a letter.
-pub fn find_short(letter: u8) -> Option<Switch> {
+pub fn find_short(letter: u8) -> Option<Switch>
+    ensures { result ≡ by_letter letter }
+{
     match letter {
         b'a' => Some(Switch::Parameter(Parameter::Algorithm)),
         b'b' => Some(Switch::Flag(Flag::Binary)),
@@ -114,25 +138,46 @@ pub fn find_short(letter: u8) -> Option<Switch> {
 }
 
 /// The option of a long name, or those whose names begin so.
-pub fn find_long(name: &[u8]) -> Found {
+pub fn find_long(name: &[u8]) -> Found
+    ensures { result ≡ by_name name.now }
+{
+    match find_whole(name, &SWITCHES) {
+        Some(switch) => Found::One(switch),
+        None => find_begun(name, &SWITCHES),
+    }
+}
+
+// The option of this name.
+fn find_whole(name: &[u8], switches: &[Switch]) -> Option<Switch>
+    ensures { result ≡ find (is_name name.now) switches.now }
+{
+    for switch in switches {
+        if switch.long_name().as_bytes() == name {
+            return Some(*switch);
+        }
+    }
+    None
+}
+
+// The options whose names begin so.
+fn find_begun(name: &[u8], switches: &[Switch]) -> Found
+    ensures { result ≡ alone (filter (begins name.now) switches.now) }
+{
     let mut found = Found::Nothing;
-    for switch in SWITCHES {
-        let long = switch.long_name().as_bytes();
-        if long == name {
-            return Found::One(switch);
+    for switch in switches {
+        if !switch.long_name().as_bytes().starts_with(name) {
+            continue;
         }
-        if long.starts_with(name) {
-            found = match found {
-                Found::Nothing => Found::One(switch),
-                Found::One(_) | Found::Several => Found::Several,
-            };
-        }
+        found = found.and(*switch);
     }
     found
 }
 
 /// What stands before the first equals sign, and what behind it.
-pub fn around_equals(text: &[u8]) -> (&[u8], Option<&[u8]>) {
+pub fn around_equals(text: &[u8]) -> (&[u8], Option<&[u8]>)
+    ensures before { result.0.now ≡ before_equals text.now }
+    ensures behind { option_copied result.1 ≡ behind_equals text.now }
+{
     for (place, byte) in text.iter().enumerate() {
         if *byte == b'=' {
             return (&text[..place], Some(&text[place + 1..]));

@@ -1,5 +1,6 @@
 //! The files of the system.
 
+ghost use Rattle.std.specs.Prelude.{◌≡◌, ◌↔◌, true, codes};
 ghost use Rattle.ripemd_files.specs.Readings.{any_place};
 
 use crate::progress::Progress;
@@ -53,7 +54,9 @@ impl Read for Source {
 }
 
 /// Whether a name stands for standard input.
-pub fn is_input(name: &[u8]) -> bool {
+pub fn is_input(name: &[u8]) -> bool
+    ensures { (result ≡ true) ↔ (name.now ≡ codes "-") }
+{
     matches!(name, b"-")
 }
 

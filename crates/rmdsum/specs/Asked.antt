@@ -1,0 +1,139 @@
+-- What the program is asked for.
+use Rattle.std.specs.Prelude.{◌≡◌, ℕ, ◌&&◌, Bool, true, false, if◌then◌else◌, List, [], ◌∷◌, map, codes, Option, Some, None, unwrap_or, option_map, is_some, IsSome, slice_get, vec_items, ◌⊎◌, ⊤}
+use Rattle.ripemd_files.specs.declared.line.Variant.{Variant}
+use Rattle.ripemd_files.specs.declared.line.Variant.TheVariants.{R160}
+use Rattle.ripemd_files.specs.declared.line.Form.{Form}
+use Rattle.ripemd_files.specs.declared.line.Form.TheVariants as forms
+use Rattle.ripemd_files.specs.declared.line.Ending.{Ending}
+use Rattle.ripemd_files.specs.declared.line.Ending.TheVariants as endings
+use Rattle.ripemd_files.specs.declared.verdict.Options.{Options}
+use Rattle.rmdsum.specs.declared.switches.Flag.{Flag}
+use Rattle.rmdsum.specs.declared.switches.Flag.TheVariants as flags
+use Rattle.rmdsum.specs.declared.request.Refusal.{Refusal}
+use Rattle.rmdsum.specs.declared.request.Refusal.TheVariants.{Misuse, OutOfMemory}
+use Rattle.rmdsum.specs.declared.refusals.Misuse as refusals
+use Rattle.rmdsum.specs.declared.refusals.Misuse.TheVariants.{TextWithTag, ZeroWithCheck, TagWithCheck, ModeWithCheck, OnlyWithCheck, ExtraOperand}
+use Rattle.rmdsum.specs.declared.request.Mode.{Mode}
+use Rattle.rmdsum.specs.declared.request.Mode.TheVariants.{Binary, Text}
+use Rattle.rmdsum.specs.declared.request.Telling.{Telling}
+use Rattle.rmdsum.specs.declared.request.Telling.TheVariants.{Quiet, Status, Warn}
+use Rattle.rmdsum.specs.declared.request.Names.{Names}
+use Rattle.rmdsum.specs.declared.request.Names.TheVariants.{Operands, From}
+use Rattle.rmdsum.specs.declared.request.Request.{Request}
+use Rattle.rmdsum.specs.declared.request.Request.TheVariants.{Help, Version, Print, Check}
+use Rattle.rmdsum.specs.declared.request.Settings.{Settings}
+use Rattle.rmdsum.specs.Words.{Said, gives, last, names_of, hash_in, file_in, mode_in, telling_in}
+
+-- ---- options that exclude one another
+
+abbrev pub is_text : Option Mode → Bool
+is_text (Some Text) = true
+is_text (Some Binary) = false
+is_text None = false
+
+-- an option that only a check has a use for
+abbrev pub needs_check : Bool → Option Telling → Bool → Option Flag
+needs_check true telling strict = Some flags.IgnoreMissing
+needs_check false (Some Status) strict = Some flags.Status
+needs_check false (Some Warn) strict = Some flags.Warn
+needs_check false (Some Quiet) strict = Some flags.Quiet
+needs_check false None true = Some flags.Strict
+needs_check false None false = None
+
+-- an option that a check excludes
+abbrev pub excluded : Bool → Bool → Option Mode → Option refusals.Misuse
+excluded zero tag mode =
+    if zero then Some ZeroWithCheck
+    else if tag then Some TagWithCheck
+    else if is_some mode then Some ModeWithCheck
+    else None
+
+-- in the order in which `sha256sum` looks
+abbrev pub conflict : List Said → Option refusals.Misuse
+conflict words =
+    if gives flags.Tag words && is_text (last mode_in words) then Some TextWithTag
+    else if gives flags.Check words then excluded (gives flags.Zero words) (gives flags.Tag words) (last mode_in words)
+    else option_map OnlyWithCheck (needs_check (gives flags.IgnoreMissing words) (last telling_in words) (gives flags.Strict words))
+
+-- ---- what is asked for
+
+-- without a name, standard input
+abbrev pub or_input : List (List ℕ) → List (List ℕ)
+or_input [] = codes "-" ∷ []
+or_input (name ∷ names) = name ∷ names
+
+-- of the file that has names, and of the names that were given, these are taken
+abbrev pub AreNames : Option (List ℕ) → List (List ℕ) → Names → Type 0
+AreNames file names (Operands operands) = (file ≡ None) × (map vec_items operands.items ≡ or_input names)
+AreNames file names (From from) = (file ≡ Some from.items) × (names ≡ [])
+
+abbrev pub form_of : Bool → Option Mode → Form
+form_of true mode = forms.Tagged
+form_of false (Some Binary) = forms.Binary
+form_of false (Some Text) = forms.Text
+form_of false None = forms.Text
+
+abbrev pub is_quiet : Option Telling → Bool
+is_quiet (Some Quiet) = true
+is_quiet _ = false
+
+abbrev pub is_status : Option Telling → Bool
+is_status (Some Status) = true
+is_status _ = false
+
+abbrev pub is_warn : Option Telling → Bool
+is_warn (Some Warn) = true
+is_warn _ = false
+
+abbrev pub options_of : List Said → Options
+options_of words = record {
+  ignore_missing = gives flags.IgnoreMissing words;
+  quiet = is_quiet (last telling_in words);
+  status = is_status (last telling_in words);
+  strict = gives flags.Strict words;
+  warn = is_warn (last telling_in words);
+}
+
+abbrev pub ending_of : Bool → Ending
+ending_of zero = if zero then endings.Zero else endings.Newline
+
+-- RIPEMD-160, unless one is named
+abbrev pub variant_of : List Said → Variant
+variant_of words = unwrap_or (last hash_in words) R160
+
+-- these words ask for this
+abbrev pub Asks : List Said → Request → Type 0
+Asks words Help = true ≡ false
+Asks words Version = true ≡ false
+Asks words (Print variant form ending names progress) =
+    (conflict words ≡ None) × (gives flags.Check words ≡ false)
+    × (variant ≡ variant_of words) × (form ≡ form_of (gives flags.Tag words) (last mode_in words))
+    × (ending ≡ ending_of (gives flags.Zero words)) × AreNames (last file_in words) (names_of words) names × (progress ≡ gives flags.Progress words)
+Asks words (Check only options names progress) =
+    (conflict words ≡ None) × (gives flags.Check words ≡ true)
+    × (only ≡ last hash_in words) × (options ≡ options_of words) × AreNames (last file_in words) (names_of words) names × (progress ≡ gives flags.Progress words)
+
+-- a name beside a file that has the names; or memory is exhausted
+abbrev pub IsExtra : Option (List ℕ) → List (List ℕ) → Refusal → Type 0
+IsExtra file names OutOfMemory = ⊤
+IsExtra file names (Misuse (ExtraOperand operand)) = IsSome file × (slice_get names 0 ≡ Some operand.items)
+IsExtra file names (Misuse _) = true ≡ false
+
+-- these words are refused so
+abbrev pub IsRefused : List Said → Refusal → Type 0
+IsRefused words OutOfMemory = ⊤
+IsRefused words (Misuse misuse) = (conflict words ≡ Some misuse) ⊎ ((conflict words ≡ None) × IsExtra (last file_in words) (names_of words) (Misuse misuse))
+
+-- these settings are what the words say
+pub record Holds (words : List Said) (settings : Settings) : Type 0 where
+  pub variant : settings.variant ≡ last hash_in words
+  pub check : settings.check ≡ gives flags.Check words
+  pub mode : settings.mode ≡ last mode_in words
+  pub tag : settings.tag ≡ gives flags.Tag words
+  pub zero : settings.zero ≡ gives flags.Zero words
+  pub telling : settings.telling ≡ last telling_in words
+  pub ignore_missing : settings.ignore_missing ≡ gives flags.IgnoreMissing words
+  pub strict : settings.strict ≡ gives flags.Strict words
+  pub progress : settings.progress ≡ gives flags.Progress words
+  pub names_in : option_map vec_items settings.names_in ≡ last file_in words
+  pub names : map vec_items settings.names.items ≡ names_of words

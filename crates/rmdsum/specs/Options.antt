@@ -1,0 +1,79 @@
+-- The options by their names.
+use Rattle.std.specs.Prelude.{ℕ, ◌==◌, Bool, if◌then◌else◌, List, [], ◌∷◌, codes, Option, Some, None, find, filter, bytes_eq, nat_eq}
+use Rattle.std.specs.List.{starts_with}
+use Rattle.rmdsum.specs.declared.switches.Flag.{Flag}
+use Rattle.rmdsum.specs.declared.switches.Parameter.{Parameter}
+use Rattle.rmdsum.specs.declared.switches.Parameter.TheVariants.{Algorithm, FilesFrom}
+use Rattle.rmdsum.specs.declared.switches.Switch.{Switch}
+use Rattle.rmdsum.specs.declared.switches.Switch.TheVariants as switches
+use Rattle.rmdsum.specs.declared.switches.Found.{Found}
+use Rattle.rmdsum.specs.declared.switches.Found.TheVariants.{Nothing, One, Several}
+use Rattle.rmdsum.specs.declared.switches.Flag.TheVariants.{Binary, Check, Help, IgnoreMissing, Progress, Quiet, Status, Strict, Tag, Text, Version, Warn, Zero}
+
+-- what stands behind `--`
+abbrev pub flag_name : Flag → List ℕ
+flag_name Binary = codes "binary"
+flag_name Check = codes "check"
+flag_name Help = codes "help"
+flag_name IgnoreMissing = codes "ignore-missing"
+flag_name Progress = codes "progress"
+flag_name Quiet = codes "quiet"
+flag_name Status = codes "status"
+flag_name Strict = codes "strict"
+flag_name Tag = codes "tag"
+flag_name Text = codes "text"
+flag_name Version = codes "version"
+flag_name Warn = codes "warn"
+flag_name Zero = codes "zero"
+
+abbrev pub parameter_name : Parameter → List ℕ
+parameter_name Algorithm = codes "algorithm"
+parameter_name FilesFrom = codes "files0-from"
+
+abbrev pub long_name : Switch → List ℕ
+long_name (switches.Flag flag) = flag_name flag
+long_name (switches.Parameter parameter) = parameter_name parameter
+
+-- the option of a letter
+abbrev pub by_letter : ℕ → Option Switch
+by_letter letter =
+    if letter == 97 then Some (switches.Parameter Algorithm)
+    else if letter == 98 then Some (switches.Flag Binary)
+    else if letter == 99 then Some (switches.Flag Check)
+    else if letter == 116 then Some (switches.Flag Text)
+    else if letter == 119 then Some (switches.Flag Warn)
+    else if letter == 122 then Some (switches.Flag Zero)
+    else None
+
+-- all, in the order in which an ambiguous one lists them
+abbrev pub switches_in_order : List Switch
+switches_in_order =
+    switches.Flag Check ∷ switches.Flag IgnoreMissing ∷ switches.Flag Quiet ∷ switches.Flag Status ∷ switches.Flag Warn
+    ∷ switches.Flag Strict ∷ switches.Flag Tag ∷ switches.Flag Zero ∷ switches.Parameter Algorithm ∷ switches.Flag Binary
+    ∷ switches.Flag Text ∷ switches.Parameter FilesFrom ∷ switches.Flag Progress ∷ switches.Flag Help ∷ switches.Flag Version
+    ∷ []
+
+abbrev pub is_name : List ℕ → Switch → Bool
+is_name name switch = bytes_eq (long_name switch) name
+
+abbrev pub begins : List ℕ → Switch → Bool
+begins name switch = starts_with nat_eq (long_name switch) name
+
+abbrev pub alone : List Switch → Found
+alone [] = Nothing
+alone (switch ∷ []) = One switch
+alone (switch ∷ other ∷ rest) = Several
+
+-- these, and more that are candidates
+abbrev pub joined : Found → List Switch → Found
+joined Nothing more = alone more
+joined (One switch) more = alone (switch ∷ more)
+joined Several more = Several
+
+abbrev pub or_else : Option Switch → Found → Found
+or_else (Some switch) found = One switch
+or_else None found = found
+
+-- the option of this name, or else the only one whose name begins so
+unfoldable pub by_name : List ℕ → Found
+by_name name = or_else (find (is_name name) switches_in_order) (alone (filter (begins name) switches_in_order))

@@ -1,0 +1,87 @@
+-- Worked command lines. tests/test_rmdsum.py has what `sha256sum` makes of their like.
+use Rattle.std.specs.Prelude.{◌≡◌, ◌↔◌, ℕ, true, false, [], ◌∷◌, codes, Some, None, Vec}
+use Rattle.std.specs.Global.{Global}
+use Rattle.ripemd_files.specs.declared.line.Variant.TheVariants.{R128, R160, R256, R320}
+use Rattle.ripemd_files.specs.declared.line.Form.TheVariants as forms
+use Rattle.ripemd_files.specs.declared.line.Ending.TheVariants as endings
+use Rattle.rmdsum.specs.declared.switches.Flag.TheVariants.{Binary, Check, IgnoreMissing, Progress, Quiet, Status, Strict, Tag, Text, Warn, Zero}
+use Rattle.rmdsum.specs.declared.switches.Parameter.TheVariants.{Algorithm, FilesFrom}
+use Rattle.rmdsum.specs.declared.arguments.Next.TheVariants.{Any, Operand}
+use Rattle.rmdsum.specs.declared.refusals.Misuse.TheVariants.{TextWithTag, ZeroWithCheck, TagWithCheck, ModeWithCheck, OnlyWithCheck, ExtraOperand}
+use Rattle.rmdsum.specs.declared.request.Refusal.TheVariants.{Misuse}
+use Rattle.rmdsum.specs.Words.{gives, last, names_of, file_in, mode_in}
+use Rattle.rmdsum.specs.Words.Said.{Sets, Hashes, Lists, Names}
+use Rattle.rmdsum.specs.Arguments.{reading}
+use Rattle.rmdsum.specs.Arguments.Reading.{Goes, Stops}
+use Rattle.rmdsum.specs.Arguments.Why.{AsksHelp, AsksVersion, UnknownLong, Ambiguous, UnwantedValue, MissingValue, UnknownShort, MissingShortValue, UnknownVariant}
+use Rattle.rmdsum.specs.Asked.{conflict, options_of, variant_of, form_of, ending_of, or_input, IsExtra}
+
+-- what single arguments say
+pub record WorkedArguments : Type 0 where
+  pub none : reading false Any [] ≡ Goes [] Any
+  pub operands : reading false Any (codes "a" ∷ codes "-" ∷ codes "" ∷ []) ≡ Goes (Names (codes "a") ∷ Names (codes "-") ∷ Names [] ∷ []) Any
+  pub letters : reading false Any (codes "-bctwz" ∷ []) ≡ Goes (Sets Binary ∷ Sets Check ∷ Sets Text ∷ Sets Warn ∷ Sets Zero ∷ []) Any
+  pub long_1 : reading false Any (codes "--binary" ∷ codes "--check" ∷ codes "--ignore-missing" ∷ codes "--progress" ∷ codes "--quiet" ∷ [])
+      ≡ Goes (Sets Binary ∷ Sets Check ∷ Sets IgnoreMissing ∷ Sets Progress ∷ Sets Quiet ∷ []) Any
+  pub long_2 : reading false Any (codes "--status" ∷ codes "--strict" ∷ codes "--tag" ∷ codes "--text" ∷ codes "--warn" ∷ codes "--zero" ∷ [])
+      ≡ Goes (Sets Status ∷ Sets Strict ∷ Sets Tag ∷ Sets Text ∷ Sets Warn ∷ Sets Zero ∷ []) Any
+  pub short : reading false Any (codes "--str" ∷ codes "--ta" ∷ codes "--a=128" ∷ []) ≡ Goes (Sets Strict ∷ Sets Tag ∷ Hashes R128 ∷ []) Any
+  pub values : reading false Any (codes "-a" ∷ codes "160" ∷ codes "-a256" ∷ codes "-ca" ∷ codes "320" ∷ codes "--algorithm" ∷ codes "128" ∷ [])
+      ≡ Goes (Hashes R160 ∷ Hashes R256 ∷ Sets Check ∷ Hashes R320 ∷ Hashes R128 ∷ []) Any
+  pub files : reading false Any (codes "--files0-from=a=b" ∷ codes "--files0-from" ∷ codes "--" ∷ []) ≡ Goes (Lists (codes "a=b") ∷ Lists (codes "--") ∷ []) Any
+  pub behind : reading false Any (codes "a" ∷ codes "-c" ∷ codes "--" ∷ codes "-c" ∷ codes "--" ∷ [])
+      ≡ Goes (Names (codes "a") ∷ Sets Check ∷ Names (codes "-c") ∷ Names (codes "--") ∷ []) Operand
+  pub posix : reading true Any (codes "-c" ∷ codes "a" ∷ codes "-c" ∷ []) ≡ Goes (Sets Check ∷ Names (codes "a") ∷ Names (codes "-c") ∷ []) Operand
+
+-- why no more are read
+pub record WorkedStops : Type 0 where
+  pub help : reading false Any (codes "-c" ∷ codes "--help" ∷ codes "--nothing" ∷ []) ≡ Stops AsksHelp
+  pub version : reading false Any (codes "a" ∷ codes "--version" ∷ []) ≡ Stops AsksVersion
+  pub operand : reading true Any (codes "a" ∷ codes "--version" ∷ []) ≡ Goes (Names (codes "a") ∷ Names (codes "--version") ∷ []) Operand
+  pub long : reading false Any (codes "--nothing=1" ∷ []) ≡ Stops (UnknownLong (codes "nothing=1"))
+  pub empty : reading false Any (codes "--=" ∷ []) ≡ Stops (Ambiguous (codes "="))
+  pub ambiguous : reading false Any (codes "--st" ∷ codes "--help" ∷ []) ≡ Stops (Ambiguous (codes "st"))
+  pub unwanted : reading false Any (codes "--check=a" ∷ []) ≡ Stops (UnwantedValue Check)
+  pub value_1 : reading false Any (codes "a" ∷ codes "--algorithm" ∷ []) ≡ Stops (MissingValue Algorithm)
+  pub value_2 : reading false Any (codes "--files0-from" ∷ []) ≡ Stops (MissingValue FilesFrom)
+  pub short_value : reading false Any (codes "-ca" ∷ []) ≡ Stops (MissingShortValue 97)
+  pub short : reading false Any (codes "-cx" ∷ []) ≡ Stops (UnknownShort 120)
+  pub variant : reading false Any (codes "-a" ∷ codes "1600" ∷ codes "--help" ∷ []) ≡ Stops (UnknownVariant (codes "1600"))
+
+-- what words ask for, of which the last comes first
+pub record WorkedWords : Type 0 where
+  pub variant_1 : variant_of [] ≡ R160
+  pub variant_2 : variant_of (Sets Check ∷ Hashes R128 ∷ Hashes R256 ∷ []) ≡ R128
+  pub input : or_input (names_of (Sets Check ∷ [])) ≡ codes "-" ∷ []
+  pub names : or_input (names_of (Names (codes "b") ∷ Sets Check ∷ Names (codes "a") ∷ [])) ≡ codes "a" ∷ codes "b" ∷ []
+  pub file : last file_in (Lists (codes "b") ∷ Names (codes "c") ∷ Lists (codes "a") ∷ []) ≡ Some (codes "b")
+  pub text : form_of false (last mode_in (Sets Check ∷ [])) ≡ forms.Text
+  pub text_last : form_of false (last mode_in (Sets Text ∷ Sets Binary ∷ [])) ≡ forms.Text
+  pub binary : form_of false (last mode_in (Sets Binary ∷ Sets Text ∷ [])) ≡ forms.Binary
+  pub tagged : form_of true (last mode_in (Sets Binary ∷ Sets Tag ∷ [])) ≡ forms.Tagged
+  pub newline : ending_of (gives Zero (Sets Tag ∷ [])) ≡ endings.Newline
+  pub zero : ending_of (gives Zero (Sets Tag ∷ Sets Zero ∷ [])) ≡ endings.Zero
+  pub quiet : options_of (Sets Quiet ∷ Sets Strict ∷ Sets Warn ∷ [])
+      ≡ record { ignore_missing = false; quiet = true; status = false; strict = true; warn = false }
+  pub status : options_of (Sets Status ∷ Sets IgnoreMissing ∷ Sets Quiet ∷ [])
+      ≡ record { ignore_missing = true; quiet = false; status = true; strict = false; warn = false }
+  pub warn : options_of (Sets Check ∷ Sets Warn ∷ Sets Status ∷ [])
+      ≡ record { ignore_missing = false; quiet = false; status = false; strict = false; warn = true }
+  pub usual : options_of [] ≡ record { ignore_missing = false; quiet = false; status = false; strict = false; warn = false }
+
+-- options that exclude one another
+pub record WorkedConflicts : Type 0 where
+  pub print : conflict (Sets Tag ∷ Sets Text ∷ Sets Zero ∷ Sets Progress ∷ []) ≡ None
+  pub check : conflict (Sets Check ∷ Sets IgnoreMissing ∷ Sets Strict ∷ Sets Warn ∷ []) ≡ None
+  pub text : conflict (Sets Text ∷ Sets Tag ∷ Sets Check ∷ []) ≡ Some TextWithTag
+  pub zero : conflict (Sets Zero ∷ Sets Tag ∷ Sets Check ∷ []) ≡ Some ZeroWithCheck
+  pub tag : conflict (Sets Check ∷ Sets Tag ∷ []) ≡ Some TagWithCheck
+  pub binary : conflict (Sets Binary ∷ Sets Check ∷ []) ≡ Some ModeWithCheck
+  pub mode : conflict (Sets Check ∷ Sets Text ∷ []) ≡ Some ModeWithCheck
+  pub missing : conflict (Sets Warn ∷ Sets IgnoreMissing ∷ Sets Strict ∷ []) ≡ Some (OnlyWithCheck IgnoreMissing)
+  pub status : conflict (Sets Strict ∷ Sets Status ∷ Sets Warn ∷ []) ≡ Some (OnlyWithCheck Status)
+  pub warn : conflict (Sets Warn ∷ Sets Quiet ∷ []) ≡ Some (OnlyWithCheck Warn)
+  pub quiet : conflict (Sets Quiet ∷ Sets Strict ∷ []) ≡ Some (OnlyWithCheck Quiet)
+  pub strict : conflict (Sets Strict ∷ []) ≡ Some (OnlyWithCheck Strict)
+  pub extra : (operand : Vec ℕ Global) → IsExtra (Some (codes "c")) (codes "a" ∷ codes "b" ∷ []) (Misuse (ExtraOperand operand))
+      ↔ (operand.items ≡ codes "a")

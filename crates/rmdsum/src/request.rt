@@ -1,0 +1,317 @@
+//! What the program is to do, by what its arguments say.
+
+ghost use Rattle.std.specs.Prelude.{◌≡◌, List, [], ◌∷◌, IfOk, IfErr, OnOk, map, reverse, option_map, vec_items, codes};
+ghost use Rattle.rmdsum.specs.declared.request.Refusal.TheVariants.{OutOfMemory};
+ghost use Rattle.rmdsum.specs.Words.{Said, said};
+ghost use Rattle.rmdsum.specs.Words.Said.{Sets};
+ghost use Rattle.rmdsum.specs.Asked.{Holds, Asks, IsRefused, IsExtra, conflict, excluded, needs_check, form_of, options_of, AreNames, or_input};
+
+use crate::refusals::Misuse;
+use crate::switches::Flag;
+use ripemd_files::verdict::Options;
+use ripemd_files::{Ending, Form, Variant};
+use std::alloc::{AllocError, Global};
+
+/// What an argument says.
+#[derive(Debug, Drop)]
+pub enum Word {
+    /// An option without a value.
+    Set(Flag),
+    /// The hash.
+    Hash(Variant),
+    /// The file that has the names of the files.
+    NamesIn(Vec<u8>),
+    /// The name of a file.
+    File(Vec<u8>),
+}
+
+/// What the program is to do.
+#[derive(Debug, Drop)]
+pub enum Request {
+    /// Say how it is called.
+    Help,
+    /// Say which version it is.
+    Version,
+    /// Print the digests of files.
+    Print {
+        /// The hash.
+        variant: Variant,
+        /// How a line is written.
+        form: Form,
+        /// What stands behind a line.
+        ending: Ending,
+        /// The files.
+        names: Names,
+        /// Whether to tell how far it is.
+        progress: bool,
+    },
+    /// Check the digests that lists have.
+    Check {
+        /// The hash whose lines are taken; lines of every hash if none is named.
+        only: Option<Variant>,
+        /// What is told, and what counts as a failure. At most one of `quiet`, `status` and `warn` is set.
+        options: Options,
+        /// The lists.
+        names: Names,
+        /// Whether to tell how far it is.
+        progress: bool,
+    },
+}
+
+/// The names of files, where `-` stands for standard input.
+#[derive(Debug, Drop)]
+pub enum Names {
+    /// These, at least one.
+    Operands(Vec<Vec<u8>>),
+    /// Those that the file of this name has, each ended by a byte 0.
+    From(Vec<u8>),
+}
+
+/// Whether a file is read as text or as bytes, which differ in the line alone.
+#[derive(Clone, Copy, PartialEq, Eq)]
+pub enum Mode {
+    Text,
+    Binary,
+}
+
+/// How much a check tells, where it is not the usual.
+#[derive(Clone, Copy, PartialEq, Eq)]
+pub enum Telling {
+    Quiet,
+    Status,
+    Warn,
+}
+
+/// Why there is no request.
+#[derive(Drop)]
+pub enum Refusal {
+    Misuse(Misuse),
+    OutOfMemory,
+}
+
+impl From<AllocError> for Refusal {
+    ghost from_gives = { λ _ refusal. refusal ≡ OutOfMemory };
+
+    fn from(_: AllocError) -> Refusal {
+        Refusal::OutOfMemory
+    }
+}
+
+/// What some words say together.
+#[derive(Drop)]
+pub struct Settings {
+    variant: Option<Variant>,
+    check: bool,
+    mode: Option<Mode>,
+    tag: bool,
+    zero: bool,
+    telling: Option<Telling>,
+    ignore_missing: bool,
+    strict: bool,
+    progress: bool,
+    names_in: Option<Vec<u8>>,
+    names: Vec<Vec<u8>>,
+}
+
+impl Settings {
+    /// What holds where nothing is said.
+    pub fn new(alloc: Global) -> Settings
+        ensures { Holds [] result }
+    {
+        Settings {
+            variant: None,
+            check: false,
+            mode: None,
+            tag: false,
+            zero: false,
+            telling: None,
+            ignore_missing: false,
+            strict: false,
+            progress: false,
+            names_in: None,
+            names: Vec::new(alloc),
+        }
+    }
+
+    /// Adds a word.
+    pub fn add(&mut self, word: Word) -> Result<(), AllocError>
+        ensures { (words : List Said) → Holds words self.old → OnOk result (Holds (said word ∷ words) self.new) }
+    {
+        match word {
+            Word::Set(flag) => self.set(flag),
+            Word::Hash(variant) => self.variant = Some(variant),
+            Word::NamesIn(file) => self.names_in = Some(file),
+            Word::File(name) => self.names.push(name)?,
+        }
+        Ok(())
+    }
+
+    // Takes an option without a value.
+    fn set(&mut self, flag: Flag)
+        ensures { (words : List Said) → Holds words self.old → Holds (Sets flag ∷ words) self.new }
+    {
+        match flag {
+            Flag::Check => self.check = true,
+            Flag::IgnoreMissing => self.ignore_missing = true,
+            Flag::Quiet => self.telling = Some(Telling::Quiet),
+            Flag::Status => self.telling = Some(Telling::Status),
+            Flag::Warn => self.telling = Some(Telling::Warn),
+            Flag::Strict => self.strict = true,
+            Flag::Tag => {
+                self.tag = true;
+                self.mode = Some(Mode::Binary);
+            }
+            Flag::Zero => self.zero = true,
+            Flag::Binary => self.mode = Some(Mode::Binary),
+            Flag::Text => self.mode = Some(Mode::Text),
+            Flag::Progress => self.progress = true,
+            Flag::Help | Flag::Version => {}
+        }
+    }
+
+    // What options exclude one another, in the order in which `sha256sum` looks.
+    fn conflict(&self) -> Option<Misuse>
+        ensures { (words : List Said) → Holds words self.now → result ≡ conflict words }
+    {
+        if self.tag && self.mode == Some(Mode::Text) {
+            Some(Misuse::TextWithTag)
+        } else if self.check {
+            self.conflict_with_check()
+        } else {
+            Some(Misuse::OnlyWithCheck(self.needs_check()?))
+        }
+    }
+
+    // An option that `--check` excludes.
+    fn conflict_with_check(&self) -> Option<Misuse>
+        ensures { result ≡ excluded self.now.zero self.now.tag self.now.mode }
+    {
+        if self.zero {
+            Some(Misuse::ZeroWithCheck)
+        } else if self.tag {
+            Some(Misuse::TagWithCheck)
+        } else if self.mode.is_some() {
+            Some(Misuse::ModeWithCheck)
+        } else {
+            None
+        }
+    }
+
+    // An option that only `--check` has a use for.
+    fn needs_check(&self) -> Option<Flag>
+        ensures { result ≡ needs_check self.now.ignore_missing self.now.telling self.now.strict }
+    {
+        if self.ignore_missing {
+            return Some(Flag::IgnoreMissing);
+        }
+        match self.telling {
+            Some(Telling::Status) => Some(Flag::Status),
+            Some(Telling::Warn) => Some(Flag::Warn),
+            Some(Telling::Quiet) => Some(Flag::Quiet),
+            None if self.strict => Some(Flag::Strict),
+            None => None,
+        }
+    }
+
+    // How lists are checked.
+    fn options(&self) -> Options
+        ensures { (words : List Said) → Holds words self.now → result ≡ options_of words }
+    {
+        Options {
+            ignore_missing: self.ignore_missing,
+            quiet: self.telling == Some(Telling::Quiet),
+            status: self.telling == Some(Telling::Status),
+            strict: self.strict,
+            warn: self.telling == Some(Telling::Warn),
+        }
+    }
+
+    // How a line is written.
+    fn form(&self) -> Form
+        ensures { result ≡ form_of self.now.tag self.now.mode }
+    {
+        match self.mode {
+            _ if self.tag => Form::Tagged,
+            Some(Mode::Binary) => Form::Binary,
+            Some(Mode::Text) | None => Form::Text,
+        }
+    }
+
+    /// What they ask for.
+    pub fn request(self, alloc: Global) -> Result<Request, Refusal>
+        ensures ok { (words : List Said) → Holds words self → IfOk result (Asks words) }
+        ensures err { (words : List Said) → Holds words self → IfErr result (IsRefused words) }
+    {
+        if let Some(misuse) = self.conflict() {
+            return Err(Refusal::Misuse(misuse));
+        }
+        let options = self.options();
+        let form = self.form();
+        let ending = if self.zero {
+            Ending::Zero
+        } else {
+            Ending::Newline
+        };
+        let names = choose_names(alloc, self.names_in, self.names)?;
+        if self.check {
+            Ok(Request::Check {
+                only: self.variant,
+                options,
+                names,
+                progress: self.progress,
+            })
+        } else {
+            Ok(Request::Print {
+                variant: self.variant.unwrap_or(Variant::R160),
+                form,
+                ending,
+                names,
+                progress: self.progress,
+            })
+        }
+    }
+}
+
+/// What some words ask for.
+pub fn request_of(alloc: Global, words: Vec<Word>) -> Result<Request, Refusal>
+    ensures ok { IfOk result (Asks (reverse (map said words.items))) }
+    ensures err { IfErr result (IsRefused (reverse (map said words.items))) }
+{
+    let mut settings = Settings::new(alloc);
+    for word in words {
+        settings.add(word)?;
+    }
+    settings.request(alloc)
+}
+
+// The names of the files: these, or those in a file.
+fn choose_names(
+    alloc: Global,
+    names_in: Option<Vec<u8>>,
+    names: Vec<Vec<u8>>,
+) -> Result<Names, Refusal>
+    ensures ok { IfOk result (AreNames (option_map vec_items names_in) (map vec_items names.items)) }
+    ensures err { IfErr result (IsExtra (option_map vec_items names_in) (map vec_items names.items)) }
+{
+    let Some(file) = names_in else {
+        if names.is_empty() {
+            return Ok(Names::Operands(standard_input(alloc)?));
+        }
+        return Ok(Names::Operands(names));
+    };
+    match names.first() {
+        None => Ok(Names::From(file)),
+        Some(name) => {
+            let name = Vec::from_slice(alloc, name.as_slice())?;
+            Err(Refusal::Misuse(Misuse::ExtraOperand(name)))
+        }
+    }
+}
+
+// The name of standard input alone.
+fn standard_input(alloc: Global) -> Result<Vec<Vec<u8>>, AllocError>
+    ensures { IfOk result (λ names. map vec_items names.items ≡ codes "-" ∷ []) }
+{
+    let name = Vec::from_slice(alloc, b"-")?;
+    Ok(vec![in alloc; name]?)
+}
