@@ -11,7 +11,7 @@
 
 #include "nattizhu.h"
 
-// A list has a few messages, or more than are hashed in a group.
+// A list has a few messages, each number up to FEW, or more than are hashed in a group.
 enum { MAX = NATTIZHU_MAX_SIZE, FEW = 9, MOST = 130, KEY = 50 };
 
 static const nattizhu_variant ALL[] = {NATTIZHU_RIPEMD128, NATTIZHU_RIPEMD160, NATTIZHU_RIPEMD256,
@@ -116,31 +116,48 @@ static void try_texts(nattizhu_variant v, const uint8_t *key, size_t key_length,
     must(!revealed(nattizhu_hmac_verify_text(v, key, key_length, text, length, tag, size)),
          "the same of a text");
   }
+  for (size_t all = size; all <= KEY; all += KEY - size) { // one block of a key, or more
+    uint8_t derived[KEY];
+    must(nattizhu_pbkdf2(v, key, key_length, text, length, 2, derived, all), "pbkdf2");
+    is_secret(derived, all);
+  }
+}
+
+// Messages of which so many are secret; the others are empty.
+static void try_list(nattizhu_variant v, const uint8_t *key, size_t key_length,
+                     const nattizhu_message *list, size_t count, size_t secrets) {
+  const size_t size = nattizhu_digest_size(v), all = count * size;
+  uint8_t outputs[MOST * MAX], keys[MOST * KEY];
+  must(nattizhu_list(v, list, count, outputs, all), "list");
+  is_secret(outputs, secrets * size);
+  must(nattizhu_hmac_list(v, key, key_length, list, count, outputs, all), "hmac_list");
+  is_secret(outputs, all);
+  for (size_t length = size; length <= KEY; length += KEY - size) { // one block of a key, or more
+    must(nattizhu_pbkdf2_list(v, list, count, list, count, 2, length, keys, count * length),
+         "pbkdf2_list");
+    is_secret(keys, secrets * length);
+  }
 }
 
 // So many records of one length, and messages of many: all in one buffer.
 static void try_many(nattizhu_variant v, const uint8_t *key, size_t key_length, size_t length,
                      size_t count) {
   const size_t size = nattizhu_digest_size(v), all = count * size;
-  uint8_t *bytes = secret(count * length), outputs[MOST * MAX], keys[MOST * KEY];
+  uint8_t *bytes = secret(count * length), outputs[MOST * MAX];
   nattizhu_message list[MOST];
   for (size_t i = 0; i < count; i++) {
     list[i].bytes = bytes;
-    list[i].length = 1 + i * 3 % length;
+    list[i].length = 1 + i * 41 % length;
   }
   must(nattizhu_each(v, bytes, count * length, length, outputs, all), "each");
   is_secret(outputs, all);
   must(nattizhu_hmac_each(v, key, key_length, bytes, count * length, length, outputs, all),
        "hmac_each");
   is_secret(outputs, all);
-  must(nattizhu_list(v, list, count, outputs, all), "list");
-  is_secret(outputs, all);
-  must(nattizhu_hmac_list(v, key, key_length, list, count, outputs, all), "hmac_list");
-  is_secret(outputs, all);
-  must(nattizhu_pbkdf2(v, key, key_length, bytes, length, 2, keys, KEY), "pbkdf2");
-  is_secret(keys, KEY);
-  must(nattizhu_pbkdf2_list(v, list, count, list, count, 2, KEY, keys, count * KEY), "pbkdf2_list");
-  is_secret(keys, count * KEY);
+  try_list(v, key, key_length, list, count, count);
+  list[count - 1].bytes = NULL; // a list that has one is copied
+  list[count - 1].length = 0;
+  try_list(v, key, key_length, list, count, count - 1);
   free(bytes);
 }
 
@@ -170,7 +187,8 @@ int main(int argc, char **argv) {
         try_texts(ALL[i], key, LENGTHS[k], message, LENGTHS[m]);
         free(message);
       }
-      try_many(ALL[i], key, LENGTHS[k], LENGTHS[k], FEW);
+      for (size_t count = 1; count <= FEW; count++)
+        try_many(ALL[i], key, LENGTHS[k], LENGTHS[k], count);
       if (k == 0)
         try_many(ALL[i], key, LENGTHS[k], 70, MOST);
       free(key);

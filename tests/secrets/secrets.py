@@ -7,6 +7,8 @@ import sys
 import nattizhu
 
 MARKS = ctypes.CDLL(sys.argv[1])
+# How many messages go at once, one after another, or some so and some so, depends on their number.
+COUNTS = range(1, 10)
 
 
 def secret(length):
@@ -23,15 +25,18 @@ def must_be_secret(*outputs):
 
 for name in sorted(nattizhu.algorithms_available):
     for length in (2, 55, 64, 65, 200):  # not 1: where a list copies such bytes, the interpreter looks them up
-        key, text, records = secret(length), secret(130), secret(9 * length)
+        key, text = secret(length), secret(130)
         for state in (nattizhu.new(name, key), nattizhu.hmac_new(key, digestmod=name)):
             state.update(text)
             load = nattizhu.from_state if isinstance(state, nattizhu.Hasher) else nattizhu.hmac_from_state
             must_be_secret(state.digest(), state.copy().digest(), load(name, state.state()).digest())
         must_be_secret(
-            nattizhu.hmac_digest(key, text, name), nattizhu.pbkdf2_hmac(name, key, text, 2, 50),
-            *nattizhu.digest_each(name, records, length), *nattizhu.digest_list(name, [key, text]),
-            *nattizhu.hmac_digest_each(key, records, length, name), *nattizhu.hmac_digest_list(key, [key, text], name))
+            nattizhu.hmac_digest(key, text, name), *(nattizhu.pbkdf2_hmac(name, key, text, 2, size) for size in (16, 50)))
+        for count in COUNTS:
+            records, messages = secret(count * length), [(key, text)[i % 2] for i in range(count)]
+            must_be_secret(
+                *nattizhu.digest_each(name, records, length), *nattizhu.digest_list(name, messages),
+                *nattizhu.hmac_digest_each(key, records, length, name), *nattizhu.hmac_digest_list(key, messages, name))
 
 if sys.argv[2:] == ["jump"]:
     assert nattizhu.ripemd160(secret(3)).digest() != bytes(20)

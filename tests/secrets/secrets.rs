@@ -29,7 +29,7 @@ where
     D::SerializedState: AsRef<[u8]>,
 {
     for length in [1, 55, 64, 65, 200] {
-        let (key, text, records) = (secret(length), secret(130), secret(9 * length));
+        let (key, text) = (secret(length), secret(130));
         let mut hasher = D::new();
         Digest::update(&mut hasher, &key);
         Digest::update(&mut hasher, &text);
@@ -43,20 +43,30 @@ where
         let mac = <Hmac<D>>::new(&key).chain_update(&text);
         must_be_secret(mac.clone().finalize().into_bytes());
 
-        let mut outputs = vec![Default::default(); 9];
-        digest_each::<D>(&records, length, &mut outputs).unwrap();
-        outputs.iter().for_each(must_be_secret);
-        hmac_each::<D>(&key, &records, length, &mut outputs).unwrap();
-        outputs.iter().for_each(must_be_secret);
-        let list = [&key[..], &text, &records];
-        digest_list::<D>(&list, &mut outputs[..3]).unwrap();
-        hmac_list::<D>(&key, &list, &mut outputs[3..6]).unwrap();
-        outputs[..6].iter().for_each(must_be_secret);
-        let mut keys = [0; 150];
-        pbkdf2_hmac::<D>(&key, &text, 2, &mut keys).unwrap();
-        must_be_secret(keys);
-        pbkdf2_hmac_list::<D>(&list, &list, 2, 50, &mut keys).unwrap();
-        must_be_secret(keys);
+        for size in [16, 50] {
+            let mut derived = vec![0; size];
+            pbkdf2_hmac::<D>(&key, &text, 2, &mut derived).unwrap();
+            must_be_secret(derived);
+        }
+        // Messages go at once or one after another, by their number.
+        for count in 1..10 {
+            let records = secret(count * length);
+            let mut outputs = vec![Default::default(); count];
+            digest_each::<D>(&records, length, &mut outputs).unwrap();
+            outputs.iter().for_each(must_be_secret);
+            hmac_each::<D>(&key, &records, length, &mut outputs).unwrap();
+            outputs.iter().for_each(must_be_secret);
+            let list: Vec<&[u8]> = (0..count).map(|i| [&key[..], &text][i % 2]).collect();
+            digest_list::<D>(&list, &mut outputs).unwrap();
+            outputs.iter().for_each(must_be_secret);
+            hmac_list::<D>(&key, &list, &mut outputs).unwrap();
+            outputs.iter().for_each(must_be_secret);
+            for size in [16, 50] {
+                let mut keys = vec![0; count * size];
+                pbkdf2_hmac_list::<D>(&list, &list, 2, size, &mut keys).unwrap();
+                must_be_secret(keys);
+            }
+        }
     }
 }
 
