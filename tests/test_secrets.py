@@ -29,14 +29,16 @@ every_processor = pytest.mark.parametrize("processor", EMULATORS)
 
 @pytest.fixture(name="compiled", scope="module")
 def fixture_compiled(library, marks, once):
-    """Compiles secrets.c with the library for a processor."""
+    """Compiles secrets.c and nattizhu.c, which chooses how lists go, with the library for a processor."""
 
     def compiled(processor, *flags):
         if processor == ARM64:
             need_arm64()
-        compiler = ARM64_COMPILER if processor == ARM64 else "cc"
+            compiler = [ARM64_COMPILER]
+        else:
+            compiler = ["cc", f"-march={processor}"]
         return once(f"secrets-{processor}{''.join(flags)}", lambda file: run(
-            compiler, "-O2", "-Wall", "-Wextra", "-Werror", *flags, "-I", CRATE, SECRETS / "secrets.c",
+            *compiler, "-O2", "-Wall", "-Wextra", "-Werror", *flags, "-I", CRATE, SECRETS / "secrets.c",
             CRATE / "nattizhu.c", library / processor / "libripemd_c.a", "-o", file))
 
     return compiled

@@ -49,7 +49,7 @@ enum { MAX = NATTIZHU_MAX_SIZE, MOST = 130, KEY = 100, TEXT = 200, DERIVED = 50 
 
 static const nattizhu_variant ALL[] = {NATTIZHU_RIPEMD128, NATTIZHU_RIPEMD160, NATTIZHU_RIPEMD256,
                                        NATTIZHU_RIPEMD320};
-static const size_t KEYS[] = {32, KEY}, TEXTS[] = {32, TEXT}, COUNTS[] = {1, 9, MOST};
+static const size_t KEYS[] = {32, KEY}, TEXTS[] = {32, TEXT}, COUNTS[] = {1, 2, 3, 9, MOST};
 
 // ---- The calls, and what they are given
 
@@ -204,10 +204,10 @@ static void try_all(size_t number, bool first) {
     Found found = {0};
     variant = ALL[v];
     size = variant / 8;
-    for (int i = 0; i < 12; i++) {
+    for (int i = 0; i < 20; i++) {
       key_length = KEYS[i % 2];
       text_length = TEXTS[i / 2 % 2];
-      count = COUNTS[i / 4 % 3];
+      count = COUNTS[i / 4 % 5];
       for (size_t m = 0; m < count; m++) {
         list[m].bytes = texts + m * text_length;
         list[m].length = m % text_length;

@@ -187,7 +187,7 @@ int main(int argc, char **argv) {
         try_texts(ALL[i], key, LENGTHS[k], message, LENGTHS[m]);
         free(message);
       }
-      for (size_t count = 1; count <= FEW; count++)
+      for (size_t count = k == 0 || k == CASES - 1 ? 1 : FEW; count <= FEW; count++)
         try_many(ALL[i], key, LENGTHS[k], LENGTHS[k], count);
       if (k == 0)
         try_many(ALL[i], key, LENGTHS[k], 70, MOST);
