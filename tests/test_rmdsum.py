@@ -128,13 +128,37 @@ class Rooms:
         wanted, found = results
         wanted.out = wanted.out and exchanged(wanted.out, self.hash)
         wanted.error = wanted.error and exchanged(wanted.error, self.hash)
-        # A name that is not UTF-8 is refused before it is looked for.
-        found.error = found.error and found.error.replace(b": invalid filename\n", b": No such file or directory\n")
+        if not pick:  # each line may be of another variant
+            wanted.error, found.error = (re.sub(rb"(improperly formatted) \w+", rb"\1", ended.error)
+                                         for ended in (wanted, found))
+        return wanted, found
+
+    def run_alike(self, words, text, found, **options):
+        """The same where each difference that a page names is taken away: sha256sum refuses the lines that rmdsum
+        refuses, can't open the names that rmdsum can't open, and shows names as rmdsum does. Only such lines and
+        names are changed."""
+        room = self.sides[0][1]
+        lists = {path: path.read_bytes() for path in room.glob("list*") if path.is_file()}
+        for path, held in lists.items():
+            path.write_bytes(refused(held))
+        for name in re.findall(rb"^rmdsum: (.*): invalid filename$", found.error, re.MULTILINE):
+            make_unopenable(room, unquoted(name))
+        is_list = text is not None and not {"-c", "--check"}.isdisjoint(words)
+        taken = (lambda hash_: refused(text(hash_)) if hash_ is SHA256 else text(hash_)) if is_list else text
+        wanted, found = self.run(words, taken, **options)
+        for path, held in lists.items():
+            path.write_bytes(held)
+        theirs, ours = (ended.error.splitlines(keepends=True) for ended in (wanted, found))
+        if len(theirs) == len(ours):
+            wanted.error = b"".join(map(as_shown, theirs, ours))
         return wanted, found
 
     def same(self, words, text=None, **options):
-        """Runs both, which have to say the same, and returns it."""
+        """Runs both, which have to say the same but for the differences that a page names, and returns what rmdsum
+        says."""
         wanted, found = self.run(words, text, **options)
+        if wanted != found:
+            wanted, found = self.run_alike(words, text, found, **options)
         if wanted != found:
             shown = "" if text is None else f"\nstandard input: {text(self.hash)!r}"
             lists = "".join(f"\n{path.name!r}: {path.read_bytes()!r}" for path in sorted(self.sides[1][1].iterdir())
@@ -169,6 +193,76 @@ def untagged(name, length, separator=b"  ", mark=b""):
 
 def tagged(name, length, mark=b""):
     return joined(mark, tag_of, b" (", name, b") = ", lambda hash_: hash_.digests[length].encode())
+
+
+# The differences that the READMEs of rmdsum and ripemd_files name, and that drawn lists meet.
+
+SAID = re.compile(rb"rmdsum: (.*): ([^:]*\n)", re.DOTALL)
+# What a shell reads: quotes of three kinds, an escaped apostrophe, and what stands without quotes.
+QUOTED = re.compile(rb"""\$'((?:[^'\\]|\\.)*)'|'([^']*)'|"([^"]*)"|\\(')|([^'"\\$]+)""", re.DOTALL)
+LETTERS = dict(zip(b"abtnvfr\\", b"\a\b\t\n\v\f\r\\"))
+# Characters that sha256sum escapes in a locale of UTF-8, and rmdsum shows.
+HIDDEN = "\u0378\u2028\uffff\U0010ffff"
+
+
+def unquoted(shown):
+    """The name that a shell reads."""
+    if QUOTED.sub(b"", shown):
+        return None
+    return b"".join(re.sub(rb"\\([0-7]{3}|.)", unescaped, escaped) + b"".join(others)
+                    for escaped, *others in QUOTED.findall(shown))
+
+
+def unescaped(found):
+    return bytes([int(found[1], 8) if len(found[1]) == 3 else LETTERS[found[1][0]]])
+
+
+def is_utf8(name):
+    return not re.search("[\udc80-\udcff]", os.fsdecode(name))
+
+
+def is_misquoted(name):
+    """Whether sha256sum may show a name so that a shell reads another one: it has an apostrophe, and ends with an
+    escaped byte."""
+    return b"'" in name and re.search(rf"[\x01-\x1f\x7f-\x9f\udc80-\udcff{HIDDEN}]\Z", os.fsdecode(name))
+
+
+def without_quotes(shown):
+    """What is shown of a name, with escapes of what may be hidden."""
+    for character in HIDDEN:
+        shown = shown.replace(character.encode(), b"".join(b"%o" % byte for byte in character.encode()))
+    return re.sub(rb"['\"$\\]", b"", shown)
+
+
+def as_shown(wanted, found):
+    """A message of sha256sum, with the name as rmdsum shows it, if that differs as named."""
+    theirs, ours = SAID.fullmatch(wanted), SAID.fullmatch(found)
+    if wanted == found or not (theirs and ours):
+        return wanted
+    name, shown, reason = unquoted(ours[1]), theirs[1], theirs[2]
+    if ours[2] == b"invalid filename\n" and not is_utf8(name):
+        reason = ours[2]
+    may_differ = is_misquoted(name) or unquoted(shown) == name and re.search(f"[{HIDDEN}]", os.fsdecode(name))
+    if may_differ and without_quotes(shown) == without_quotes(ours[1]):
+        shown = ours[1]
+    return b"rmdsum: " + shown + b": " + reason
+
+
+def refused(text):
+    """A list for sha256sum in which no line with a byte 0 is taken. It takes no marked one that is untagged."""
+    return re.sub(rb"^(?!#)([ \t]*)\\?([^\n]*\0[^\n]*)", lambda found: b"no line" if found[2].startswith(b"SHA256")
+                  else found[1] + b"\\" + found[2], text, flags=re.MULTILINE)
+
+
+def make_unopenable(room, name):
+    """Puts a link to itself in place of what has this name, which is not UTF-8."""
+    assert not is_utf8(name)
+    path = room / os.fsdecode(name)
+    with contextlib.suppress(OSError):  # the name is too long
+        if path.is_dir():
+            path.rmdir()
+        path.unlink(missing_ok=True)
+        path.symlink_to(path.name)
 
 
 @pytest.fixture(name="rooms")
@@ -212,27 +306,24 @@ LISTS = ["list", "list-wrong", "list-missing", "list-all-missing", "list-bad", "
 PIECES = [b"a", b"b", b"name", b".txt", b" ", b"  ", b"\\", b"\\n", b"\n", b"\r", b"-", b"--", b"*", b"(", b")",
           b") = ", b"=", b"'", b'"', b"$", b"#", b"~", b":", b"\t", "é".encode(), "漢字".encode(), "😀".encode(),
           b"\x7f", b"\x1b", b"{", b"}", b"%", b"SHA", b"RMD", b"0123", b"!"]
-
-# In the messages of coreutils 9.1 a name that has an apostrophe and ends with an escaped byte has some quotes too
-# many or too few, so that a shell reads another name. Such names are left out, and lines that may have one.
-MISQUOTED = re.compile(rb"'.*[\x01-\x1f\x7f]$", re.DOTALL)
-MAY_BE_MISQUOTED = re.compile(rb"(?=.*').*([^ -~]|\\[nr])", re.DOTALL)
+RARE = [b"\xff", b"\xc3", b"\xe2\x82", b"\xed\xa0\x80", "\u0085".encode(), *map(str.encode, HIDDEN)]
+# Digits that could be those of SHA-256 and of RIPEMD-256.
+DIGITS = b"0123456789abcdef" * 4
 
 
-def draw_name(rng):
+def draw_name(rng, pieces):
     """A name for a file."""
-    while True:
-        name = b"".join(rng.choice(PIECES) for _ in range(rng.choice([1, 1, 2, 3, 4, 6])))
-        if not MISQUOTED.search(name) and name != b"-":
-            return name
+    return b"".join(rng.choice(RARE if rng.random() < 0.03 else pieces) for _ in range(rng.choice([1, 1, 2, 3, 4, 6])))
 
 
 def draw_files(rng, rooms):
     """Makes some files, and returns their names with the lengths; some names are of none."""
-    names = list({draw_name(rng) for _ in range(rng.randint(1, 7))} - {b"list", b"list2"})
-    names.sort()
+    pieces = [*PIECES, DIGITS, DIGITS + b"  ", b") = " + DIGITS] if rooms.hash is RIPEMD["256"] else PIECES
+    names = sorted({draw_name(rng, rng.choice([pieces] * 19 + [[b"-"]])) for _ in range(rng.randint(1, 7))})
     files = [(name, rng.choice(LENGTHS)) for name in names]
     for name, length in files:
+        if len(name) > 255:
+            continue
         if rng.random() < 0.85:
             rooms.file(name, length)
         elif rng.random() < 0.2:
@@ -255,10 +346,9 @@ def draw_spelling(rng, name):
         return b"\\", name
     if choice < 0.92:
         return b"\\", escaped(name)
-    text = name.decode()
-    place = rng.randint(0, len(text))
-    return rng.choice([b"\\", b"\\", b""]), text[:place].encode() + rng.choice(
-        [b"\\", b"\\x", b"\\\\", b"\\n", b"\\r", b"\\0", b"\\t", b"\\ ", b"\\'"]) + text[place:].encode()
+    place = rng.randint(0, len(name))
+    return rng.choice([b"\\", b"\\", b""]), name[:place] + rng.choice(
+        [b"\\", b"\\x", b"\\\\", b"\\n", b"\\r", b"\\0", b"\\t", b"\\ ", b"\\'", b"\0", b"\0", b"\n"]) + name[place:]
 
 
 # What is made of a digest, by its digits and a place among them, with how often that is drawn.
@@ -268,7 +358,7 @@ CHANGES = [
     (5, lambda digits, place: digits[:place] + digits[place:].upper()),
     (8, lambda digits, place: digits[:place] + b"%x" % (int(digits[place:place + 1], 16) ^ 1) + digits[place + 1:]),
     *((1, lambda digits, place, byte=byte: digits[:place] + byte + digits[place + 1:])
-      for byte in [b"g", b"G", b"/", b":", b"@", b"`", b"x", b" "]),
+      for byte in [b"g", b"G", b"/", b":", b"@", b"`", b"x", b" ", b"\0"]),
     (3, lambda digits, place: digits[:place]),
     (2, lambda digits, place: digits[:-1]),
     (2, lambda digits, place: digits[:-2]),
@@ -295,21 +385,17 @@ def draw_digest(rng, length):
 
 def draw_line(rng, files, usual):
     """A line of a list, as a function of the hash."""
-    line = draw_any_line(rng, files, usual)
-    return constant(b"no line") if MAY_BE_MISQUOTED.search(line(SHA256)) else line
-
-
-def draw_any_line(rng, files, usual):
     name, length = rng.choice(files)
     digest = draw_digest(rng, length)
     mark, spelled = draw_spelling(rng, name)
     front = rng.choice([b"", b"", b"", b"", b"", b"", b" ", b"  \t", b"\t"])
-    kind = usual if rng.random() < 0.85 else rng.choice(["text", "binary", "tagged", "openssl", "reversed", "odd"])
+    kind = usual if rng.random() < 0.85 else rng.choice(
+        ["text", "binary", "tagged", "openssl", "reversed", "odd", "loose"])
     tag = rng.random()
     blanks = [rng.choice([b"", b" ", b"  ", b"\t", b" \t "]) for _ in range(2)]
     odd = rng.choice([b"", b"\t", b"\t ", b"\t*", b"\t\t", b"   ", b" \t", b" **", b"* ", b"-", b" -", b"\x0b ",
-                      b"\xa0 "])
-    behind = rng.choice([b"", b"", b"", b"", b"", b" ", b"x", b")", b" =", b"\t"])
+                      b"\xa0 ", b"\0", b" \0"])
+    behind = rng.choice([b"", b"", b"", b"", b"", b" ", b"x", b")", b" =", b"\t", b"\0", b"\0x"])
 
     def line(hash_):
         parts = [front, mark]
@@ -332,7 +418,7 @@ def draw_any_line(rng, files, usual):
 SHA224 = hashlib.sha224().hexdigest().encode()
 OTHER_LINES = [b"", b"", b" ", b"\t", b"#", b"# a comment", b"#" + b"0" * 64 + b"  a", b" # no comment", b"\\",
                b"\\\\", b"-----BEGIN PGP SIGNED MESSAGE-----", b"Hash: SHA1", b"\xff\xfe", b"0", b"x" * 500, b"(",
-               b") = ", b"SHA224 (a) = " + SHA224, SHA224 + b"  a", b"a", b"  "]
+               b") = ", b"SHA224 (a) = " + SHA224, SHA224 + b"  a", b"a", b"  ", b"\0", b"#\0"]
 
 
 def draw_list(rng, files):
@@ -367,11 +453,23 @@ def protected(operands):
     return ["./" + os.fsdecode(name) if name[:1] == b"-" and name != b"-" else os.fsdecode(name) for name in operands]
 
 
+@pytest.mark.parametrize("text", [
+    untagged(b"\t'\t", 0), untagged(HIDDEN[0].encode(), 0), untagged(b"\xff", 0), untagged(b"a\0", 0),
+    joined(tagged(b"a", 0), b"\0")], ids=["misquoted", "hidden", "not UTF-8", "0 in a name", "0 behind a digest"])
+def test_named_differences(rooms, text):
+    """A smallest list for each difference that drawn ones may have."""
+    rooms.file(b"\xff", 0)
+    rooms.file(b"a", 0)
+    wanted, found = rooms.run(["-c"], text)
+    assert wanted != found
+    rooms.same(["-c"], text)
+
+
 @pytest.mark.parametrize("seed", range(60))
 def test_drawn_lists(tmp_path, rmdsum, seed):
-    """Lists of all kinds, good and damaged, for some files."""
+    """Lists of all kinds, good and damaged, for some files: 4,800 checks, or more by hand."""
     rng = random.Random(seed)
-    for number in range(20):
+    for number in range(int(os.environ.get("DRAWN_FOLDERS", "20"))):
         rooms = Rooms(tmp_path / str(number), rmdsum, "256" if seed % 4 else rng.choice(VARIANTS))
         files = draw_files(rng, rooms)
         first, second = draw_list(rng, files), draw_list(rng, files)
@@ -407,10 +505,9 @@ def test_own_lists(tmp_path, rmdsum, seed):
     rng = random.Random(seed)
     for number in range(20):
         rooms = Rooms(tmp_path / str(number), rmdsum, rng.choice(VARIANTS))
-        names = []
-        for name in sorted({draw_name(rng) for _ in range(5)} - {b"list"}):
+        names = [name for name in sorted({b"a", *(draw_name(rng, PIECES) for _ in range(5))} - {b"-"}) if is_utf8(name)]
+        for name in names:
             rooms.file(name, rng.choice(LENGTHS))
-            names.append(name)
         _, room, _ = rooms.sides[1]
         form = rng.choice([[], ["-b"], ["--tag"], ["-t"]])
         printed = ended(rooms.program, [*rooms.hash.options, *form, "--", *names], room)
@@ -541,10 +638,6 @@ def test_help_and_version(rooms):
 # Lines of every variant.
 
 
-def without_hash(text):
-    return re.sub(rb"improperly formatted \S+ checksum line", b"improperly formatted checksum line", text)
-
-
 def is_of_another(line, variant):
     """Whether a damaged line may be one of another variant, by the number of its digits."""
     counts = {len(digits) for digits in re.findall(rb"[0-9a-fA-F]+", line)}
@@ -567,9 +660,7 @@ def test_lists_of_all_variants(tmp_path, rmdsum, seed):
 
         rooms.list("list", text)
         options = rng.sample(CHECK_OPTIONS, rng.choice([0, 1, 2]))
-        wanted, found = rooms.run(["-c", *options, "list"], pick=False)
-        wanted.error, found.error = without_hash(wanted.error), without_hash(found.error)
-        assert wanted == found, (options, text(rooms.hash))
+        rooms.same(["-c", *options, "list"], pick=False)
 
 
 def test_other_variants_are_no_lines(rooms):
