@@ -202,7 +202,7 @@ SAID = re.compile(rb"rmdsum: (.*): ([^:]*\n)", re.DOTALL)
 QUOTED = re.compile(rb"""\$'((?:[^'\\]|\\.)*)'|'([^']*)'|"([^"]*)"|\\(')|([^'"\\$]+)""", re.DOTALL)
 LETTERS = dict(zip(b"abtnvfr\\", b"\a\b\t\n\v\f\r\\"))
 # Characters that sha256sum escapes in a locale of UTF-8, and rmdsum shows.
-HIDDEN = "\u0378\u2028\uffff\U0010ffff"
+HIDDEN = "\uffff\u2028\u0378\U0010ffff"
 
 
 def unquoted(shown):
@@ -313,7 +313,9 @@ DIGITS = b"0123456789abcdef" * 4
 
 def draw_name(rng, pieces):
     """A name for a file."""
-    return b"".join(rng.choice(RARE if rng.random() < 0.03 else pieces) for _ in range(rng.choice([1, 1, 2, 3, 4, 6])))
+    name = b"".join(rng.choice(RARE if rng.random() < 0.03 else pieces) for _ in range(rng.choice([1, 1, 2, 3, 4, 6])))
+    # Behind a newline such digits could begin a line, and a digest would stand in its name.
+    return name.replace(b"\n", b"") if DIGITS in name else name
 
 
 def draw_files(rng, rooms):
@@ -348,7 +350,7 @@ def draw_spelling(rng, name):
         return b"\\", escaped(name)
     place = rng.randint(0, len(name))
     return rng.choice([b"\\", b"\\", b""]), name[:place] + rng.choice(
-        [b"\\", b"\\x", b"\\\\", b"\\n", b"\\r", b"\\0", b"\\t", b"\\ ", b"\\'", b"\0", b"\0", b"\n"]) + name[place:]
+        [b"\\", b"\\x", b"\\\\", b"\\n", b"\\r", b"\\0", b"\\t", b"\\ ", b"\\'", b"\0", b"\0"]) + name[place:]
 
 
 # What is made of a digest, by its digits and a place among them, with how often that is drawn.
@@ -467,7 +469,7 @@ def test_named_differences(rooms, text):
 
 @pytest.mark.parametrize("seed", range(60))
 def test_drawn_lists(tmp_path, rmdsum, seed):
-    """Lists of all kinds, good and damaged, for some files: 4,800 checks, or more by hand."""
+    """Lists of all kinds, good and damaged, for some files: 4,800 checks. With DRAWN_FOLDERS=200 they are 48,000."""
     rng = random.Random(seed)
     for number in range(int(os.environ.get("DRAWN_FOLDERS", "20"))):
         rooms = Rooms(tmp_path / str(number), rmdsum, "256" if seed % 4 else rng.choice(VARIANTS))

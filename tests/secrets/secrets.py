@@ -7,7 +7,7 @@ import sys
 import nattizhu
 
 MARKS = ctypes.CDLL(sys.argv[1])
-# How many messages go at once, one after another, or some so and some so, depends on their number.
+# Which messages go at once, and which one after another, depends on their number.
 COUNTS = range(1, 10)
 
 
