@@ -1,5 +1,5 @@
-"""Tries what `make dist` makes, and uses it in a fresh Debian that has a C compiler, pkg-config, openssl, python3
-and nodejs, and no toolchain. Without root or debootstrap, the archive and the wheel are used on this machine."""
+"""Tries what `make dist` makes, and uses it in a fresh Debian that has a C compiler, pkg-config, cryptsetup, openssl,
+python3 and nodejs, and no toolchain. Without root or debootstrap, the archive and the wheel are used on this machine."""
 import concurrent.futures
 import contextlib
 import os
@@ -26,7 +26,8 @@ def bootstrap(folder):
     if os.geteuid() != 0:
         pytest.skip("debootstrap needs root")
     need("debootstrap", "debootstrap")
-    made = run("debootstrap", "--variant=minbase", "--include=gcc,libc6-dev,nodejs,openssl,pkg-config,python3,python3-venv",
+    made = run("debootstrap", "--variant=minbase",
+               "--include=cryptsetup-bin,gcc,libc6-dev,nodejs,openssl,pkg-config,python3,python3-venv",
                platform.freedesktop_os_release()["VERSION_CODENAME"], folder, status=None)
     if made.returncode != 0:
         pytest.skip("there is no fresh Debian: " + (made.stdout + made.stderr).strip().rpartition("\n")[2])
@@ -127,12 +128,14 @@ def test_manual_pages(files):
 
 
 @pytest.fixture(name="shell", scope="module")
-def fixture_shell(debian, dist, tmp_path_factory):
-    """Runs a command in the fresh Debian, or here, beside the files of `dist` and the first programs of the pages."""
+def fixture_shell(debian, dist, broken, tmp_path_factory):
+    """Runs a command in the fresh Debian, or here, beside the files of `dist`, the first programs of the pages and the
+    folder of `broken`."""
     root = tmp_path_factory.mktemp("here") if debian.exception() else debian.result()
     folder = shutil.copytree(dist, root / f"a folder/{os.getpid()}", dirs_exist_ok=True)
     shutil.copytree(ROOT / "js/test", folder / "project")
     shutil.copytree(DATA, folder / "data")
+    shutil.copytree(broken, folder / "broken")
     (folder / "first.c").write_text(programs("docs/C.md", "c")[0][0])
     (folder / "first.py").write_text(programs("docs/PYTHON.md", "python")[0][0] + "print(hasher.hexdigest())\n")
     enter = ["chroot", root, "env", "-i", "-C", f"/a folder/{os.getpid()}", "PATH=/usr/sbin:/usr/bin:/sbin:/bin",
@@ -179,11 +182,76 @@ def test_shared_library_of_the_archive(shell, build):
     uses_shared_library(shell, build, f"{ARCHIVE}/lib", flags, f'LD_LIBRARY_PATH="$PWD/{ARCHIVE}/lib"')
 
 
-def test_provider_of_the_archive(shell):
+@pytest.fixture(name="provider", scope="module")
+def fixture_provider(shell):
+    """What has programs load the provider of the archive."""
     shell(f"test -e {ARCHIVE}/lib/ossl-modules/nattizhu.so", lacking="provider for OpenSSL (Debian's libssl-dev)")
+    return f'OPENSSL_MODULES="$PWD/{ARCHIVE}/lib/ossl-modules" OPENSSL_CONF="$PWD/{ARCHIVE}/share/nattizhu/openssl.cnf"'
+
+
+def test_provider_of_the_archive(shell, provider):
     shell("command -v openssl", lacking="openssl (Debian's openssl)")
-    environment = f'OPENSSL_MODULES="$PWD/{ARCHIVE}/lib/ossl-modules" OPENSSL_CONF="$PWD/{ARCHIVE}/share/nattizhu/openssl.cnf"'
-    assert shell(f"printf abc | {environment} openssl dgst -ripemd160") == f"RIPEMD-160(stdin)= {ABC}\n"
+    assert shell(f"printf abc | {provider} openssl dgst -ripemd160") == f"RIPEMD-160(stdin)= {ABC}\n"
+
+
+# Programs of Debian that ask OpenSSL for RIPEMD-160: what makes a file by it, and prints it if it is the same each time; and
+# what takes such a file, and fails where its own digests are others. In a header of LUKS the key and the salts are random.
+CRYPTSETUP = ("cryptsetup luksFormat --type luks1 --hash ripemd160 --pbkdf-force-iterations 1000 --key-file key -q volume",
+              "cryptsetup luksDump --dump-volume-key --key-file key -q volume")
+PYTHON = """python3 -c 'import hashlib, hmac
+print(hashlib.new("ripemd160", b"abc").hexdigest(), hmac.new(b"key", b"abc", "ripemd160").hexdigest(),
+      hashlib.pbkdf2_hmac("ripemd160", b"abc", b"salt", 1000).hex())'"""
+NODE = """node --openssl-shared-config -p 'const { createHash, createHmac, pbkdf2Sync } = crypto;
+[createHash("ripemd160"), createHmac("ripemd160", "key")].map(of => of.update("abc").digest("hex")) +
+pbkdf2Sync("abc", "salt", 1000, 20, "ripemd160").toString("hex")'"""
+DEPENDENTS = {
+    "cryptsetup": CRYPTSETUP,
+    "cryptsetup with the configuration": [f"LD_PRELOAD=./reads.so {command}" for command in CRYPTSETUP],
+    "openssl dgst": ("openssl dgst -ripemd160 -sign key first.c | tee made | base64",
+                     "openssl dgst -ripemd160 -prverify key -signature made first.c"),
+    "openssl cms": ("openssl cms -sign -md ripemd160 -noattr -nodetach -signer certificate -inkey key -in first.c | tee made",
+                    "openssl cms -verify -noverify -in made"),
+    "python3": (PYTHON + " | tee made", PYTHON + " | cmp - made"),
+    "node": (NODE + " | tee made", NODE + " | cmp - made"),
+}
+# cryptsetup asks in a context of its own, for which it reads no configuration. Loaded before libcrypto, this reads it.
+READS = """#define _GNU_SOURCE
+#include <dlfcn.h>
+#include <stddef.h>
+int OSSL_LIB_CTX_load_config(void *context, const char *file);
+void *OSSL_LIB_CTX_new(void) {
+  void *context = ((void *(*)(void))dlsym(RTLD_NEXT, "OSSL_LIB_CTX_new"))();
+  return OSSL_LIB_CTX_load_config(context, NULL) ? context : NULL;
+}
+"""
+
+
+@pytest.fixture(name="environments", scope="module")
+def fixture_environments(debian, shell, provider):
+    """Without the provider, with it, and with it over a library whose digests are wrong."""
+    debian.result()
+    shell("cc -shared -o broken/libnattizhu.so.0 -Wl,-soname,libnattizhu.so.0 "
+          "-Wl,--whole-archive broken/libnattizhu.a -Wl,--no-whole-archive")
+    shell(f"cc -shared -fPIC -o reads.so -x c - <<'.'\n{READS}.\n")
+    shell("openssl req -x509 -newkey rsa:2048 -nodes -keyout key -out certificate -subj /CN=name && truncate -s 4M volume")
+    return {"without": "OPENSSL_CONF=/etc/ssl/openssl.cnf", "with": provider,
+            "broken": f'{provider} LD_LIBRARY_PATH="$PWD/broken"'}
+
+
+@pytest.mark.parametrize("name", DEPENDENTS)
+def test_dependents(shell, environments, name):
+    """What they make without the provider they take with it, and the other way round: they print the same. What they make
+    over the broken library they take over that alone, and so they ask the provider; but cryptsetup by itself does not."""
+    make, take = DEPENDENTS[name]
+    made = {}
+    for maker, environment in environments.items():
+        made[maker] = shell(f"export {environment}; {make}")
+        taken = {user: shell(f"export {other}; {take} || echo refused") for user, other in environments.items()}
+        good = {user: printed for user, printed in taken.items() if not printed.endswith("refused\n")}
+        assert len(set(good.values())) == 1
+        assert [*good] == [user for user in environments
+                           if name == "cryptsetup" or (user == "broken") == (maker == "broken")]
+    assert made["with"] == made["without"]
 
 
 @pytest.fixture(name="python", scope="module")
