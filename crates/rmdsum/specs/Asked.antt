@@ -20,7 +20,9 @@ use Rattle.rmdsum.specs.declared.request.Telling.TheVariants.{Quiet, Status, War
 use Rattle.rmdsum.specs.declared.request.Names.{Names}
 use Rattle.rmdsum.specs.declared.request.Names.TheVariants.{Operands, From}
 use Rattle.rmdsum.specs.declared.request.Request.{Request}
-use Rattle.rmdsum.specs.declared.request.Request.TheVariants.{Help, Version, Print, Check}
+use Rattle.rmdsum.specs.declared.request.Request.TheVariants.{Help, Version, Run}
+use Rattle.rmdsum.specs.declared.request.Work.{Work}
+use Rattle.rmdsum.specs.declared.request.Work.TheVariants.{Print, Check}
 use Rattle.rmdsum.specs.declared.request.Settings.{Settings}
 use Rattle.rmdsum.specs.Words.{Said, gives, last, names_of, hash_in, file_in, mode_in, telling_in}
 
@@ -101,17 +103,22 @@ ending_of zero = if zero then endings.Zero else endings.Newline
 abbrev pub variant_of : List Said → Variant
 variant_of words = unwrap_or (last hash_in words) R160
 
+abbrev pub work_of : List Said → Work
+work_of words =
+    if gives flags.Check words then Check (last hash_in words) (options_of words)
+    else Print (record {
+      variant = variant_of words;
+      form = form_of (gives flags.Tag words) (last mode_in words);
+      ending = ending_of (gives flags.Zero words);
+    })
+
 -- these words ask for this
 abbrev pub Asks : List Said → Request → Type 0
 Asks words Help = true ≡ false
 Asks words Version = true ≡ false
-Asks words (Print variant form ending names progress) =
-    (conflict words ≡ None) × (gives flags.Check words ≡ false)
-    × (variant ≡ variant_of words) × (form ≡ form_of (gives flags.Tag words) (last mode_in words))
-    × (ending ≡ ending_of (gives flags.Zero words)) × AreNames (last file_in words) (names_of words) names × (progress ≡ gives flags.Progress words)
-Asks words (Check only options names progress) =
-    (conflict words ≡ None) × (gives flags.Check words ≡ true)
-    × (only ≡ last hash_in words) × (options ≡ options_of words) × AreNames (last file_in words) (names_of words) names × (progress ≡ gives flags.Progress words)
+Asks words (Run work names progress) =
+    (conflict words ≡ None) × (work ≡ work_of words) × AreNames (last file_in words) (names_of words) names
+    × (progress ≡ gives flags.Progress words)
 
 -- a name beside a file that has the names; or memory is exhausted
 abbrev pub IsExtra : Option (List ℕ) → List (List ℕ) → Refusal → Type 0

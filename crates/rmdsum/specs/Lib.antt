@@ -4,3 +4,4 @@ pub mod Words
 pub mod Asked
 pub mod Arguments
 pub mod Worked
+pub mod Runs

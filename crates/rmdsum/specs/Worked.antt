@@ -1,5 +1,5 @@
 -- Worked command lines. tests/test_rmdsum.py has what `sha256sum` makes of their like.
-use Rattle.std.specs.Prelude.{◌≡◌, ◌↔◌, ℕ, true, false, [], ◌∷◌, codes, Some, None, Vec}
+use Rattle.std.specs.Prelude.{◌≡◌, ◌↔◌, ℕ, Bool, true, false, List, [], ◌∷◌, codes, Some, None, Vec}
 use Rattle.std.specs.Global.{Global}
 use Rattle.ripemd_files.specs.declared.line.Variant.TheVariants.{R128, R160, R256, R320}
 use Rattle.ripemd_files.specs.declared.line.Form.TheVariants as forms
@@ -14,6 +14,13 @@ use Rattle.rmdsum.specs.Words.Said.{Sets, Hashes, Lists, Names}
 use Rattle.rmdsum.specs.Arguments.{reading}
 use Rattle.rmdsum.specs.Arguments.Reading.{Goes, Stops}
 use Rattle.rmdsum.specs.Arguments.Why.{AsksHelp, AsksVersion, UnknownLong, Ambiguous, UnwantedValue, MissingValue, UnknownShort, MissingShortValue, UnknownVariant}
+use Rattle.ripemd_files.specs.declared.line.Variant.{Variant}
+use Rattle.ripemd_files.specs.declared.printing.Style.{Style}
+use Rattle.ripemd_files.specs.declared.verdict.Options.{Options}
+use Rattle.rmdsum.specs.declared.names.Wrong.TheVariants.{Input}
+use Rattle.rmdsum.specs.declared.request.Work.TheVariants as works
+use Rattle.rmdsum.specs.Runs.{Deed, Does}
+use Rattle.rmdsum.specs.Runs.Deed.{Gives, Prints, Checks, Tells}
 use Rattle.rmdsum.specs.Asked.{conflict, options_of, variant_of, form_of, ending_of, or_input, IsExtra}
 
 -- what single arguments say
@@ -85,3 +92,26 @@ pub record WorkedConflicts : Type 0 where
   pub strict : conflict (Sets Strict ∷ []) ≡ Some (OnlyWithCheck Strict)
   pub extra : (operand : Vec ℕ Global) → IsExtra (Some (codes "c")) (codes "a" ∷ codes "b" ∷ []) (Misuse (ExtraOperand operand))
       ↔ (operand.items ≡ codes "a")
+
+-- ---- runs
+
+abbrev usual : Options
+usual = record { ignore_missing = false; quiet = false; status = false; strict = false; warn = false }
+
+abbrev plain : Variant → Style
+plain variant = record { variant = variant; form = forms.Text; ending = endings.Newline }
+
+abbrev checks : List ℕ → Bool → Deed
+checks name answer = Checks None usual name answer
+
+-- what is no right run, and answers
+pub record WorkedRuns : Type 0 where
+  pub one_fails : (success : Bool) → Does (works.Check None usual) (Gives (codes "a" ∷ codes "b" ∷ []) None ∷ checks (codes "a") false ∷ checks (codes "b") true
+      ∷ Tells None true ∷ Gives [] None ∷ []) success → success ≡ false
+  pub all_succeed : (success : Bool) → Does (works.Check None usual) (Gives (codes "a" ∷ codes "b" ∷ []) None ∷ checks (codes "a") true ∷ checks (codes "b") true
+      ∷ Tells None true ∷ Gives [] None ∷ []) success → success ≡ true
+  pub wrong_fails : (success : Bool) → Does (works.Print (plain R160)) (Gives (codes "a" ∷ []) (Some Input) ∷ Prints (plain R160) (codes "a" ∷ []) true
+      ∷ Tells (Some Input) false ∷ []) success → success ≡ false
+  pub skipped : (success : Bool) → Does (works.Check None usual) (Gives (codes "a" ∷ codes "b" ∷ []) None ∷ checks (codes "b") true ∷ Tells None true ∷ []) success → ⊥
+  pub untold : (success : Bool) → Does (works.Check None usual) (Gives [] (Some Input) ∷ Tells None true ∷ []) success → ⊥
+  pub other_style : (success : Bool) → Does (works.Print (plain R160)) (Gives (codes "a" ∷ []) None ∷ Prints (plain R128) (codes "a" ∷ []) true ∷ []) success → ⊥

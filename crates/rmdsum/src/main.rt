@@ -2,7 +2,7 @@
 //! coreutils does with its own.
 #![tactic(auto)]
 
-ghost use Rattle.std.specs.Prelude.{◌≡◌, ◌↔◌, true, codes};
+ghost use Rattle.std.specs.Prelude.{◌≡◌, ◌↔◌, true, None, codes};
 
 mod arguments;
 mod facts;
@@ -13,12 +13,13 @@ mod progress;
 mod quoting;
 mod refusals;
 mod request;
+mod shell;
 mod switches;
 mod system;
 
 use help::{HELP, VERSION};
 use messages::{Console, Message, say};
-use names::Names;
+use names::{Batch, Names, Wrong};
 use request::Request;
 use ripemd_files::checking::check_list;
 use ripemd_files::fault::Fault;
@@ -27,6 +28,7 @@ use ripemd_files::piece::List;
 use ripemd_files::printing::{Style, print_digests};
 use ripemd_files::verdict::Options;
 use ripemd_files::{Layout, Variant};
+use shell::{Shell, do_all};
 use std::alloc::{AllocError, Global};
 use std::env;
 use std::env::VarError;
@@ -36,14 +38,6 @@ use system::{Source, System, buffered, is_input};
 
 // The status of a run that writes to a closed pipe, as a shell shows it for one that SIGPIPE ends.
 const CLOSED: u8 = 128 + 13;
-
-// How lists are checked.
-#[derive(Clone, Copy)]
-struct Check {
-    only: Option<Variant>,
-    options: Options,
-    progress: bool,
-}
 
 // The bytes of names.
 fn slices_of(alloc: Global, names: &[Vec<u8>]) -> Result<Vec<&[u8]>, AllocError> {
@@ -73,86 +67,66 @@ fn rules_of(only: Option<Variant>, name: &[u8]) -> Rules
     }
 }
 
-// Checks a list. Whether the check succeeds.
-fn check_one(
-    rt: &HostRuntime,
-    check: Check,
-    name: &[u8],
-    layout: &mut Option<Layout>,
-) -> Result<bool, Fault> {
-    let source = match Source::open(rt, name) {
-        Ok(source) => source,
-        Err(error) => {
-            say(rt, Message::Unreadable(name, error)).map_err(Fault::Write)?;
-            return Ok(false);
-        }
-    };
-    let rules = rules_of(check.only, name);
-    let shown = if rules.from_input {
-        b"standard input"
-    } else {
-        name
-    };
-    check_list(
-        rt.alloc(),
-        &System::new(rt, check.progress),
-        check.options,
-        rules,
-        layout,
-        &mut List::new(buffered(rt, source)?),
-        &mut Console::of_list(rt, shown, check.only),
-    )
-}
-
-// Checks lists. Whether all checks succeed.
-fn check_all(rt: &HostRuntime, check: Check, names: request::Names) -> Result<bool, Fault> {
-    let Some(mut names) = Names::open(rt, names)? else {
-        return Ok(false);
-    };
-    let mut layout = None;
-    let mut success = true;
-    for _ in 0..u64::MAX {
-        let batch = names.next(rt)?;
-        if batch.names.is_empty() && batch.wrong.is_none() {
-            break;
-        }
-        for name in &batch.names {
-            let checked = check_one(rt, check, name.as_slice(), &mut layout)?;
-            success &= checked;
-        }
-        let named = names.tell(rt, batch.wrong)?;
-        success &= named;
-    }
-    Ok(success)
-}
-
-// Prints the digests of files. Whether all could be read.
-fn print_all(
-    rt: &HostRuntime,
-    style: Style,
+// The system, its files and its terminal.
+#[derive(Drop)]
+struct Terminal<'a> {
+    rt: &'a HostRuntime,
+    names: Names,
     progress: bool,
-    names: request::Names,
-) -> Result<bool, Fault> {
-    let Some(mut names) = Names::open(rt, names)? else {
-        return Ok(false);
-    };
-    let mut success = true;
-    for _ in 0..u64::MAX {
-        let batch = names.next(rt)?;
-        if batch.names.is_empty() && batch.wrong.is_none() {
-            break;
-        }
-        let printed = print_digests(
-            rt.alloc(),
-            &System::new(rt, progress),
-            style,
-            &slices_of(rt.alloc(), batch.names.as_slice())?,
-            &mut Console::of_files(rt),
-        )?;
-        let named = names.tell(rt, batch.wrong)?;
-        success &= printed && named;
+    // That of untagged lines, once a list has one.
+    layout: Option<Layout>,
+}
+
+impl Shell for Terminal<'_> {
+    ghost done = { λ terminal. None };
+
+    fn next(&mut self) -> Result<Batch, Fault> {
+        self.names.next(self.rt)
     }
-    Ok(success)
+
+    fn print(&mut self, style: Style, names: &[Vec<u8>]) -> Result<bool, Fault> {
+        print_digests(
+            self.rt.alloc(),
+            &System::new(self.rt, self.progress),
+            style,
+            &slices_of(self.rt.alloc(), names)?,
+            &mut Console::of_files(self.rt),
+        )
+    }
+
+    fn check(
+        &mut self,
+        only: Option<Variant>,
+        options: Options,
+        name: &[u8],
+    ) -> Result<bool, Fault> {
+        let source = match Source::open(self.rt, name) {
+            Ok(source) => source,
+            Err(error) => {
+                say(self.rt, Message::Unreadable(name, error)).map_err(Fault::Write)?;
+                return Ok(false);
+            }
+        };
+        let rules = rules_of(only, name);
+        let shown = if rules.from_input {
+            b"standard input"
+        } else {
+            name
+        };
+        check_list(
+            self.rt.alloc(),
+            &System::new(self.rt, self.progress),
+            options,
+            rules,
+            &mut self.layout,
+            &mut List::new(buffered(self.rt, source)?),
+            &mut Console::of_list(self.rt, shown, only),
+        )
+    }
+
+    fn tell(&mut self, wrong: Option<Wrong>) -> Result<bool, Fault> {
+        self.names.tell(self.rt, wrong)
+    }
 }
 
 // Does what is asked for. Whether all could be done.
@@ -163,33 +137,22 @@ fn perform(rt: &HostRuntime, request: Request) -> Result<bool, Fault> {
             print(rt, &[b"Usage: ", program.as_slice(), HELP.as_bytes()])
         }
         Request::Version => print(rt, &[VERSION.as_bytes()]),
-        Request::Print {
-            variant,
-            form,
-            ending,
+        Request::Run {
+            work,
             names,
             progress,
-        } => {
-            let style = Style {
-                variant,
-                form,
-                ending,
-            };
-            print_all(rt, style, progress, names)
-        }
-        Request::Check {
-            only,
-            options,
-            names,
-            progress,
-        } => {
-            let check = Check {
-                only,
-                options,
-                progress,
-            };
-            check_all(rt, check, names)
-        }
+        } => match Names::open(rt, names)? {
+            None => Ok(false),
+            Some(names) => do_all(
+                &mut Terminal {
+                    rt,
+                    names,
+                    progress,
+                    layout: None,
+                },
+                work,
+            ),
+        },
     }
 }
 

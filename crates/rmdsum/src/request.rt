@@ -8,6 +8,7 @@ ghost use Rattle.rmdsum.specs.Asked.{Holds, Asks, IsRefused, IsExtra, conflict, 
 
 use crate::refusals::Misuse;
 use crate::switches::Flag;
+use ripemd_files::printing::Style;
 use ripemd_files::verdict::Options;
 use ripemd_files::{Ending, Form, Variant};
 use std::alloc::{AllocError, Global};
@@ -32,29 +33,28 @@ pub enum Request {
     Help,
     /// Say which version it is.
     Version,
-    /// Print the digests of files.
-    Print {
-        /// The hash.
-        variant: Variant,
-        /// How a line is written.
-        form: Form,
-        /// What stands behind a line.
-        ending: Ending,
-        /// The files.
+    /// Do this with files or lists.
+    Run {
+        /// What is done.
+        work: Work,
+        /// The files or lists.
         names: Names,
         /// Whether to tell how far it is.
         progress: bool,
     },
+}
+
+/// What is done with files or lists.
+#[derive(Clone, Copy, Debug, Drop)]
+pub enum Work {
+    /// Print the digests of files.
+    Print(Style),
     /// Check the digests that lists have.
     Check {
         /// The hash whose lines are taken; lines of every hash if none is named.
         only: Option<Variant>,
         /// What is told, and what counts as a failure. At most one of `quiet`, `status` and `warn` is set.
         options: Options,
-        /// The lists.
-        names: Names,
-        /// Whether to tell how far it is.
-        progress: bool,
     },
 }
 
@@ -252,23 +252,23 @@ impl Settings {
         } else {
             Ending::Newline
         };
-        let names = choose_names(alloc, self.names_in, self.names)?;
-        if self.check {
-            Ok(Request::Check {
+        let work = if self.check {
+            Work::Check {
                 only: self.variant,
                 options,
-                names,
-                progress: self.progress,
-            })
+            }
         } else {
-            Ok(Request::Print {
+            Work::Print(Style {
                 variant: self.variant.unwrap_or(Variant::R160),
                 form,
                 ending,
-                names,
-                progress: self.progress,
             })
-        }
+        };
+        Ok(Request::Run {
+            work,
+            names: choose_names(alloc, self.names_in, self.names)?,
+            progress: self.progress,
+        })
     }
 }
 
