@@ -5,7 +5,7 @@ use Rattle.std.proofs.lemmas.List.{drop_more}
 use Rattle.rmdsum.specs.declared.arguments.Next.{Next}
 use Rattle.rmdsum.specs.declared.arguments.Next.TheVariants.{Any}
 use Rattle.rmdsum.specs.Words.{Said}
-use Rattle.rmdsum.specs.Arguments.{Reading, behind, then_reads, reading, says}
+use Rattle.rmdsum.specs.Arguments.{Reading, added, then_reads, reading, says}
 use Rattle.rmdsum.specs.Arguments.Reading.{Goes, Stops}
 
 abbrev words_of : Reading → List Said
@@ -20,27 +20,27 @@ abbrev goes : Reading → Bool
 goes (Goes words next) = true
 goes (Stops why) = false
 
-behind_twice : (first second : List Said) (given : Reading) → behind first (behind second given) ≡ behind (first ++ second) given
-behind_twice first second (Goes words next) = ap (λ all. Goes all next) (sym (append_assoc first second words))
-behind_twice first second (Stops why) = refl
+added_twice : (first second : List Said) (given : Reading) → added first (added second given) ≡ added (first ++ second) given
+added_twice first second (Goes words next) = ap (λ all. Goes all next) (sym (append_assoc first second words))
+added_twice first second (Stops why) = refl
 
--- what stands behind an argument that was read
-pub behind_read : (before after : List Said) (given : Reading) (next : Next) (rest : Next → Reading)
-    → behind before given ≡ Goes after next → behind before (then_reads given rest) ≡ behind after (rest next)
-behind_read before after (Goes words first) next rest read =
+-- what stands after an argument that was read
+pub added_read : (before after : List Said) (given : Reading) (next : Next) (rest : Next → Reading)
+    → added before given ≡ Goes after next → added before (then_reads given rest) ≡ added after (rest next)
+added_read before after (Goes words first) next rest read =
     let said : before ++ words ≡ after = ap words_of read in
     let then : first ≡ next = ap next_of read in
-    behind_twice before words (rest first) ∙ (rw (said, then) refl)
-behind_read before after (Stops why) next rest read = absurd (true≢false (sym (ap goes read)))
+    added_twice before words (rest first) ∙ (rw (said, then) refl)
+added_read before after (Stops why) next rest read = absurd (true≢false (sym (ap goes read)))
 
 -- one argument more
 pub one_more : (last : Bool) (whole : Reading) (before after : List Said) (now next : Next) (arguments : List (Vec ℕ Global)) (i : ℕ)
     (argument : Vec ℕ Global) → i < length arguments → get_or arguments i argument ≡ argument
-    → whole ≡ behind before (reading last now (map vec_items (drop i arguments)))
-    → behind before (says last now (vec_items argument)) ≡ Goes after next
-    → whole ≡ behind after (reading last next (map vec_items (drop (i + 1) arguments)))
+    → whole ≡ added before (reading last now (map vec_items (drop i arguments)))
+    → added before (says last now (vec_items argument)) ≡ Goes after next
+    → whole ≡ added after (reading last next (map vec_items (drop (i + 1) arguments)))
 one_more last whole before after now next arguments i argument within is was read =
-    was ∙ ap (λ list. behind before (reading last now (map vec_items list))) (drop_more arguments i argument within)
-    ∙ ap (λ first. behind before (reading last now (map vec_items (first ∷ drop (i + 1) arguments)))) is
-    ∙ behind_read before after (says last now (vec_items argument)) next
+    was ∙ ap (λ list. added before (reading last now (map vec_items list))) (drop_more arguments i argument within)
+    ∙ ap (λ first. added before (reading last now (map vec_items (first ∷ drop (i + 1) arguments)))) is
+    ∙ added_read before after (says last now (vec_items argument)) next
     (λ following. reading last following (map vec_items (drop (i + 1) arguments))) read

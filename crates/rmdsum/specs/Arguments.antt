@@ -24,7 +24,7 @@ use Rattle.rmdsum.specs.declared.request.Refusal.TheVariants as refusals
 use Rattle.rmdsum.specs.Options.{by_letter, by_name}
 use Rattle.rmdsum.specs.Words.{Said, said}
 use Rattle.rmdsum.specs.declared.request.Word.{Word}
-use Rattle.rmdsum.specs.Words.Said.{Sets, Hashes, Lists, Names}
+use Rattle.rmdsum.specs.Words.Said.{Sets, Hashes, NamedIn, Names}
 use Rattle.rmdsum.specs.Asked.{Asks, IsRefused}
 
 -- ---- the names of the variants
@@ -63,23 +63,23 @@ pub data Why : Type 0 where
   UnknownShort : ℕ → Why
   MissingShortValue : ℕ → Why
   UnknownVariant : List ℕ → Why
-  NoArgument : Why
+  NotInReading : Why
 
 -- these words, and what the next argument is; or why there is no next
 pub data Reading : Type 0 where
   Goes : List Said → Next → Reading
   Stops : Why → Reading
 
-abbrev pub behind : List Said → Reading → Reading
-behind before (Goes words next) = Goes (before ++ words) next
-behind before (Stops why) = Stops why
+abbrev pub added : List Said → Reading → Reading
+added before (Goes words next) = Goes (before ++ words) next
+added before (Stops why) = Stops why
 
--- what is said, and then what is said behind it
+-- what is said, and then what is said after it
 abbrev pub then_reads : Reading → (Next → Reading) → Reading
-then_reads (Goes words next) rest = behind words (rest next)
+then_reads (Goes words next) rest = added words (rest next)
 then_reads (Stops why) rest = Stops why
 
--- two options end the run at once
+-- `--help` and `--version` end the reading
 abbrev pub flag_says : Flag → Reading
 flag_says Help = Stops AsksHelp
 flag_says Version = Stops AsksVersion
@@ -91,17 +91,17 @@ or_unknown value None = Stops (UnknownVariant value)
 
 abbrev pub value_says : Parameter → List ℕ → Reading
 value_says Algorithm value = or_unknown value (variant_named value)
-value_says FilesFrom value = Goes (Lists value ∷ []) Any
+value_says FilesFrom value = Goes (NamedIn value ∷ []) Any
 
 -- what stands before the first equals sign
 abbrev pub before_equals : List ℕ → List ℕ
 before_equals [] = []
 before_equals (byte ∷ text) = if byte == 61 then [] else byte ∷ before_equals text
 
--- what stands behind it, if there is one
-abbrev pub behind_equals : List ℕ → Option (List ℕ)
-behind_equals [] = None
-behind_equals (byte ∷ text) = if byte == 61 then Some text else behind_equals text
+-- what stands after it, if there is one
+abbrev pub after_equals : List ℕ → Option (List ℕ)
+after_equals [] = None
+after_equals (byte ∷ text) = if byte == 61 then Some text else after_equals text
 
 abbrev pub flag_with : Flag → Option (List ℕ) → Reading
 flag_with flag None = flag_says flag
@@ -117,18 +117,18 @@ switch_says text Several value = Stops (Ambiguous text)
 switch_says text (One (switches.Flag flag)) value = flag_with flag value
 switch_says text (One (switches.Parameter parameter)) value = parameter_with parameter value
 
--- what stands behind `--`
+-- what stands after `--`
 abbrev pub long_says : List ℕ → Reading
-long_says text = switch_says text (by_name (before_equals text)) (behind_equals text)
+long_says text = switch_says text (by_name (before_equals text)) (after_equals text)
 
--- the letter of an option, and what stands behind it
+-- the letter of an option, and what stands after it
 abbrev pub letter_says : ℕ → Option Switch → List ℕ → Reading → Reading
 letter_says letter None value rest = Stops (UnknownShort letter)
 letter_says letter (Some (switches.Flag flag)) value rest = then_reads (flag_says flag) (λ next. rest)
 letter_says letter (Some (switches.Parameter parameter)) [] rest = Goes [] (ShortValue parameter letter)
 letter_says letter (Some (switches.Parameter parameter)) (byte ∷ value) rest = value_says parameter (byte ∷ value)
 
--- letters behind `-`
+-- letters after `-`
 abbrev pub letters_say : List ℕ → Reading
 letters_say [] = Goes [] Any
 letters_say (letter ∷ letters) = letter_says letter (by_letter letter) letters (letters_say letters)
@@ -136,7 +136,7 @@ letters_say (letter ∷ letters) = letter_says letter (by_letter letter) letters
 abbrev pub operand_says : Bool → List ℕ → Reading
 operand_says last argument = Goes (Names argument ∷ []) (if last then Operand else Any)
 
--- what stands behind a hyphen
+-- what stands after a hyphen
 abbrev pub option_says : List ℕ → Reading
 option_says [] = letters_say []
 option_says (byte ∷ []) = if byte == 45 then Goes [] Operand else letters_say (byte ∷ [])
@@ -171,7 +171,7 @@ reading last next (argument ∷ arguments) = then_reads (says last next argument
 
 -- these words are added to what was said
 abbrev pub Reads : Reading → List Said → List Said → Next → Type 0
-Reads given before after next = behind before given ≡ Goes after next
+Reads given before after next = added before given ≡ Goes after next
 
 -- these words are said, and no value is missing
 abbrev pub Says : Reading → List Word → Type 0
@@ -185,7 +185,7 @@ why_of (misuses.MissingValue parameter) = MissingValue parameter
 why_of (misuses.UnknownShort letter) = UnknownShort letter
 why_of (misuses.MissingShortValue letter) = MissingShortValue letter
 why_of (misuses.UnknownVariant name) = UnknownVariant name.items
-why_of _ = NoArgument
+why_of _ = NotInReading
 
 abbrev pub Answers : Reading → Result Request Misuse → Type 0
 Answers (Goes words next) (Ok request) = Asks (reverse words) request

@@ -17,8 +17,8 @@ use Rattle.rmdsum.specs.declared.request.Mode.{Mode}
 use Rattle.rmdsum.specs.declared.request.Mode.TheVariants.{Binary, Text}
 use Rattle.rmdsum.specs.declared.request.Telling.{Telling}
 use Rattle.rmdsum.specs.declared.request.Telling.TheVariants.{Quiet, Status, Warn}
-use Rattle.rmdsum.specs.declared.request.Names.{Names}
-use Rattle.rmdsum.specs.declared.request.Names.TheVariants.{Operands, From}
+use Rattle.rmdsum.specs.declared.request.NameSource.{NameSource}
+use Rattle.rmdsum.specs.declared.request.NameSource.TheVariants.{Operands, From}
 use Rattle.rmdsum.specs.declared.request.Request.{Request}
 use Rattle.rmdsum.specs.declared.request.Request.TheVariants.{Help, Version, Run}
 use Rattle.rmdsum.specs.declared.request.Work.{Work}
@@ -64,8 +64,8 @@ abbrev pub or_input : List (List ℕ) → List (List ℕ)
 or_input [] = codes "-" ∷ []
 or_input (name ∷ names) = name ∷ names
 
--- of the file that has names, and of the names that were given, these are taken
-abbrev pub AreNames : Option (List ℕ) → List (List ℕ) → Names → Type 0
+-- the request takes the names that were given, or those of the file, and never both
+abbrev pub AreNames : Option (List ℕ) → List (List ℕ) → NameSource → Type 0
 AreNames file names (Operands operands) = (file ≡ None) × (map vec_items operands.items ≡ or_input names)
 AreNames file names (From from) = (file ≡ Some from.items) × (names ≡ [])
 
@@ -120,7 +120,7 @@ Asks words (Run work names progress) =
     (conflict words ≡ None) × (work ≡ work_of words) × AreNames (last file_in words) (names_of words) names
     × (progress ≡ gives flags.Progress words)
 
--- a name beside a file that has the names; or memory is exhausted
+-- an operand beside `--files0-from`; or memory is exhausted
 abbrev pub IsExtra : Option (List ℕ) → List (List ℕ) → Refusal → Type 0
 IsExtra file names OutOfMemory = ⊤
 IsExtra file names (Misuse (ExtraOperand operand)) = IsSome file × (slice_get names 0 ≡ Some operand.items)

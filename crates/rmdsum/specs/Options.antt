@@ -10,7 +10,7 @@ use Rattle.rmdsum.specs.declared.switches.Found.{Found}
 use Rattle.rmdsum.specs.declared.switches.Found.TheVariants.{Nothing, One, Several}
 use Rattle.rmdsum.specs.declared.switches.Flag.TheVariants.{Binary, Check, Help, IgnoreMissing, Progress, Quiet, Status, Strict, Tag, Text, Version, Warn, Zero}
 
--- what stands behind `--`
+-- what stands after `--`
 abbrev pub flag_name : Flag → List ℕ
 flag_name Binary = codes "binary"
 flag_name Check = codes "check"
@@ -45,16 +45,13 @@ by_letter letter =
     else if letter == 122 then Some (switches.Flag Zero)
     else None
 
--- all, in the order in which an ambiguous one lists them
+-- all, as the message about an ambiguous one lists them
 abbrev pub switches_in_order : List Switch
 switches_in_order =
     switches.Flag Check ∷ switches.Flag IgnoreMissing ∷ switches.Flag Quiet ∷ switches.Flag Status ∷ switches.Flag Warn
     ∷ switches.Flag Strict ∷ switches.Flag Tag ∷ switches.Flag Zero ∷ switches.Parameter Algorithm ∷ switches.Flag Binary
     ∷ switches.Flag Text ∷ switches.Parameter FilesFrom ∷ switches.Flag Progress ∷ switches.Flag Help ∷ switches.Flag Version
     ∷ []
-
-abbrev pub is_name : List ℕ → Switch → Bool
-is_name name switch = bytes_eq (long_name switch) name
 
 abbrev pub begins : List ℕ → Switch → Bool
 begins name switch = starts_with nat_eq (long_name switch) name
@@ -64,16 +61,12 @@ alone [] = Nothing
 alone (switch ∷ []) = One switch
 alone (switch ∷ other ∷ rest) = Several
 
--- these, and more that are candidates
+-- the answer when these are candidates too
 abbrev pub joined : Found → List Switch → Found
 joined Nothing more = alone more
 joined (One switch) more = alone (switch ∷ more)
 joined Several more = Several
 
-abbrev pub or_else : Option Switch → Found → Found
-or_else (Some switch) found = One switch
-or_else None found = found
-
--- the option of this name, or else the only one whose name begins so
+-- The only option whose name begins so. No name here begins another, so that a whole name is one.
 unfoldable pub by_name : List ℕ → Found
-by_name name = or_else (find (is_name name) switches_in_order) (alone (filter (begins name) switches_in_order))
+by_name name = alone (filter (begins name) switches_in_order)

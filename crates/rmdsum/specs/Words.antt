@@ -1,4 +1,4 @@
--- What an argument says.
+-- Options with their values, and operands: what arguments say.
 use Rattle.std.specs.Prelude.{ℕ, Bool, false, List, [], ◌∷◌, ◌++◌, Option, Some, None, bytes_eq, vec_items}
 use Rattle.std.specs.List.{list_any}
 use Rattle.ripemd_files.specs.declared.line.Variant.{Variant}
@@ -16,19 +16,20 @@ use Rattle.rmdsum.specs.declared.request.Word.TheVariants.{Set, Hash, NamesIn, F
 pub data Said : Type 0 where
   Sets : Flag → Said
   Hashes : Variant → Said
-  Lists : List ℕ → Said
+  NamedIn : List ℕ → Said
   Names : List ℕ → Said
 
 abbrev pub said : Word → Said
 said (Set flag) = Sets flag
 said (Hash variant) = Hashes variant
-said (NamesIn file) = Lists (vec_items file)
+said (NamesIn file) = NamedIn (vec_items file)
 said (File name) = Names (vec_items name)
 
+-- this option is set, which its name tells
 abbrev pub sets : Flag → Said → Bool
 sets flag (Sets other) = bytes_eq (flag_name flag) (flag_name other)
 sets flag (Hashes variant) = false
-sets flag (Lists file) = false
+sets flag (NamedIn file) = false
 sets flag (Names name) = false
 
 abbrev pub hash_in : Said → Option Variant
@@ -36,14 +37,14 @@ hash_in (Hashes variant) = Some variant
 hash_in _ = None
 
 abbrev pub file_in : Said → Option (List ℕ)
-file_in (Lists file) = Some file
+file_in (NamedIn file) = Some file
 file_in _ = None
 
 abbrev pub name_in : Said → List (List ℕ)
 name_in (Names name) = name ∷ []
 name_in _ = []
 
--- `--tag` reads files as bytes
+-- `--tag` is binary mode, too
 abbrev pub mode_in : Said → Option Mode
 mode_in (Sets Binary) = Some modes.Binary
 mode_in (Sets Tag) = Some modes.Binary

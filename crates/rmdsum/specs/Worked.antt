@@ -1,5 +1,5 @@
--- Worked command lines. tests/test_rmdsum.py has what `sha256sum` makes of their like.
-use Rattle.std.specs.Prelude.{◌≡◌, ◌↔◌, ℕ, Bool, true, false, List, [], ◌∷◌, codes, Some, None, Vec}
+-- Worked command lines. tests/test_rmdsum.py compares such lines with `sha256sum`.
+use Rattle.std.specs.Prelude.{◌≡◌, ◌↔◌, ℕ, Bool, true, false, List, [], ◌∷◌, map, codes, Some, None, Ok, Err, vec_items, Vec}
 use Rattle.std.specs.Global.{Global}
 use Rattle.ripemd_files.specs.declared.line.Variant.TheVariants.{R128, R160, R256, R320}
 use Rattle.ripemd_files.specs.declared.line.Form.TheVariants as forms
@@ -10,8 +10,10 @@ use Rattle.rmdsum.specs.declared.arguments.Next.TheVariants.{Any, Operand}
 use Rattle.rmdsum.specs.declared.refusals.Misuse.TheVariants.{TextWithTag, ZeroWithCheck, TagWithCheck, ModeWithCheck, OnlyWithCheck, ExtraOperand}
 use Rattle.rmdsum.specs.declared.request.Refusal.TheVariants.{Misuse}
 use Rattle.rmdsum.specs.Words.{gives, last, names_of, file_in, mode_in}
-use Rattle.rmdsum.specs.Words.Said.{Sets, Hashes, Lists, Names}
-use Rattle.rmdsum.specs.Arguments.{reading}
+use Rattle.rmdsum.specs.Words.Said.{Sets, Hashes, NamedIn, Names}
+use Rattle.rmdsum.specs.Arguments.{reading, Answers}
+use Rattle.rmdsum.specs.declared.request.Request.TheVariants.{Run, Help, Version}
+use Rattle.rmdsum.specs.declared.request.NameSource.TheVariants.{Operands}
 use Rattle.rmdsum.specs.Arguments.Reading.{Goes, Stops}
 use Rattle.rmdsum.specs.Arguments.Why.{AsksHelp, AsksVersion, UnknownLong, Ambiguous, UnwantedValue, MissingValue, UnknownShort, MissingShortValue, UnknownVariant}
 use Rattle.ripemd_files.specs.declared.line.Variant.{Variant}
@@ -19,8 +21,8 @@ use Rattle.ripemd_files.specs.declared.printing.Style.{Style}
 use Rattle.ripemd_files.specs.declared.verdict.Options.{Options}
 use Rattle.rmdsum.specs.declared.names.Wrong.TheVariants.{Input}
 use Rattle.rmdsum.specs.declared.request.Work.TheVariants as works
-use Rattle.rmdsum.specs.Runs.{Deed, Does}
-use Rattle.rmdsum.specs.Runs.Deed.{Gives, Prints, Checks, Tells}
+use Rattle.rmdsum.specs.Runs.{Deed, IsRun}
+use Rattle.rmdsum.specs.Runs.Deed.{Gets, Prints, Checks, Says}
 use Rattle.rmdsum.specs.Asked.{conflict, options_of, variant_of, form_of, ending_of, or_input, IsExtra}
 
 -- what single arguments say
@@ -35,16 +37,16 @@ pub record WorkedArguments : Type 0 where
   pub short : reading false Any (codes "--str" ∷ codes "--ta" ∷ codes "--a=128" ∷ []) ≡ Goes (Sets Strict ∷ Sets Tag ∷ Hashes R128 ∷ []) Any
   pub values : reading false Any (codes "-a" ∷ codes "160" ∷ codes "-a256" ∷ codes "-ca" ∷ codes "320" ∷ codes "--algorithm" ∷ codes "128" ∷ [])
       ≡ Goes (Hashes R160 ∷ Hashes R256 ∷ Sets Check ∷ Hashes R320 ∷ Hashes R128 ∷ []) Any
-  pub files : reading false Any (codes "--files0-from=a=b" ∷ codes "--files0-from" ∷ codes "--" ∷ []) ≡ Goes (Lists (codes "a=b") ∷ Lists (codes "--") ∷ []) Any
-  pub behind : reading false Any (codes "a" ∷ codes "-c" ∷ codes "--" ∷ codes "-c" ∷ codes "--" ∷ [])
+  pub files : reading false Any (codes "--files0-from=a=b" ∷ codes "--files0-from" ∷ codes "--" ∷ []) ≡ Goes (NamedIn (codes "a=b") ∷ NamedIn (codes "--") ∷ []) Any
+  pub after : reading false Any (codes "a" ∷ codes "-c" ∷ codes "--" ∷ codes "-c" ∷ codes "--" ∷ [])
       ≡ Goes (Names (codes "a") ∷ Sets Check ∷ Names (codes "-c") ∷ Names (codes "--") ∷ []) Operand
   pub posix : reading true Any (codes "-c" ∷ codes "a" ∷ codes "-c" ∷ []) ≡ Goes (Sets Check ∷ Names (codes "a") ∷ Names (codes "-c") ∷ []) Operand
+  pub last : reading true Any (codes "-" ∷ codes "--version" ∷ []) ≡ Goes (Names (codes "-") ∷ Names (codes "--version") ∷ []) Operand
 
 -- why no more are read
 pub record WorkedStops : Type 0 where
   pub help : reading false Any (codes "-c" ∷ codes "--help" ∷ codes "--nothing" ∷ []) ≡ Stops AsksHelp
   pub version : reading false Any (codes "a" ∷ codes "--version" ∷ []) ≡ Stops AsksVersion
-  pub operand : reading true Any (codes "a" ∷ codes "--version" ∷ []) ≡ Goes (Names (codes "a") ∷ Names (codes "--version") ∷ []) Operand
   pub long : reading false Any (codes "--nothing=1" ∷ []) ≡ Stops (UnknownLong (codes "nothing=1"))
   pub empty : reading false Any (codes "--=" ∷ []) ≡ Stops (Ambiguous (codes "="))
   pub ambiguous : reading false Any (codes "--st" ∷ codes "--help" ∷ []) ≡ Stops (Ambiguous (codes "st"))
@@ -53,6 +55,8 @@ pub record WorkedStops : Type 0 where
   pub value_2 : reading false Any (codes "--files0-from" ∷ []) ≡ Stops (MissingValue FilesFrom)
   pub short_value : reading false Any (codes "-ca" ∷ []) ≡ Stops (MissingShortValue 97)
   pub short : reading false Any (codes "-cx" ∷ []) ≡ Stops (UnknownShort 120)
+  pub hyphens : reading false Any (codes "---" ∷ []) ≡ Stops (UnknownLong (codes "-"))
+  pub hyphen : reading false Any (codes "-b-" ∷ []) ≡ Stops (UnknownShort 45)
   pub variant : reading false Any (codes "-a" ∷ codes "1600" ∷ codes "--help" ∷ []) ≡ Stops (UnknownVariant (codes "1600"))
 
 -- what words ask for, of which the last comes first
@@ -61,7 +65,7 @@ pub record WorkedWords : Type 0 where
   pub variant_2 : variant_of (Sets Check ∷ Hashes R128 ∷ Hashes R256 ∷ []) ≡ R128
   pub input : or_input (names_of (Sets Check ∷ [])) ≡ codes "-" ∷ []
   pub names : or_input (names_of (Names (codes "b") ∷ Sets Check ∷ Names (codes "a") ∷ [])) ≡ codes "a" ∷ codes "b" ∷ []
-  pub file : last file_in (Lists (codes "b") ∷ Names (codes "c") ∷ Lists (codes "a") ∷ []) ≡ Some (codes "b")
+  pub file : last file_in (NamedIn (codes "b") ∷ Names (codes "c") ∷ NamedIn (codes "a") ∷ []) ≡ Some (codes "b")
   pub text : form_of false (last mode_in (Sets Check ∷ [])) ≡ forms.Text
   pub text_last : form_of false (last mode_in (Sets Text ∷ Sets Binary ∷ [])) ≡ forms.Text
   pub binary : form_of false (last mode_in (Sets Binary ∷ Sets Text ∷ [])) ≡ forms.Binary
@@ -81,7 +85,9 @@ pub record WorkedConflicts : Type 0 where
   pub print : conflict (Sets Tag ∷ Sets Text ∷ Sets Zero ∷ Sets Progress ∷ []) ≡ None
   pub check : conflict (Sets Check ∷ Sets IgnoreMissing ∷ Sets Strict ∷ Sets Warn ∷ []) ≡ None
   pub text : conflict (Sets Text ∷ Sets Tag ∷ Sets Check ∷ []) ≡ Some TextWithTag
+  pub text_first : conflict (Sets Strict ∷ Sets Text ∷ Sets Tag ∷ []) ≡ Some TextWithTag
   pub zero : conflict (Sets Zero ∷ Sets Tag ∷ Sets Check ∷ []) ≡ Some ZeroWithCheck
+  pub zero_first : conflict (Sets Text ∷ Sets Zero ∷ Sets Check ∷ []) ≡ Some ZeroWithCheck
   pub tag : conflict (Sets Check ∷ Sets Tag ∷ []) ≡ Some TagWithCheck
   pub binary : conflict (Sets Binary ∷ Sets Check ∷ []) ≡ Some ModeWithCheck
   pub mode : conflict (Sets Check ∷ Sets Text ∷ []) ≡ Some ModeWithCheck
@@ -93,25 +99,49 @@ pub record WorkedConflicts : Type 0 where
   pub extra : (operand : Vec ℕ Global) → IsExtra (Some (codes "c")) (codes "a" ∷ codes "b" ∷ []) (Misuse (ExtraOperand operand))
       ↔ (operand.items ≡ codes "a")
 
--- ---- runs
-
-abbrev usual : Options
+abbrev pub usual : Options
 usual = record { ignore_missing = false; quiet = false; status = false; strict = false; warn = false }
 
-abbrev plain : Variant → Style
+-- what whole command lines ask for
+pub record WorkedAnswers : Type 0 where
+  pub tagged : (names : Vec (Vec ℕ Global) Global) → map vec_items names.items ≡ codes "a" ∷ []
+      → Answers (reading false Any (codes "--text" ∷ codes "--tag" ∷ codes "a" ∷ []))
+      (Ok (Run (works.Print (record { variant = R160; form = forms.Tagged; ending = endings.Newline })) (Operands names) false))
+  pub check : (names : Vec (Vec ℕ Global) Global) → map vec_items names.items ≡ codes "-" ∷ []
+      → Answers (reading false Any (codes "-c" ∷ codes "-a" ∷ codes "128" ∷ codes "--progress" ∷ []))
+      (Ok (Run (works.Check (Some R128) usual) (Operands names) true))
+  pub text : Answers (reading false Any (codes "--tag" ∷ codes "--text" ∷ [])) (Err TextWithTag)
+  pub not_text : ¬ Answers (reading false Any (codes "--text" ∷ codes "--tag" ∷ [])) (Err TextWithTag)
+  pub zero : Answers (reading false Any (codes "-cz" ∷ codes "--files0-from=b" ∷ codes "a" ∷ [])) (Err ZeroWithCheck)
+  pub help : Answers (reading false Any (codes "--help" ∷ codes "--nothing" ∷ [])) (Ok Help)
+  pub not_version : ¬ Answers (reading false Any (codes "--help" ∷ [])) (Ok Version)
+
+-- ---- runs
+
+abbrev pub plain : Variant → Style
 plain variant = record { variant = variant; form = forms.Text; ending = endings.Newline }
 
-abbrev checks : List ℕ → Bool → Deed
+abbrev pub checks : List ℕ → Bool → Deed
 checks name answer = Checks None usual name answer
 
--- what is no right run, and answers
+-- a run over two lists, whose answers are these
+abbrev pub two_lists : Bool → Bool → List Deed
+two_lists one other = Gets (codes "a" ∷ codes "b" ∷ []) None ∷ checks (codes "a") one ∷ checks (codes "b") other ∷ Says None true ∷ Gets [] None ∷ []
+
+-- runs, and what is none
 pub record WorkedRuns : Type 0 where
-  pub one_fails : (success : Bool) → Does (works.Check None usual) (Gives (codes "a" ∷ codes "b" ∷ []) None ∷ checks (codes "a") false ∷ checks (codes "b") true
-      ∷ Tells None true ∷ Gives [] None ∷ []) success → success ≡ false
-  pub all_succeed : (success : Bool) → Does (works.Check None usual) (Gives (codes "a" ∷ codes "b" ∷ []) None ∷ checks (codes "a") true ∷ checks (codes "b") true
-      ∷ Tells None true ∷ Gives [] None ∷ []) success → success ≡ true
-  pub wrong_fails : (success : Bool) → Does (works.Print (plain R160)) (Gives (codes "a" ∷ []) (Some Input) ∷ Prints (plain R160) (codes "a" ∷ []) true
-      ∷ Tells (Some Input) false ∷ []) success → success ≡ false
-  pub skipped : (success : Bool) → Does (works.Check None usual) (Gives (codes "a" ∷ codes "b" ∷ []) None ∷ checks (codes "b") true ∷ Tells None true ∷ []) success → ⊥
-  pub untold : (success : Bool) → Does (works.Check None usual) (Gives [] (Some Input) ∷ Tells None true ∷ []) success → ⊥
-  pub other_style : (success : Bool) → Does (works.Print (plain R160)) (Gives (codes "a" ∷ []) None ∷ Prints (plain R128) (codes "a" ∷ []) true ∷ []) success → ⊥
+  pub no_name : IsRun (works.Check None usual) (Gets [] None ∷ []) true
+  pub succeeds : IsRun (works.Check None usual) (two_lists true true) true
+  pub one_fails : IsRun (works.Check None usual) (two_lists false true) false
+  pub has_failed : (success : Bool) → IsRun (works.Check None usual) (two_lists false true) success → success ≡ false
+  pub fault : IsRun (works.Print (plain R160)) (Gets (codes "a" ∷ []) (Some Input) ∷ Prints (plain R160) (codes "a" ∷ []) true ∷ Says (Some Input) false
+      ∷ Gets [] None ∷ []) false
+  pub early : (success : Bool) → ¬ IsRun (works.Print (plain R160)) (Gets (codes "a" ∷ []) (Some Input) ∷ Says (Some Input) false
+      ∷ Prints (plain R160) (codes "a" ∷ []) true ∷ Gets [] None ∷ []) success
+  pub not_ended : (success : Bool) → ¬ IsRun (works.Check None usual) (Gets (codes "a" ∷ []) None ∷ checks (codes "a") true ∷ Says None true ∷ []) success
+  pub nothing : (success : Bool) → ¬ IsRun (works.Check None usual) [] success
+  pub skipped : (success : Bool) → ¬ IsRun (works.Check None usual) (Gets (codes "a" ∷ codes "b" ∷ []) None ∷ checks (codes "b") true ∷ Says None true
+      ∷ Gets [] None ∷ []) success
+  pub unsaid : (success : Bool) → ¬ IsRun (works.Check None usual) (Gets [] (Some Input) ∷ Says None true ∷ Gets [] None ∷ []) success
+  pub other_style : (success : Bool) → ¬ IsRun (works.Print (plain R160)) (Gets (codes "a" ∷ []) None ∷ Prints (plain R128) (codes "a" ∷ []) true
+      ∷ Gets [] None ∷ []) success

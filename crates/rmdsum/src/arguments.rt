@@ -52,7 +52,7 @@ pub fn program(env: &impl Env, alloc: Global) -> Result<Vec<u8>, AllocError> {
     }
 }
 
-/// The arguments behind the program's name.
+/// The arguments after the program's name.
 pub fn collect(env: &impl Env, alloc: Global) -> Result<Vec<Vec<u8>>, AllocError> {
     let mut arguments = Vec::new(alloc);
     for place in 1..usize::MAX {
@@ -69,7 +69,10 @@ fn argument(env: &impl Env, alloc: Global, place: usize) -> Result<Option<Vec<u8
     for bits in 8..48u32 {
         let mut buffer = vec![in alloc; 0; 1usize << bits]?;
         match env.arg(place, buffer.as_mut_slice()) {
-            Ok(length) => return Ok(Some(Vec::from_slice(alloc, &buffer[..length])?)),
+            Ok(length) => {
+                buffer.truncate(length);
+                return Ok(Some(buffer));
+            }
             Err(FillError::NotPresent) => return Ok(None),
             Err(FillError::TooLong) => {}
         }
@@ -77,8 +80,8 @@ fn argument(env: &impl Env, alloc: Global, place: usize) -> Result<Option<Vec<u8
     Err(AllocError)
 }
 
-/// What the arguments behind the program's name ask for, by the rules of `getopt_long` and of
-/// `sha256sum`: options stand before and behind operands, unless `operands_last`, and long ones may be cut short.
+/// What the arguments after the program's name ask for, by the rules of `getopt_long` and of `sha256sum`. Options may
+/// stand before and after operands; with `operands_last` the first operand ends them. Long names may be cut short.
 pub fn parse(
     alloc: Global,
     operands_last: bool,
@@ -117,7 +120,7 @@ fn read_all(alloc: Global, operands_last: bool, arguments: &[Vec<u8>]) -> Result
     }
 }
 
-// Adds what an argument says, and answers what the one behind it is.
+// Adds what an argument says, and returns what the next one is.
 fn read(
     alloc: Global,
     operands_last: bool,
@@ -166,7 +169,7 @@ fn read_any(
     }
 }
 
-// Adds what stands behind a hyphen.
+// Reads an argument that begins with a hyphen, of which this is the rest.
 fn read_option(alloc: Global, text: &[u8], words: &mut Vec<Word>) -> Result<Next, Stop>
     ensures ok { IfOk result (Reads (option_says text.now) (map said words.old.items) (map said words.new.items)) }
     ensures err { IfErr result (IsStop (option_says text.now)) }
@@ -178,7 +181,7 @@ fn read_option(alloc: Global, text: &[u8], words: &mut Vec<Word>) -> Result<Next
     }
 }
 
-// Adds what stands behind `--`.
+// Reads a long option, of which this stands after `--`.
 fn read_long(alloc: Global, text: &[u8], words: &mut Vec<Word>) -> Result<Next, Stop>
     ensures ok { IfOk result (Reads (long_says text.now) (map said words.old.items) (map said words.new.items)) }
     ensures err { IfErr result (IsStop (long_says text.now)) }
@@ -198,7 +201,7 @@ fn read_long(alloc: Global, text: &[u8], words: &mut Vec<Word>) -> Result<Next, 
     }
 }
 
-// Adds the letters behind `-`. Behind the letter of an option with a value stands its value.
+// Reads short options. After the letter of one with a value stands its value, or the next argument is it.
 fn read_short(alloc: Global, letters: &[u8], words: &mut Vec<Word>) -> Result<Next, Stop>
     ensures ok { IfOk result (Reads (letters_say letters.now) (map said words.old.items) (map said words.new.items)) }
     ensures err { IfErr result (IsStop (letters_say letters.now)) }
@@ -221,7 +224,7 @@ fn read_short(alloc: Global, letters: &[u8], words: &mut Vec<Word>) -> Result<Ne
     Ok(Next::Any)
 }
 
-// Adds an option without a value; two end the run at once.
+// Adds an option without a value. `--help` and `--version` end the reading.
 fn add_flag(flag: Flag, words: &mut Vec<Word>) -> Result<Next, Stop>
     ensures ok { IfOk result (Reads (flag_says flag) (map said words.old.items) (map said words.new.items)) }
     ensures err { IfErr result (IsStop (flag_says flag)) }
@@ -259,7 +262,7 @@ fn add_parameter(
     }
 }
 
-// Adds a word. Behind it stands this.
+// Adds a word, and returns what the next argument is.
 fn add(word: Word, next: Next, words: &mut Vec<Word>) -> Result<Next, Stop>
     ensures ok { IfOk result (Reads (Goes (said word ∷ []) next) (map said words.old.items) (map said words.new.items)) }
     ensures err { IfErr result (λ stop. stop ≡ OutOfMemory) }

@@ -1,7 +1,7 @@
 //! What is proved of the definitions. The functions do nothing; their contracts are the facts.
 
 ghost use Rattle.rmdsum.specs.Arguments.{NamesAreLengths};
-ghost use Rattle.rmdsum.specs.Worked.{WorkedArguments, WorkedStops, WorkedWords, WorkedConflicts, WorkedRuns};
+ghost use Rattle.rmdsum.specs.Worked.{WorkedArguments, WorkedStops, WorkedWords, WorkedConflicts, WorkedAnswers, WorkedRuns};
 
 /// The name of a variant is the length of its digest in bits.
 pub fn named_lengths()
@@ -19,6 +19,12 @@ pub fn worked_arguments()
 pub fn worked_requests()
     ensures words { WorkedWords }
     ensures conflicts { WorkedConflicts }
+{}
+
+/// What whole command lines ask for.
+#[tactic(auto, unfolding(crate::specs::Options::by_name))]
+pub fn worked_answers()
+    ensures { WorkedAnswers }
 {}
 
 /// What a run does with names.

@@ -4,7 +4,7 @@
 pub const VERSION: &str = "rmdsum (Nattizhu) 0.1.0
 ";
 
-/// What `--help` prints behind `Usage: ` and the program's name.
+/// What `--help` prints after `Usage: ` and the program's name.
 pub const HELP: &str = " [OPTION]... [FILE]...
 Print the RIPEMD digests of files, or check lists of them.
 

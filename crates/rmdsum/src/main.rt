@@ -2,7 +2,7 @@
 //! coreutils does with its own.
 #![tactic(auto)]
 
-ghost use Rattle.std.specs.Prelude.{◌≡◌, ◌↔◌, true, None, codes};
+ghost use Rattle.std.specs.Prelude.{◌≡◌, ◌↔◌, true, false, if◌then◌else◌, None, codes};
 
 mod arguments;
 mod facts;
@@ -13,9 +13,9 @@ mod progress;
 mod quoting;
 mod refusals;
 mod request;
-mod shell;
 mod switches;
 mod system;
+mod worker;
 
 use help::{HELP, VERSION};
 use messages::{Console, Message, say};
@@ -28,13 +28,13 @@ use ripemd_files::piece::List;
 use ripemd_files::printing::{Style, print_digests};
 use ripemd_files::verdict::Options;
 use ripemd_files::{Layout, Variant};
-use shell::{Shell, do_all};
 use std::alloc::{AllocError, Global};
 use std::env;
 use std::env::VarError;
 use std::io::{ErrorKind, Write};
 use std::process::ExitCode;
 use system::{Source, System, buffered, is_input};
+use worker::{Worker, do_all};
 
 // The status of a run that writes to a closed pipe, as a shell shows it for one that SIGPIPE ends.
 const CLOSED: u8 = 128 + 13;
@@ -48,15 +48,15 @@ fn slices_of(alloc: Global, names: &[Vec<u8>]) -> Result<Vec<&[u8]>, AllocError>
     Ok(slices)
 }
 
-// Writes a text, in parts. Whether that is done.
-fn print(rt: &HostRuntime, parts: &[&[u8]]) -> Result<bool, Fault> {
+// Writes a text, in parts.
+fn write_text(rt: &HostRuntime, parts: &[&[u8]]) -> Result<(), Fault> {
     for part in parts {
         rt.stdout().write_all(part).map_err(Fault::Write)?;
     }
-    Ok(true)
+    Ok(())
 }
 
-// What is asked of the lines of the list of this name.
+// The rules for the lines of the list of this name.
 fn rules_of(only: Option<Variant>, name: &[u8]) -> Rules
     ensures only { result.only ≡ only }
     ensures input { (result.from_input ≡ true) ↔ (name.now ≡ codes "-") }
@@ -67,18 +67,18 @@ fn rules_of(only: Option<Variant>, name: &[u8]) -> Rules
     }
 }
 
-// The system, its files and its terminal.
+// What works with the system's files and its terminal.
 #[derive(Drop)]
-struct Terminal<'a> {
+struct Host<'a> {
     rt: &'a HostRuntime,
     names: Names,
     progress: bool,
-    // That of untagged lines, once a list has one.
+    // The layout of untagged lines, once one is known.
     layout: Option<Layout>,
 }
 
-impl Shell for Terminal<'_> {
-    ghost done = { λ terminal. None };
+impl Worker for Host<'_> {
+    ghost done = { λ host. None };
 
     fn next(&mut self) -> Result<Batch, Fault> {
         self.names.next(self.rt)
@@ -134,9 +134,13 @@ fn perform(rt: &HostRuntime, request: Request) -> Result<bool, Fault> {
     match request {
         Request::Help => {
             let program = arguments::program(rt, rt.alloc())?;
-            print(rt, &[b"Usage: ", program.as_slice(), HELP.as_bytes()])
+            write_text(rt, &[b"Usage: ", program.as_slice(), HELP.as_bytes()])?;
+            Ok(true)
         }
-        Request::Version => print(rt, &[VERSION.as_bytes()]),
+        Request::Version => {
+            write_text(rt, &[VERSION.as_bytes()])?;
+            Ok(true)
+        }
         Request::Run {
             work,
             names,
@@ -144,7 +148,7 @@ fn perform(rt: &HostRuntime, request: Request) -> Result<bool, Fault> {
         } => match Names::open(rt, names)? {
             None => Ok(false),
             Some(names) => do_all(
-                &mut Terminal {
+                &mut Host {
                     rt,
                     names,
                     progress,
@@ -174,9 +178,11 @@ fn is_closed(fault: &Fault) -> bool {
     matches!(fault, Fault::Write(error) if error.kind() == ErrorKind::BrokenPipe)
 }
 
-// The status of a run: 0 if all could be done, and only then. Of a fault it may have been said what it is.
+// The status of a run. `is_said`: whether a message could be written that names its fault.
 fn status(outcome: &Result<bool, Fault>, is_said: bool) -> u8
-    ensures { (result ≡ 0) ↔ (outcome.now ≡ Ok true) }
+    ensures done { (result ≡ 0) ↔ (outcome.now ≡ Ok true) }
+    ensures not { outcome.now ≡ Ok false → result ≡ 1 }
+    ensures fault { (fault : Fault) → outcome.now ≡ Err fault → result ≡ (if is_said then 1 else CLOSED) }
 {
     match outcome {
         Ok(true) => 0,

@@ -11,7 +11,7 @@ use ripemd_files::log::{Complaint, Log};
 use std::io;
 use std::io::{ErrorKind, Write};
 
-/// What is said, behind the program's name.
+/// What is said, after the program's name.
 #[derive(Clone, Copy)]
 pub enum Message<'a> {
     /// These arguments are refused.

@@ -1,5 +1,7 @@
 //! The names of files, as they come.
 
+ghost use Rattle.std.specs.Prelude.{◌≡◌, IfOk, is_none};
+
 use crate::messages::{Message, say};
 use crate::request;
 use crate::system::{Source, buffered, is_input};
@@ -21,7 +23,7 @@ pub struct Names {
     number: u64,
 }
 
-/// Some names, and what is wrong behind them. At the end there is neither.
+/// Some names, and what is wrong after them. At the end there is neither.
 #[derive(Drop)]
 pub struct Batch {
     pub names: Vec<Vec<u8>>,
@@ -41,16 +43,16 @@ pub enum Wrong {
 
 impl Names {
     /// Opens the file, if the arguments name one. If it can't be opened, it says so, and there are none.
-    pub fn open(rt: &HostRuntime, names: request::Names) -> Result<Option<Names>, Fault> {
+    pub fn open(rt: &HostRuntime, names: request::NameSource) -> Result<Option<Names>, Fault> {
         let alloc = rt.alloc();
         match names {
-            request::Names::Operands(given) => Ok(Some(Names {
+            request::NameSource::Operands(given) => Ok(Some(Names {
                 given,
                 file: Vec::new(alloc),
                 reader: None,
                 number: 0,
             })),
-            request::Names::From(file) => match Source::open(rt, file.as_slice()) {
+            request::NameSource::From(file) => match Source::open(rt, file.as_slice()) {
                 Ok(source) => Ok(Some(Names {
                     given: Vec::new(alloc),
                     file,
@@ -117,7 +119,9 @@ impl Names {
     }
 
     /// Says what is wrong, if something is. Whether nothing is.
-    pub fn tell(&self, rt: &HostRuntime, wrong: Option<Wrong>) -> Result<bool, Fault> {
+    pub fn tell(&self, rt: &HostRuntime, wrong: Option<Wrong>) -> Result<bool, Fault>
+        ensures { IfOk result (λ answer. answer ≡ is_none wrong) }
+    {
         let message = match wrong {
             None => return Ok(true),
             Some(Wrong::Unread(error)) => Message::NamesUnread(self.file.as_slice(), error),

@@ -122,7 +122,7 @@ fn fits_double_quotes(charset: Charset, name: &[u8]) -> bool {
         })
 }
 
-// Whether a character means nothing to a shell, wherever it stands.
+// Whether a character means nothing to a worker, wherever it stands.
 fn is_ordinary(charset: Charset, character: char) -> bool {
     match character {
         'a'..='z' | 'A'..='Z' | '0'..='9' => true,

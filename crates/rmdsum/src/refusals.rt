@@ -7,9 +7,9 @@ use std::alloc::{AllocError, Global};
 /// Why the arguments ask for nothing that the program does.
 #[derive(PartialEq, Eq, Debug, Drop)]
 pub enum Misuse {
-    /// There is no long option of this name, or that begins with it; what stands behind `--`.
+    /// There is no long option of this name, or that begins with it; what stands after `--`.
     UnknownLong(Vec<u8>),
-    /// Several long options begin with this name; what stands behind `--`.
+    /// Several long options begin with this name; what stands after `--`.
     Ambiguous(Vec<u8>),
     /// This option takes no value, and has one.
     UnwantedValue(Flag),
@@ -21,7 +21,7 @@ pub enum Misuse {
     MissingShortValue(u8),
     /// No hash has this name.
     UnknownVariant(Vec<u8>),
-    /// `--text` behind `--tag`.
+    /// `--text` after `--tag`.
     TextWithTag,
     /// `--zero` with `--check`.
     ZeroWithCheck,
@@ -36,7 +36,7 @@ pub enum Misuse {
 }
 
 impl Misuse {
-    /// What the program says of it, behind its own name and a colon, without the last newline.
+    /// What the program says of it, after its own name and a colon, without the last newline.
     pub fn text(&self, alloc: Global, charset: Charset) -> Result<Vec<u8>, AllocError> {
         let mut text = Vec::new(alloc);
         self.push_text(&mut text, charset)?;

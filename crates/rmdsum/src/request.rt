@@ -13,7 +13,7 @@ use ripemd_files::verdict::Options;
 use ripemd_files::{Ending, Form, Variant};
 use std::alloc::{AllocError, Global};
 
-/// What an argument says.
+/// An option with its value, or an operand.
 #[derive(Debug, Drop)]
 pub enum Word {
     /// An option without a value.
@@ -38,7 +38,7 @@ pub enum Request {
         /// What is done.
         work: Work,
         /// The files or lists.
-        names: Names,
+        names: NameSource,
         /// Whether to tell how far it is.
         progress: bool,
     },
@@ -60,21 +60,21 @@ pub enum Work {
 
 /// The names of files, where `-` stands for standard input.
 #[derive(Debug, Drop)]
-pub enum Names {
+pub enum NameSource {
     /// These, at least one.
     Operands(Vec<Vec<u8>>),
     /// Those that the file of this name has, each ended by a byte 0.
     From(Vec<u8>),
 }
 
-/// Whether a file is read as text or as bytes, which differ in the line alone.
+/// The mode that a line shows. Files are read alike in both.
 #[derive(Clone, Copy, PartialEq, Eq)]
 pub enum Mode {
     Text,
     Binary,
 }
 
-/// How much a check tells, where it is not the usual.
+/// Which of `--quiet`, `--status` and `--warn` came last.
 #[derive(Clone, Copy, PartialEq, Eq)]
 pub enum Telling {
     Quiet,
@@ -169,7 +169,7 @@ impl Settings {
         }
     }
 
-    // What options exclude one another, in the order in which `sha256sum` looks.
+    // What is wrong with the options together, in the order in which `sha256sum` looks.
     fn conflict(&self) -> Option<Misuse>
         ensures { (words : List Said) → Holds words self.now → result ≡ conflict words }
     {
@@ -178,7 +178,7 @@ impl Settings {
         } else if self.check {
             self.conflict_with_check()
         } else {
-            Some(Misuse::OnlyWithCheck(self.needs_check()?))
+            self.needs_check().map(Misuse::OnlyWithCheck)
         }
     }
 
@@ -230,8 +230,10 @@ impl Settings {
     fn form(&self) -> Form
         ensures { result ≡ form_of self.now.tag self.now.mode }
     {
+        if self.tag {
+            return Form::Tagged;
+        }
         match self.mode {
-            _ if self.tag => Form::Tagged,
             Some(Mode::Binary) => Form::Binary,
             Some(Mode::Text) | None => Form::Text,
         }
@@ -289,22 +291,19 @@ fn choose_names(
     alloc: Global,
     names_in: Option<Vec<u8>>,
     names: Vec<Vec<u8>>,
-) -> Result<Names, Refusal>
+) -> Result<NameSource, Refusal>
     ensures ok { IfOk result (AreNames (option_map vec_items names_in) (map vec_items names.items)) }
     ensures err { IfErr result (IsExtra (option_map vec_items names_in) (map vec_items names.items)) }
 {
     let Some(file) = names_in else {
         if names.is_empty() {
-            return Ok(Names::Operands(standard_input(alloc)?));
+            return Ok(NameSource::Operands(standard_input(alloc)?));
         }
-        return Ok(Names::Operands(names));
+        return Ok(NameSource::Operands(names));
     };
-    match names.first() {
-        None => Ok(Names::From(file)),
-        Some(name) => {
-            let name = Vec::from_slice(alloc, name.as_slice())?;
-            Err(Refusal::Misuse(Misuse::ExtraOperand(name)))
-        }
+    match names.into_iter().next() {
+        None => Ok(NameSource::From(file)),
+        Some(name) => Err(Refusal::Misuse(Misuse::ExtraOperand(name))),
     }
 }
 

@@ -1,8 +1,8 @@
 //! The options by their names.
 
-ghost use Rattle.std.specs.Prelude.{◌≡◌, option_copied, List, ◌∷◌, find, filter};
-ghost use Rattle.rmdsum.specs.Options.{flag_name, parameter_name, long_name, by_letter, by_name, is_name, begins, alone, joined};
-ghost use Rattle.rmdsum.specs.Arguments.{before_equals, behind_equals};
+ghost use Rattle.std.specs.Prelude.{◌≡◌, option_copied, List, ◌∷◌, filter};
+ghost use Rattle.rmdsum.specs.Options.{flag_name, parameter_name, long_name, by_letter, by_name, begins, alone, joined};
+ghost use Rattle.rmdsum.specs.Arguments.{before_equals, after_equals};
 
 /// An option without a value.
 #[derive(Clone, Copy, PartialEq, Eq, Debug)]
@@ -76,7 +76,7 @@ impl Found {
 }
 
 impl Flag {
-    /// What stands behind `--`.
+    /// What stands after `--`.
     pub fn long_name(self) -> &'static str
         ensures { result.now ≡ flag_name self }
     {
@@ -99,7 +99,7 @@ impl Flag {
 }
 
 impl Parameter {
-    /// What stands behind `--`.
+    /// What stands after `--`.
     pub fn long_name(self) -> &'static str
         ensures { result.now ≡ parameter_name self }
     {
@@ -111,7 +111,7 @@ impl Parameter {
 }
 
 impl Switch {
-    /// What stands behind `--`.
+    /// What stands after `--`.
     pub fn long_name(self) -> &'static str
         ensures { result.now ≡ long_name self }
     {
@@ -137,26 +137,12 @@ pub fn find_short(letter: u8) -> Option<Switch>
     }
 }
 
-/// The option of a long name, or those whose names begin so.
+/// The options whose names begin so: a name may be cut short.
+#[tactic(auto, unfolding(crate::specs::Options::by_name))]
 pub fn find_long(name: &[u8]) -> Found
     ensures { result ≡ by_name name.now }
 {
-    match find_whole(name, &SWITCHES) {
-        Some(switch) => Found::One(switch),
-        None => find_begun(name, &SWITCHES),
-    }
-}
-
-// The option of this name.
-fn find_whole(name: &[u8], switches: &[Switch]) -> Option<Switch>
-    ensures { result ≡ find (is_name name.now) switches.now }
-{
-    for switch in switches {
-        if switch.long_name().as_bytes() == name {
-            return Some(*switch);
-        }
-    }
-    None
+    find_begun(name, &SWITCHES)
 }
 
 // The options whose names begin so.
@@ -173,10 +159,10 @@ fn find_begun(name: &[u8], switches: &[Switch]) -> Found
     found
 }
 
-/// What stands before the first equals sign, and what behind it.
+/// What stands before the first equals sign, and what after it.
 pub fn around_equals(text: &[u8]) -> (&[u8], Option<&[u8]>)
     ensures before { result.0.now ≡ before_equals text.now }
-    ensures behind { option_copied result.1 ≡ behind_equals text.now }
+    ensures after { option_copied result.1 ≡ after_equals text.now }
 {
     for (place, byte) in text.iter().enumerate() {
         if *byte == b'=' {

@@ -1,6 +1,6 @@
 use Rattle.std.proofs.Common.{rules, sym}
 use Rattle.rmdsum.proofs.Deeds.{one_list}
-use Rattle.rmdsum.proofs.shell.check_lists.Goals as goal
+use Rattle.rmdsum.proofs.worker.check_lists.Goals as goal
 
 pub loop-name-preserved : goal.loop-name-preserved
 loop-name-preserved g c =

@@ -1,0 +1,82 @@
+//! What a run does with names.
+
+ghost use Rattle.std.specs.Prelude.{◌≡◌, [], ◌∷◌, List, Option, IfOk, is_none, map, vec_items};
+ghost use Rattle.rmdsum.specs.declared.request.Work.TheVariants.{Check};
+ghost use Rattle.rmdsum.specs.Runs.{Deed, Adds, Extends, IsRun, Handles};
+ghost use Rattle.rmdsum.specs.Runs.Deed.{Gets, Prints, Checks, Says};
+
+use crate::names::{Batch, Wrong};
+use crate::request::Work;
+use ripemd_files::Variant;
+use ripemd_files::fault::Fault;
+use ripemd_files::printing::Style;
+use ripemd_files::verdict::Options;
+
+/// What does the work of a run.
+pub trait Worker {
+    // What was done, where that is known.
+    ghost done: { Self → Option (List Deed) };
+
+    /// The next names.
+    fn next(&mut self) -> Result<Batch, Fault>
+        ensures { IfOk result (λ batch. Adds (done self.old) (done self.new) (Gets (map vec_items batch.names.items) batch.wrong ∷ [])) };
+
+    /// Prints the digests of files. Whether all could be read.
+    fn print(&mut self, style: Style, names: &[Vec<u8>]) -> Result<bool, Fault>
+        ensures { IfOk result (λ answer. Adds (done self.old) (done self.new) (Prints style (map vec_items names.now) answer ∷ [])) };
+
+    /// Checks a list. Whether the check succeeds.
+    fn check(&mut self, only: Option<Variant>, options: Options, name: &[u8]) -> Result<bool, Fault>
+        ensures { IfOk result (λ answer. Adds (done self.old) (done self.new) (Checks only options name.now answer ∷ [])) };
+
+    /// Says what is wrong after some names, if something is. Whether nothing is wrong.
+    fn tell(&mut self, wrong: Option<Wrong>) -> Result<bool, Fault>
+        ensures answer { IfOk result (λ answer. answer ≡ is_none wrong) }
+        ensures done { IfOk result (λ answer. Adds (done self.old) (done self.new) (Says wrong answer ∷ [])) };
+}
+
+/// Does the work with all names. Whether all could be done.
+pub fn do_all<W: Worker>(worker: &mut W, work: Work) -> Result<bool, Fault>
+    ensures { IfOk result (λ success. Extends (W.done worker.old) (W.done worker.new) (λ deeds. IsRun work deeds success)) }
+{
+    let mut success = true;
+    for _ in 0..u64::MAX {
+        let batch = worker.next()?;
+        if batch.names.is_empty() && batch.wrong.is_none() {
+            return Ok(success);
+        }
+        let handled = do_some(worker, work, batch.names.as_slice())?;
+        let sound = worker.tell(batch.wrong)?;
+        success &= handled;
+        success &= sound;
+    }
+    Err(Fault::TooManyLines)
+}
+
+// Does the work with these names. Whether all could be done.
+fn do_some<W: Worker>(worker: &mut W, work: Work, names: &[Vec<u8>]) -> Result<bool, Fault>
+    ensures { IfOk result (λ success. Extends (W.done worker.old) (W.done worker.new) (λ deeds. Handles work (map vec_items names.now) deeds success)) }
+{
+    match work {
+        Work::Print(style) => worker.print(style, names),
+        Work::Check { only, options } => check_lists(worker, only, options, names),
+    }
+}
+
+// Checks these lists. Whether all checks succeed.
+fn check_lists<W: Worker>(
+    worker: &mut W,
+    only: Option<Variant>,
+    options: Options,
+    names: &[Vec<u8>],
+) -> Result<bool, Fault>
+    ensures { IfOk result (λ success. Extends (W.done worker.old) (W.done worker.new)
+        (λ deeds. Handles (Check only options) (map vec_items names.now) deeds success)) }
+{
+    let mut success = true;
+    for name in names {
+        let checked = worker.check(only, options, name.as_slice())?;
+        success &= checked;
+    }
+    Ok(success)
+}
