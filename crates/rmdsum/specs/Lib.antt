@@ -5,3 +5,4 @@ pub mod Asked
 pub mod Arguments
 pub mod Worked
 pub mod Runs
+pub mod Names

@@ -1,5 +1,5 @@
 -- The options by their names.
-use Rattle.std.specs.Prelude.{ℕ, ◌==◌, Bool, if◌then◌else◌, List, [], ◌∷◌, codes, Option, Some, None, find, filter, bytes_eq, nat_eq}
+use Rattle.std.specs.Prelude.{ℕ, ◌==◌, Bool, if◌then◌else◌, List, [], ◌∷◌, codes, Option, Some, None, filter, nat_eq}
 use Rattle.std.specs.List.{starts_with}
 use Rattle.rmdsum.specs.declared.switches.Flag.{Flag}
 use Rattle.rmdsum.specs.declared.switches.Parameter.{Parameter}

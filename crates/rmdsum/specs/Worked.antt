@@ -19,8 +19,9 @@ use Rattle.rmdsum.specs.Arguments.Why.{AsksHelp, AsksVersion, UnknownLong, Ambig
 use Rattle.ripemd_files.specs.declared.line.Variant.{Variant}
 use Rattle.ripemd_files.specs.declared.printing.Style.{Style}
 use Rattle.ripemd_files.specs.declared.verdict.Options.{Options}
-use Rattle.rmdsum.specs.declared.names.Wrong.TheVariants.{Input}
+use Rattle.rmdsum.specs.declared.names.Wrong.TheVariants.{Input, Empty}
 use Rattle.rmdsum.specs.declared.request.Work.TheVariants as works
+use Rattle.rmdsum.specs.Names.{Continues}
 use Rattle.rmdsum.specs.Runs.{Deed, IsRun}
 use Rattle.rmdsum.specs.Runs.Deed.{Gets, Prints, Checks, Says}
 use Rattle.rmdsum.specs.Asked.{conflict, options_of, variant_of, form_of, ending_of, or_input, IsExtra}
@@ -145,3 +146,12 @@ pub record WorkedRuns : Type 0 where
   pub unsaid : (success : Bool) → ¬ IsRun (works.Check None usual) (Gets [] (Some Input) ∷ Says None true ∷ Gets [] None ∷ []) success
   pub other_style : (success : Bool) → ¬ IsRun (works.Print (plain R160)) (Gets (codes "a" ∷ []) None ∷ Prints (plain R128) (codes "a" ∷ []) true
       ∷ Gets [] None ∷ []) success
+
+-- ---- names of a file
+
+pub record WorkedNames : Type 0 where
+  pub two : Continues (Some (97 ∷ 0 ∷ 98 ∷ [])) (Some []) [] (codes "a" ∷ codes "b" ∷ []) None
+  pub given : Continues (Some []) (Some []) (codes "a" ∷ []) (codes "a" ∷ []) None
+  pub empty : Continues (Some (97 ∷ 0 ∷ 0 ∷ 98 ∷ [])) (Some (98 ∷ [])) [] (codes "a" ∷ []) (Some (Empty 2))
+  pub not_ended : ¬ Continues (Some (codes "a")) (Some (codes "a")) [] [] None
+  pub dropped : ¬ Continues (Some (codes "a")) (Some []) [] [] None

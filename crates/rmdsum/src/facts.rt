@@ -1,7 +1,7 @@
 //! What is proved of the definitions. The functions do nothing; their contracts are the facts.
 
 ghost use Rattle.rmdsum.specs.Arguments.{NamesAreLengths};
-ghost use Rattle.rmdsum.specs.Worked.{WorkedArguments, WorkedStops, WorkedWords, WorkedConflicts, WorkedAnswers, WorkedRuns};
+ghost use Rattle.rmdsum.specs.Worked.{WorkedArguments, WorkedStops, WorkedWords, WorkedConflicts, WorkedAnswers, WorkedRuns, WorkedNames};
 
 /// The name of a variant is the length of its digest in bits.
 pub fn named_lengths()
@@ -30,4 +30,9 @@ pub fn worked_answers()
 /// What a run does with names.
 pub fn worked_runs()
     ensures { WorkedRuns }
+{}
+
+/// Which names a file has.
+pub fn worked_names()
+    ensures { WorkedNames }
 {}

@@ -71,7 +71,7 @@ fn rules_of(only: Option<Variant>, name: &[u8]) -> Rules
 #[derive(Drop)]
 struct Host<'a> {
     rt: &'a HostRuntime,
-    names: Names,
+    names: Names<Source>,
     progress: bool,
     // The layout of untagged lines, once one is known.
     layout: Option<Layout>,
@@ -81,7 +81,7 @@ impl Worker for Host<'_> {
     ghost done = { λ host. None };
 
     fn next(&mut self) -> Result<Batch, Fault> {
-        self.names.next(self.rt)
+        self.names.next(self.rt.alloc())
     }
 
     fn print(&mut self, style: Style, names: &[Vec<u8>]) -> Result<bool, Fault> {

@@ -1,12 +1,17 @@
 //! The names of files, as they come.
 
-ghost use Rattle.std.specs.Prelude.{◌≡◌, IfOk, is_none};
+ghost use Rattle.std.specs.Prelude.{◌≡◌, ℕ, true, false, IfOk, IsSomeAnd, None, is_none, map, vec_items, Vec};
+ghost use Rattle.std.specs.Global.{Global};
+ghost use Rattle.std.specs.Io.BufRead.{ends_with_byte, strip_last};
+ghost use Rattle.rmdsum.specs.declared.request.NameSource.TheVariants.{Operands};
+ghost use Rattle.rmdsum.specs.Names.{left_in, Continues, IsEntry, IsNamed};
 
 use crate::messages::{Message, say};
 use crate::request;
 use crate::system::{Source, buffered, is_input};
 use ripemd_files::fault::Fault;
-use std::io::{BufRead, BufReader, ErrorKind};
+use std::alloc::Global;
+use std::io::{BufRead, BufReader, ErrorKind, Read};
 use std::{io, mem};
 
 // So many names that a file has are given at once, at most.
@@ -14,11 +19,11 @@ const MOST: usize = 100;
 
 /// The names of the arguments, or those that a file has, each ended by a byte 0.
 #[derive(Drop)]
-pub struct Names {
+pub struct Names<R> {
     given: Vec<Vec<u8>>,
     file: Vec<u8>,
     // The file, until it is at its end.
-    reader: Option<BufReader<Source>>,
+    reader: Option<BufReader<R>>,
     // The number of its last name.
     number: u64,
 }
@@ -41,9 +46,15 @@ pub enum Wrong {
     Input,
 }
 
-impl Names {
+impl Names<Source> {
     /// Opens the file, if the arguments name one. If it can't be opened, it says so, and there are none.
-    pub fn open(rt: &HostRuntime, names: request::NameSource) -> Result<Option<Names>, Fault> {
+    pub fn open(
+        rt: &HostRuntime,
+        names: request::NameSource,
+    ) -> Result<Option<Names<Source>>, Fault>
+        ensures { (given : Vec (Vec ℕ Global) Global) → names ≡ Operands given
+            → IfOk result (λ opened. IsSomeAnd opened (λ opened. (opened.given ≡ given) × (opened.reader ≡ None))) }
+    {
         let alloc = rt.alloc();
         match names {
             request::NameSource::Operands(given) => Ok(Some(Names {
@@ -67,57 +78,6 @@ impl Names {
         }
     }
 
-    /// The next names, up to a wrong one or one that has to be waited for.
-    pub fn next(&mut self, rt: &HostRuntime) -> Result<Batch, Fault> {
-        let mut names = mem::replace(&mut self.given, Vec::new(rt.alloc()));
-        for _ in 0..MOST {
-            let Some(reader) = &mut self.reader else {
-                break;
-            };
-            if !names.is_empty() && !reader.buffer().contains(&0) {
-                break;
-            }
-            let mut name = Vec::new(rt.alloc());
-            match reader.read_until(0, &mut name) {
-                Ok(_) => {}
-                Err(error) if error.kind() == ErrorKind::OutOfMemory => {
-                    return Err(Fault::NoMemory);
-                }
-                Err(error) => {
-                    self.reader = None;
-                    let wrong = Some(Wrong::Unread(error));
-                    return Ok(Batch { names, wrong });
-                }
-            }
-            if name.last() == Some(&0) {
-                let _ = name.pop();
-            } else {
-                self.reader = None;
-                if name.is_empty() {
-                    break;
-                }
-            }
-            self.number = self.number.saturating_add(1);
-            let wrong = self.wrong_name(name.as_slice());
-            if wrong.is_some() {
-                return Ok(Batch { names, wrong });
-            }
-            names.push(name).map_err(|_| Fault::NoMemory)?;
-        }
-        Ok(Batch { names, wrong: None })
-    }
-
-    // What is wrong with the last name.
-    fn wrong_name(&self, name: &[u8]) -> Option<Wrong> {
-        if name.is_empty() {
-            Some(Wrong::Empty(self.number))
-        } else if is_input(self.file.as_slice()) && is_input(name) {
-            Some(Wrong::Input)
-        } else {
-            None
-        }
-    }
-
     /// Says what is wrong, if something is. Whether nothing is.
     pub fn tell(&self, rt: &HostRuntime, wrong: Option<Wrong>) -> Result<bool, Fault>
         ensures { IfOk result (λ answer. answer ≡ is_none wrong) }
@@ -131,4 +91,104 @@ impl Names {
         say(rt, message).map_err(Fault::Write)?;
         Ok(false)
     }
+}
+
+// What is read of a file of names.
+#[derive(Drop)]
+enum Entry {
+    Name(Vec<u8>),
+    Wrong(Wrong),
+    End,
+}
+
+impl<R: Read + Drop> Names<R> {
+    /// The next names, up to a wrong one or one that has to be waited for.
+    pub fn next(&mut self, alloc: Global) -> Result<Batch, Fault>
+        ensures { IfOk result (λ batch. Continues (left_in R.remaining self.old.reader) (left_in R.remaining self.new.reader)
+            (map vec_items self.old.given.items) (map vec_items batch.names.items) batch.wrong) }
+    {
+        let mut names = mem::replace(&mut self.given, Vec::new(alloc));
+        for _ in 0..MOST {
+            if !self.has_name(names.is_empty()) {
+                break;
+            }
+            match self.read_name(alloc)? {
+                Entry::Name(name) => names.push(name).map_err(|_| Fault::NoMemory)?,
+                Entry::Wrong(wrong) => {
+                    let wrong = Some(wrong);
+                    return Ok(Batch { names, wrong });
+                }
+                Entry::End => break,
+            }
+        }
+        Ok(Batch { names, wrong: None })
+    }
+
+    // Whether the file may have a name: the first of some, or one that is at hand.
+    fn has_name(&self, is_first: bool) -> bool
+        ensures { is_first ≡ true → result ≡ false → self.now.reader ≡ None }
+    {
+        match &self.reader {
+            None => false,
+            Some(reader) => is_first || reader.buffer().contains(&0),
+        }
+    }
+
+    // Reads a name of the file.
+    fn read_name(&mut self, alloc: Global) -> Result<Entry, Fault>
+        ensures entry { IfOk result (IsEntry (left_in R.remaining self.old.reader) (left_in R.remaining self.new.reader)) }
+        ensures given { self.new.given ≡ self.old.given }
+    {
+        let Some(reader) = &mut self.reader else {
+            return Ok(Entry::End);
+        };
+        let mut name = Vec::new(alloc);
+        match reader.read_until(0, &mut name) {
+            Ok(_) => {}
+            Err(error) if error.kind() == ErrorKind::OutOfMemory => return Err(Fault::NoMemory),
+            Err(error) => {
+                self.reader = None;
+                return Ok(Entry::Wrong(Wrong::Unread(error)));
+            }
+        }
+        if pop_zero(&mut name) {
+            return Ok(self.entry(name));
+        }
+        self.reader = None;
+        if name.is_empty() {
+            return Ok(Entry::End);
+        }
+        Ok(self.entry(name))
+    }
+
+    // A name that was read, or what is wrong with it.
+    fn entry(&mut self, name: Vec<u8>) -> Entry
+        ensures name { IsNamed name.items result }
+        ensures reader { self.new.reader ≡ self.old.reader }
+        ensures given { self.new.given ≡ self.old.given }
+    {
+        self.number = self.number.saturating_add(1);
+        if name.is_empty() {
+            Entry::Wrong(Wrong::Empty(self.number))
+        } else if is_input(self.file.as_slice()) && is_input(name.as_slice()) {
+            Entry::Wrong(Wrong::Input)
+        } else {
+            Entry::Name(name)
+        }
+    }
+}
+
+// Takes a byte 0 from the end of a name. Whether there was one.
+fn pop_zero(name: &mut Vec<u8>) -> bool
+    ensures found { result ≡ ends_with_byte 0 name.old.items }
+    ensures name { name.new.items ≡ strip_last 0 name.old.items }
+{
+    let Some(end) = name.len().checked_sub(1) else {
+        return false;
+    };
+    if name[end] != 0 {
+        return false;
+    }
+    name.truncate(end);
+    true
 }
