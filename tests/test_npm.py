@@ -1,11 +1,14 @@
 """Tries the package ripemd160 in place of npm's, below Debian's create-hash, create-hmac and pbkdf2: npm installs all of
 them, unchanged, by the lines of docs/JAVASCRIPT.md. The suites of these packages come from Debian's sources."""
+import contextlib
+import hashlib
 import json
 import pathlib
 import platform
 import re
 import shutil
 import tarfile
+import urllib.request
 
 import pytest
 from conftest import ABC, DATA, ROOT, fences, need, programs, run, version
@@ -17,7 +20,10 @@ ENVIRONMENT = {"NODE_PATH": str(DEBIAN), "NATTIZHU_DATA": str(DATA), "RIPEMD160_
 
 # The suite of each package, how many of its assertions pass at least, and how many fail at least with wrong digests.
 SUITES = {"ripemd160": ("test/index.js", 392, 392), "create-hash": ("test.js", 6272, 1568),
-          "create-hmac": ("test.js", 240, 30), "pbkdf2": ("test/index.js", 1, 0)}
+          "create-hmac": ("test.js", 240, 30), "pbkdf2": ("test/index.js", 1284, 18)}
+
+# What stands before a file's folder at Debian's mirror, and at Ubuntu's.
+UBUNTU = ("deb.debian.org/debian/pool/main", "archive.ubuntu.com/ubuntu/pool/universe")
 
 # Appended to a package, this makes each digest wrong.
 BROKEN = """
@@ -97,6 +103,15 @@ def fixture_sources(once):
         run(*apt, "update", cwd=folder, status=None)
         for name in SUITES:
             run(*apt, "source", "--tar-only", f"node-{name}", cwd=folder, status=None)
+            # Where Debian's mirror lacks a file that its lists have, Ubuntu's may have it.
+            listed = run(*apt, "--print-uris", "source", f"node-{name}", cwd=folder, status=None).stdout
+            for url, file, digest in re.findall(r"^'(\S+)' (\S+\.orig\.tar\.\S+) \d+ SHA256:(\w+)", listed, re.MULTILINE):
+                if (folder / file).exists():
+                    continue
+                with contextlib.suppress(OSError), urllib.request.urlopen(url.replace(*UBUNTU), timeout=20) as response:
+                    content = response.read()
+                    if hashlib.sha256(content).hexdigest() == digest:
+                        (folder / file).write_bytes(content)
 
     codename = platform.freedesktop_os_release().get("VERSION_CODENAME", "stable")
     return once("sources", fetch)
