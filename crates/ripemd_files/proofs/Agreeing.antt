@@ -18,7 +18,7 @@ use Rattle.ripemd_files.specs.declared.outcome.Outcome.TheVariants.{Digest, Refu
 use Rattle.ripemd_files.specs.declared.verdict.Verdict.{Verdict}
 use Rattle.ripemd_files.specs.declared.verdict.Verdict.TheVariants.{Differs, Matches, Missing, Unreadable}
 use Rattle.ripemd_files.specs.Lines.{IsLine, RoundTrips, is_end}
-use Rattle.ripemd_files.specs.Readings.{ComesTo, Gives, Place, parameters_of}
+use Rattle.ripemd_files.specs.Files.{ComesTo, Gives, Place, parameters_of}
 use Rattle.ripemd_files.specs.Checking.{checked, is_missing, verdict_of}
 use Rattle.ripemd_files.specs.Lists.{IsEventOn, IsTaken, body_of_line}
 use Rattle.ripemd_files.specs.Printed.{IsPrinted, printed_line}

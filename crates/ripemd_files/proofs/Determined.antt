@@ -22,7 +22,7 @@ use Rattle.ripemd_files.specs.Checking.{Event, IsTally, checked, items_of_event,
 use Rattle.ripemd_files.specs.Determined.{EarlyEnd, EarlyPrint, IsFront, IsKnown, Print, Report, Start, list_before}
 use Rattle.ripemd_files.specs.Lists.{IsEventOn, IsReport, Reaches, Reports, Stage, WasRead, among, body_of_line, ended, failed, is_passed_over, last_remarks, layout_after}
 use Rattle.ripemd_files.specs.Printing.{Reading, items_on, was_read}
-use Rattle.ripemd_files.specs.Readings.{Breaks, ComesTo, Gives, Place, parameters_of}
+use Rattle.ripemd_files.specs.Files.{Breaks, ComesTo, Gives, Place, parameters_of}
 use Rattle.ripemd_files.specs.Said.{Adds, Item}
 use Rattle.ripemd_files.specs.Splitting.{ListState, lines_of}
 use Rattle.ripemd_files.proofs.Cutting.{cut}

@@ -10,7 +10,7 @@ use Rattle.ripemd_files.specs.declared.line.Line.{Line}
 use Rattle.ripemd_files.specs.declared.list.Rules.{Rules}
 use Rattle.ripemd_files.specs.declared.list.Cursor.{Cursor}
 use Rattle.ripemd_files.specs.declared.piece.Piece.TheVariants as pieces
-use Rattle.ripemd_files.specs.Readings.{Place}
+use Rattle.ripemd_files.specs.Files.{Place}
 use Rattle.ripemd_files.specs.Splitting.{IsPiece, IsWhole, ReadsOn, lines_of}
 use Rattle.ripemd_files.specs.Checking.{Event, IsEventOf}
 use Rattle.ripemd_files.specs.declared.fault.Fault.{Fault}
@@ -111,7 +111,7 @@ module _ {File : Type 0} (place : Place File) (ignore_missing : Bool) (kinds : R
     module _ (after : Cursor) (text : List ℕ) (others : List Line) (bad : Option ℕ)
         (takes : Takes place ignore_missing kinds cursor after text lines others bad) (step : after.number ≡ cursor.number + 1) where
       -- a line that ends with a newline
-      pub reads_line : IsPiece now next text pieces.Line
+      pub reads_line : IsPiece 10 now next text pieces.Whole
           → ReadsLines place ignore_missing kinds old next before after others (misformatted_events bad) true []
       unfolding lines_of
       reads_line piece =
@@ -126,7 +126,7 @@ module _ {File : Type 0} (place : Place File) (ignore_missing : Bool) (kinds : R
           }
 
       -- the last line, which ends with the list
-      pub reads_last : IsPiece now next text pieces.Last
+      pub reads_last : IsPiece 10 now next text pieces.Last
           → ReadsLines place ignore_missing kinds old next before after others (misformatted_events bad) false []
       reads_last (read, ended, filled, one) =
           let is_line : lines_of text ≡ text ∷ [] = lines_last text one filled in
@@ -153,7 +153,7 @@ module _ {File : Type 0} (place : Place File) (ignore_missing : Bool) (kinds : R
       explains NoMemory why tail is_line = tt
       explains TooManyLines why tail is_line = too_many why tail is_line
 
-      pub stops_at_line : IsPiece now next text pieces.Line → StopsReading old next before.number fault
+      pub stops_at_line : IsPiece 10 now next text pieces.Whole → StopsReading old next before.number fault
       unfolding lines_of
       stops_at_line piece = record {
         bytes = so_far.bytes ++ (text ++ 10 ∷ []);
@@ -161,7 +161,7 @@ module _ {File : Type 0} (place : Place File) (ignore_missing : Bool) (kinds : R
         why = explains fault why (text ++ 10 ∷ []) (lines_first text [] piece.1);
       }
 
-      pub stops_at_last : IsPiece now next text pieces.Last → StopsReading old next before.number fault
+      pub stops_at_last : IsPiece 10 now next text pieces.Last → StopsReading old next before.number fault
       stops_at_last (read, ended, filled, one) = record {
         bytes = so_far.bytes ++ text;
         consumed = Consumes-trans old now next so_far.bytes text taken read;

@@ -9,7 +9,7 @@ use Rattle.ripemd_files.specs.declared.line.Line.{Line}
 use Rattle.ripemd_files.specs.declared.list.Rules.{Rules}
 use Rattle.ripemd_files.specs.declared.list.Cursor.{Cursor}
 use Rattle.ripemd_files.specs.Lines.{Says}
-use Rattle.ripemd_files.specs.Readings.{Place}
+use Rattle.ripemd_files.specs.Files.{Place}
 use Rattle.ripemd_files.specs.Checking.{Event, IsEventOf, misformatted}
 use Rattle.ripemd_files.specs.Lists.{AreEventsOn, IsTaken, IsWanted, body_of_line, is_passed_over, layout_after}
 use Rattle.ripemd_files.specs.Reading.{said_by, said_of}

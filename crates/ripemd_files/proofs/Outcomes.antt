@@ -4,7 +4,7 @@ use Rattle.ripemd_files.specs.declared.digests.Content.{Content}
 use Rattle.ripemd_files.specs.declared.digests.Content.TheVariants.{Short, Long, Refused, Broken}
 use Rattle.ripemd_files.specs.declared.outcome.Outcome.{Outcome}
 use Rattle.ripemd_files.specs.declared.outcome.Outcome.TheVariants as outcomes
-use Rattle.ripemd_files.specs.Readings.{Place, ComesTo}
+use Rattle.ripemd_files.specs.Files.{Place, ComesTo}
 use Rattle.ripemd_files.specs.Contents.{Follows, IsContent}
 
 -- what follows from the content of a file is what reading it comes to

@@ -13,7 +13,7 @@ use Rattle.ripemd_files.specs.declared.fault.Fault.{Fault}
 use Rattle.ripemd_files.specs.declared.fault.Fault.TheVariants.{NoMemory}
 use Rattle.ripemd_files.specs.declared.printing.Style.{Style}
 use Rattle.ripemd_files.specs.declared.outcome.Outcome.{Outcome}
-use Rattle.ripemd_files.specs.Readings.{ComesTo, OfFirst, Place, parameters_of}
+use Rattle.ripemd_files.specs.Files.{ComesTo, OfFirst, Place, parameters_of}
 use Rattle.ripemd_files.specs.Said.{Item, Pends, Stops, Tells, Told, written}
 use Rattle.ripemd_files.proofs.Telling.{no_memory, pends_done, pends_more, pends_none, pends_stops, pends_undone, stops_after, stops_here, tells_more, tells_none}
 use Rattle.ripemd_files.proofs.Zips.{all_zip_at, take_within}

@@ -23,7 +23,7 @@ use Rattle.ripemd_files.specs.declared.printing.Style.{Style}
 use Rattle.ripemd_files.specs.Lines.{IsLine, end_of, is_end, line_of}
 use Rattle.ripemd_files.specs.Layouts.{HasLayout, layout_at, layout_of}
 use Rattle.ripemd_files.specs.Reading.{first_of_two, strip_tag}
-use Rattle.ripemd_files.specs.Readings.{ComesTo, Place, parameters_of}
+use Rattle.ripemd_files.specs.Files.{ComesTo, Place, parameters_of}
 use Rattle.ripemd_files.specs.Splitting.{lines_of}
 use Rattle.ripemd_files.specs.Checking.{Event, IsTally, checked, counted, has_verdict, is_difference, is_match, is_misformatted, is_unreadable, misformatted, verdict_of, verdict_of_digest}
 use Rattle.ripemd_files.specs.Lists.{IsEventOn, IsWanted, Reaches, Reports, ended, is_passed_over, layout_after}

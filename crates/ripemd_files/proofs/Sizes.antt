@@ -14,7 +14,7 @@ use Rattle.ripemd.specs.Standard.Hashing.{ripemd}
 use Rattle.ripemd_files.specs.declared.line.Variant.{Variant}
 use Rattle.ripemd_files.specs.declared.line.Variant.TheVariants.{R128, R160, R256, R320}
 use Rattle.ripemd_files.specs.Lines.{size_of}
-use Rattle.ripemd_files.specs.Readings.{parameters_of}
+use Rattle.ripemd_files.specs.Files.{parameters_of}
 
 -- ---- the length
 

@@ -3,7 +3,7 @@ use Rattle.std.proofs.Common.{◌≡◌, ℕ, ◌+◌, ◌<◌, ◌≤◌, List,
 use Rattle.std.proofs.lemmas.List.{take_more, length-map, get_or-map, length-take-le, take-take, take_all}
 use Rattle.std.proofs.lemmas.Slice.Zip.{AllZip-long, all_zipped_more}
 use Rattle.std.specs.List.{AllZip}
-use Rattle.ripemd_files.specs.Readings.{OfFirst}
+use Rattle.ripemd_files.specs.Files.{OfFirst}
 
 -- the first of the first of some items are the first of all
 pub take_within : {X : Type 0} (c n : ℕ) (xs : List X) → (m : ℕ) × (take c (take n xs) ≡ take m xs)

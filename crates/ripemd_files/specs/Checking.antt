@@ -18,7 +18,7 @@ use Rattle.ripemd_files.specs.declared.verdict.Verdict.TheVariants.{Matches, Dif
 use Rattle.ripemd_files.specs.declared.verdict.Options.{Options}
 use Rattle.ripemd_files.specs.declared.verdict.Tally.{Tally}
 use Rattle.ripemd_files.specs.Lines.{mark_of, text_of}
-use Rattle.ripemd_files.specs.Readings.{Place, ComesTo, parameters_of}
+use Rattle.ripemd_files.specs.Files.{Place, ComesTo, parameters_of}
 use Rattle.ripemd_files.specs.Said.{Item, about_list, unreadable, written}
 
 -- ---- verdicts

@@ -4,7 +4,7 @@ use Rattle.ripemd_files.specs.declared.digests.Content.{Content}
 use Rattle.ripemd_files.specs.declared.digests.Content.TheVariants.{Short, Long, Refused, Broken}
 use Rattle.ripemd_files.specs.declared.outcome.Outcome.{Outcome}
 use Rattle.ripemd_files.specs.declared.outcome.Outcome.TheVariants as outcomes
-use Rattle.ripemd_files.specs.Readings.{Place, Gives, Breaks}
+use Rattle.ripemd_files.specs.Files.{Place, Gives, Breaks}
 
 -- the outcome is this digest
 abbrev pub IsDigest : Outcome → List ℕ → Type 0

@@ -8,7 +8,7 @@ use Rattle.ripemd_files.specs.declared.verdict.Options.{Options}
 use Rattle.ripemd_files.specs.declared.fault.Fault.{Fault}
 use Rattle.ripemd_files.specs.Lists.{ChecksList, StopsList}
 use Rattle.ripemd_files.specs.Printing.{PrintsAll, PrintsFirst}
-use Rattle.ripemd_files.specs.Readings.{Place}
+use Rattle.ripemd_files.specs.Files.{Place}
 use Rattle.ripemd_files.specs.Said.{Item, Told}
 use Rattle.ripemd_files.specs.Splitting.{ListState}
 

@@ -11,7 +11,7 @@ use Rattle.ripemd_files.specs.declared.list.Next.{Next}
 use Rattle.ripemd_files.specs.declared.list.Next.TheVariants.{More, Ended, Failed}
 use Rattle.ripemd_files.specs.declared.line.Variant.{Variant}
 use Rattle.ripemd_files.specs.Splitting.{lines_of, IsEnded, IsOneLine, IsWhole, ListState}
-use Rattle.ripemd_files.specs.Readings.{Place}
+use Rattle.ripemd_files.specs.Files.{Place}
 use Rattle.ripemd_files.specs.declared.verdict.Options.{Options}
 use Rattle.ripemd_files.specs.declared.verdict.Tally.{Tally}
 use Rattle.ripemd_files.specs.declared.fault.Fault.{Fault}

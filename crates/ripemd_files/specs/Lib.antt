@@ -5,7 +5,7 @@ pub mod Worked
 -- How the code reads a line.
 pub mod Reading
 -- What reading a file comes to.
-pub mod Readings
+pub mod Files
 -- What a file gave, as it is read.
 pub mod Contents
 -- What a run writes and says.

@@ -15,7 +15,7 @@ use Rattle.ripemd_files.specs.Lines.{IsLine}
 use Rattle.ripemd_files.specs.Reading.{first_of_two}
 use Rattle.ripemd_files.specs.Layouts.{layout_of}
 use Rattle.ripemd_files.specs.Splitting.{lines_of, IsEnded, IsOneLine, IsWhole, ListState}
-use Rattle.ripemd_files.specs.Readings.{Place, ComesTo, parameters_of}
+use Rattle.ripemd_files.specs.Files.{Place, ComesTo, parameters_of}
 use Rattle.ripemd_files.specs.declared.fault.Fault.{Fault}
 use Rattle.ripemd_files.specs.Said.{Item, Stops, Tells, Told, about_list}
 use Rattle.ripemd_files.specs.Checking.{Event, IsTally, checked, closing_remarks, is_success, items_of_event, misformatted, verdict_of}

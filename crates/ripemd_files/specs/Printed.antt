@@ -14,7 +14,7 @@ use Rattle.ripemd_files.specs.declared.verdict.Verdict.TheVariants.{Missing, Unr
 use Rattle.ripemd_files.specs.Checking.{Event, checked, is_missing, verdict_of_digest}
 use Rattle.ripemd_files.specs.Lines.{IsReadable, line_of}
 use Rattle.ripemd_files.specs.Lists.{IsWanted}
-use Rattle.ripemd_files.specs.Readings.{parameters_of}
+use Rattle.ripemd_files.specs.Files.{parameters_of}
 
 -- the line of a message and a name, without its newline
 abbrev pub printed_line : Form → Variant → List ℕ → List ℕ → List ℕ
@@ -46,3 +46,10 @@ verdict_now ignore_missing variant message (Err error) = if ignore_missing && is
 abbrev pub events_now : Bool → Variant → (List ℕ → Result (List ℕ) Error) → List Printed → List Event
 events_now ignore_missing variant contents files =
     map (λ (f : Printed). checked f.name (verdict_now ignore_missing variant f.message (contents f.name))) files
+
+-- a collision of two messages, by the compression function of this variant
+abbrev pub IsCollisionOf : Variant → List ℕ → List ℕ → VariantCollision → Type 0
+IsCollisionOf variant a b (collisions.R128 c) = (variant ≡ R128) × IsCollision (initial_words ripemd128) (compress ripemd128) a b c
+IsCollisionOf variant a b (collisions.R160 c) = (variant ≡ R160) × IsCollision (initial_words ripemd160) (compress ripemd160) a b c
+IsCollisionOf variant a b (collisions.R256 c) = (variant ≡ R256) × IsCollision (initial_words ripemd256) (compress ripemd256) a b c
+IsCollisionOf variant a b (collisions.R320 c) = (variant ≡ R320) × IsCollision (initial_words ripemd320) (compress ripemd320) a b c

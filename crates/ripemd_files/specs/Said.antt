@@ -20,7 +20,7 @@ pub record Told : Type 0 where
   pub failure : Option Error
 
 -- known items grow by these
-abbrev pub Adds : Option (List Item) → Option (List Item) → List Item → Type 0
+abbrev pub Adds : {A : Type 0} → Option (List A) → Option (List A) → List A → Type 0
 Adds None new more = ⊤
 Adds (Some xs) None more = ⊥
 Adds (Some xs) (Some ys) more = ys ≡ xs ++ more

@@ -5,7 +5,7 @@ use Rattle.std.specs.Io.KnownBytes.{Consumes, IsAtEnd}
 use Rattle.std.specs.Io.Buffered.{reader_remaining}
 use Rattle.ripemd_files.specs.declared.piece.List.{List as Reader}
 use Rattle.ripemd_files.specs.declared.piece.Piece.{Piece}
-use Rattle.ripemd_files.specs.declared.piece.Piece.TheVariants.{Line, Last, Nothing, Failed}
+use Rattle.ripemd_files.specs.declared.piece.Piece.TheVariants.{Whole, Last, Nothing, Failed}
 
 -- lines, with a byte in front of the first of them
 abbrev pub begin_with : ℕ → List (List ℕ) → List (List ℕ)
@@ -28,24 +28,28 @@ pub record ListState : Type 0 where
 abbrev pub IsEnded : Option (List ℕ) → Option (List ℕ) → Type 0
 IsEnded old new = IfSome old (λ _. IsAtEnd new)
 
+-- a text without this byte
+abbrev pub IsWithout : ℕ → List ℕ → Type 0
+IsWithout byte text = list_any (λ x. x == byte) text ≡ false
+
 -- a text without a newline
 abbrev pub IsOneLine : List ℕ → Type 0
-IsOneLine text = list_any (λ x. x == 10) text ≡ false
+IsOneLine text = IsWithout 10 text
 
 -- whole lines: the last one ends with a newline, too
 abbrev pub IsWhole : List ℕ → Type 0
 IsWhole bytes = (bytes ≡ []) ⊎ ((front : List ℕ) × (bytes ≡ front ++ 10 ∷ []))
 
--- what was read of a list is this, and this text
-abbrev pub IsPiece : Option (List ℕ) → Option (List ℕ) → List ℕ → Piece → Type 0
-IsPiece old new text Line = Consumes old new (text ++ 10 ∷ []) × IsOneLine text
-IsPiece old new text Last = Consumes old new text × IsEnded old new × (text ≢ []) × IsOneLine text
-IsPiece old new text Nothing = Consumes old new [] × IsEnded old new
-IsPiece old new text Failed = Consumes old new text × IsOneLine text
+-- what was read of pieces that this byte ends, and the text of it
+abbrev pub IsPiece : ℕ → Option (List ℕ) → Option (List ℕ) → List ℕ → Piece → Type 0
+IsPiece byte old new text Whole = Consumes old new (text ++ byte ∷ []) × IsWithout byte text
+IsPiece byte old new text Last = Consumes old new text × IsEnded old new × (text ≢ []) × IsWithout byte text
+IsPiece byte old new text Nothing = Consumes old new [] × IsEnded old new
+IsPiece byte old new text (Failed error) = Consumes old new text × IsWithout byte text
 
 -- whether a read failed
 abbrev pub is_failure : Piece → Bool
-is_failure Failed = true
+is_failure (Failed error) = true
 is_failure _ = false
 
 -- some bytes of the list were read

@@ -1,6 +1,6 @@
-//! What is printed of a file, a check takes for what it is. The function does nothing; its contract is the theorem.
+//! What is printed of a file, a check takes for what it is. Functions without a result do nothing; their contracts are the theorems.
 
-ghost use Rattle.std.specs.Prelude.{◌≡◌, ◌≢◌, ◌<◌, ◌++◌, ℕ, List, map, Bool, true, Option, None, Some, Result, Ok, length, unwrap_or};
+ghost use Rattle.std.specs.Prelude.{◌≡◌, ◌≢◌, ◌<◌, ◌^◌, ◌++◌, ◌↔◌, ◌⊎◌, ℕ, List, map, Bool, true, Option, None, Some, Result, Ok, length, unwrap_or, IfSome, IsNone};
 ghost use Rattle.std.specs.List.{All};
 ghost use Rattle.std.specs.declared.io.Error.{Error};
 ghost use Rattle.ripemd_files.specs.declared.line.Ending.TheVariants.{Newline};
@@ -21,10 +21,13 @@ ghost use Rattle.ripemd_files.specs.declared.verdict.Verdict.{Verdict};
 ghost use Rattle.ripemd_files.specs.declared.verdict.Verdict.TheVariants.{Differs, Matches};
 ghost use Rattle.ripemd_files.specs.Checking.{checked};
 ghost use Rattle.ripemd_files.specs.Lists.{IsEventOn, IsTaken};
-ghost use Rattle.ripemd_files.specs.Printed.{IsPrinted, Printed, events_now, printed_line, printed_text};
-ghost use Rattle.ripemd_files.specs.Readings.{Gives, parameters_of};
+ghost use Rattle.ripemd_files.specs.Printed.{IsCollisionOf, IsPrinted, Printed, events_now, printed_line, printed_text, verdict_now};
+ghost use Rattle.ripemd_files.specs.Files.{Gives, parameters_of};
 
 use crate::folder::Folder;
+use crate::line::Variant;
+use ripemd::block_api::{Ripemd128Core, Ripemd160Core, Ripemd256Core, Ripemd320Core};
+use ripemd::witness::{Collision, collision_witness};
 
 /// A digest has the length of its variant, and consists of bytes.
 pub fn digest_laws()
@@ -34,9 +37,8 @@ pub fn digest_laws()
 
 /// What a check says of the line that was printed of a message and a name, whatever came of it since.
 ///
-/// If its file is found to match, it gave a message with the printed digest. Where that is another message
-/// than the one printed, `ripemd::collision_witness` makes of both a collision of the block function, if both
-/// are shorter than 2^61 bytes.
+/// If its file is found to match, it gave a message with the printed digest: the printed one, or see
+/// [`matching_collision`].
 pub fn printed_lines<F: Folder>(_folder: &F)
     // The line counts, for what it is.
     ensures taken { (rules : Rules) (layout : Option Layout) (form : Form) (variant : Variant) (message name : List ℕ)
@@ -56,10 +58,8 @@ pub fn printed_lines<F: Folder>(_folder: &F)
         × (ripemd (parameters_of variant) given ≡ ripemd (parameters_of variant) message) }
 {}
 
-/// What a check says of a list that was printed, in a folder of which all is known.
-///
-/// A file that is found to match though it gives another message than the printed one has a message with the same
-/// digest: see [`printed_lines`].
+/// What a check says of a list that was printed, in a folder of which all is known. Of a file that is found to match
+/// though it gives another message than the printed one, see [`matching_collision`].
 pub fn printed_lists<F: Folder>(_folder: &F)
     // These lines are printed of files that give these messages,
     ensures printed { (contents : List ℕ → Result (List ℕ) Error) (style : Style) (files : List Printed) (before : List Item) (failure : Option Error)
@@ -80,3 +80,50 @@ pub fn printed_lists<F: Folder>(_folder: &F)
         → (one : Report (F.place _folder.now) options rules first start) → one.checks.stage ≡ ended
         → (one.checks.report.events ≡ map (λ (f : Printed). checked f.name Matches) files) × (one.success ≡ true) }
 {}
+
+/// A collision of a variant's block function.
+#[derive(Clone, Copy, PartialEq, Eq, Debug)]
+pub enum VariantCollision {
+    R128(Collision<[u32; 4]>),
+    R160(Collision<[u32; 5]>),
+    R256(Collision<[u32; 8]>),
+    R320(Collision<[u32; 10]>),
+}
+
+/// What is in hand where a check finds that a file matches and it gives another message than the printed one: the
+/// collision of the variant's block function that [`collision_witness`] makes of both. Each message has fewer than
+/// 2^61 bytes.
+pub fn matching_collision<F: Folder>(
+    _folder: &F,
+    variant: Variant,
+    printed: &[u8],
+    given: &[u8],
+) -> Option<VariantCollision>
+    requires printed_short { length printed.now < 2 ^ 61 }
+    requires given_short { length given.now < 2 ^ 61 }
+    ensures collision { IfSome result (IsCollisionOf variant printed.now given.now) }
+    // Of a whole list: if there is none, the messages are equal or the file differs.
+    ensures none { (ignore_missing : Bool) → IsNone result
+        ↔ ((printed.now ≡ given.now) ⊎ (verdict_now ignore_missing variant printed.now (Ok given.now) ≡ Differs)) }
+    // Of a line: if there is none, and the file, which gives no other message, matches, the messages are equal.
+    ensures line { (rules : Rules) (layout : Option Layout) (form : Form) (name found : List ℕ) (ignore_missing : Bool) (number : ℕ)
+        → IsPrinted rules layout form variant name
+        → IsEventOn (F.place _folder.now) ignore_missing rules layout number (printed_line form variant printed.now name) (checked found Matches)
+        → ((message : List ℕ) → Gives ((F.place _folder.now).opens name) (F.place _folder.now).left message → message ≡ given.now)
+        → IsNone result → printed.now ≡ given.now }
+{
+    match variant {
+        Variant::R128 => {
+            collision_witness::<Ripemd128Core>(printed, given).map(VariantCollision::R128)
+        }
+        Variant::R160 => {
+            collision_witness::<Ripemd160Core>(printed, given).map(VariantCollision::R160)
+        }
+        Variant::R256 => {
+            collision_witness::<Ripemd256Core>(printed, given).map(VariantCollision::R256)
+        }
+        Variant::R320 => {
+            collision_witness::<Ripemd320Core>(printed, given).map(VariantCollision::R320)
+        }
+    }
+}

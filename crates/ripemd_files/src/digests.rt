@@ -7,7 +7,7 @@ ghost use Rattle.std.specs.Io.KnownBytes.{Consumes, IsAtEnd};
 ghost use Rattle.ripemd_block.specs.Standard.Hashing.{hash};
 ghost use Rattle.ripemd.specs.Standard.Hashing.{ripemd};
 ghost use Rattle.ripemd_batch.specs.Lanes.{targets};
-ghost use Rattle.ripemd_files.specs.Readings.{Gives, Gave, Breaks, ComesTo, OfFirst, Place, parameters_of};
+ghost use Rattle.ripemd_files.specs.Files.{Gives, Gave, Breaks, ComesTo, OfFirst, Place, parameters_of};
 ghost use Rattle.std.specs.List.{AllZip};
 ghost use Rattle.ripemd_files.specs.Contents.{Follows, IsContent, message_in};
 

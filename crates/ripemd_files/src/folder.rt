@@ -3,7 +3,7 @@
 ghost use Rattle.std.specs.Prelude.{ℕ, List, IfOk, IfErr, IsErr};
 ghost use Rattle.std.specs.Io.{ReadsAtMost};
 ghost use Rattle.std.specs.Io.KnownBytes.{ReadConsumes};
-ghost use Rattle.ripemd_files.specs.Readings.{Place};
+ghost use Rattle.ripemd_files.specs.Files.{Place};
 
 use std::io;
 

@@ -184,7 +184,7 @@ pub(crate) fn read_group<F: Folder, R: ReadList>(
                     next: Next::Ended,
                 });
             }
-            Piece::Failed => {
+            Piece::Failed(_) => {
                 return Ok(Group {
                     lines,
                     misformatted: None,
@@ -207,7 +207,7 @@ pub(crate) fn read_group<F: Folder, R: ReadList>(
                     next: Next::Ended,
                 });
             }
-            Piece::Line => {
+            Piece::Whole => {
                 let misformatted = take_line(
                     alloc,
                     folder,

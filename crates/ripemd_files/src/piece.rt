@@ -1,4 +1,4 @@
-//! Lists of lines, read line by line.
+//! Texts, read piece by piece: lists by lines.
 
 ghost use Rattle.std.specs.Prelude.{◌≡◌, false, IfErr, IfOk};
 ghost use Rattle.std.specs.Io.Buffered.{reader_remaining};
@@ -6,19 +6,61 @@ ghost use Rattle.std.specs.Io.BufRead.{ends_with_byte, strip_last};
 ghost use Rattle.ripemd_files.specs.Splitting.{IsPiece, ListState, ReadsOn, is_failure};
 
 use std::alloc::AllocError;
+use std::io;
 use std::io::{BufRead, BufReader, ErrorKind, Read};
 
-/// What was read of a list.
-#[derive(Clone, Copy, PartialEq, Eq, Debug)]
+/// What was read of a text whose pieces end with a certain byte, as lines do with a newline.
+#[derive(Clone, Copy, Debug)]
 pub enum Piece {
-    /// A line that ended with a newline.
-    Line,
-    /// The last line, which ended with the list.
+    /// A piece that ended with its byte.
+    Whole,
+    /// The last piece, which ended with the text.
     Last,
-    /// No line: the list had ended.
+    /// No piece: the text had ended.
     Nothing,
-    /// The front of a line, which may be empty: a read failed.
-    Failed,
+    /// The front of a piece, which may be empty: a read failed with this error.
+    Failed(io::Error),
+}
+
+/// Reads the next piece to `text`, in place of what stood there, without the byte `end` that ends it.
+///
+/// # Errors
+///
+/// `AllocError` if there is no memory left for it.
+pub fn read_piece<R: Read>(
+    reader: &mut BufReader<R>,
+    end: u8,
+    text: &mut Vec<u8>,
+) -> Result<Piece, AllocError>
+    ensures piece { IfOk result (IsPiece end (reader_remaining R.remaining reader.old) (reader_remaining R.remaining reader.new) text.new.items) }
+    ensures err { IfErr result (λ _. ReadsOn (reader_remaining R.remaining reader.old) (reader_remaining R.remaining reader.new)) }
+{
+    text.clear();
+    let outcome = reader.read_until(end, text);
+    let is_whole = pop(text, end);
+    match outcome {
+        Err(error) if error.kind() == ErrorKind::OutOfMemory => Err(AllocError),
+        // Of a read that fails after the byte, which none does, the next one tells.
+        _ if is_whole => Ok(Piece::Whole),
+        Err(error) => Ok(Piece::Failed(error)),
+        Ok(0) => Ok(Piece::Nothing),
+        Ok(_) => Ok(Piece::Last),
+    }
+}
+
+// Takes the byte `end` from the end of a text. Whether it was there.
+fn pop(text: &mut Vec<u8>, end: u8) -> bool
+    ensures found { result ≡ ends_with_byte end text.old.items }
+    ensures text { text.new.items ≡ strip_last end text.old.items }
+{
+    let Some(last) = text.len().checked_sub(1) else {
+        return false;
+    };
+    if text[last] != end {
+        return false;
+    }
+    text.truncate(last);
+    true
 }
 
 /// A list, as it is read.
@@ -38,7 +80,7 @@ pub trait ReadList {
     /// `AllocError` if there is no memory left for it.
     fn read_line(&mut self, text: &mut Vec<u8>) -> Result<Piece, AllocError>
         requires works { (state self.old).failed ≡ false }
-        ensures piece { IfOk result (IsPiece (state self.old).left (state self.new).left text.new.items) }
+        ensures piece { IfOk result (IsPiece 10 (state self.old).left (state self.new).left text.new.items) }
         ensures failed { IfOk result (λ piece. (state self.new).failed ≡ is_failure piece) }
         ensures err { IfErr result (λ _. ReadsOn (state self.old).left (state self.new).left) };
 }
@@ -75,32 +117,8 @@ impl<R: Read> ReadList for List<R> {
     }
 
     fn read_line(&mut self, text: &mut Vec<u8>) -> Result<Piece, AllocError> {
-        text.clear();
-        let outcome = self.reader.read_until(b'\n', text);
-        let has_newline = pop_newline(text);
-        // Of a read that fails behind a newline, which none does, the next one tells.
-        self.failed |= outcome.is_err() && !has_newline;
-        match outcome {
-            Err(error) if error.kind() == ErrorKind::OutOfMemory => Err(AllocError),
-            _ if has_newline => Ok(Piece::Line),
-            Err(_) => Ok(Piece::Failed),
-            Ok(0) => Ok(Piece::Nothing),
-            Ok(_) => Ok(Piece::Last),
-        }
+        let piece = read_piece(&mut self.reader, b'\n', text)?;
+        self.failed = matches!(piece, Piece::Failed(_));
+        Ok(piece)
     }
-}
-
-// Takes the newline from the end of a text. Whether there was one.
-fn pop_newline(text: &mut Vec<u8>) -> bool
-    ensures found { result ≡ ends_with_byte 10 text.old.items }
-    ensures text { text.new.items ≡ strip_last 10 text.old.items }
-{
-    let Some(end) = text.len().checked_sub(1) else {
-        return false;
-    };
-    if text[end] != b'\n' {
-        return false;
-    }
-    text.truncate(end);
-    true
 }

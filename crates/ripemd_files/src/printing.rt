@@ -4,7 +4,7 @@ ghost use Rattle.std.specs.Prelude.{◌≡◌, ◌<◌, ◌++◌, ◌∷◌, [],
 ghost use Rattle.std.specs.List.{AllZip};
 ghost use Rattle.ripemd.specs.Standard.Hashing.{ripemd};
 ghost use Rattle.ripemd_batch.specs.Lanes.{targets};
-ghost use Rattle.ripemd_files.specs.Readings.{ComesTo, parameters_of};
+ghost use Rattle.ripemd_files.specs.Files.{ComesTo, parameters_of};
 ghost use Rattle.ripemd_files.specs.Said.{Pends, Stops, Tells, unreadable, written};
 ghost use Rattle.ripemd_files.specs.Printing.{PrintsAll, PrintsFirst, items_on, was_read};
 

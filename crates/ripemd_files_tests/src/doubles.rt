@@ -3,7 +3,7 @@
 ghost use Rattle.std.specs.Prelude.{◌≡◌, false, IfErr, IfOk, None, OnOk, Some};
 ghost use Rattle.ripemd_files.specs.Splitting.{state_of};
 ghost use Rattle.std.specs.Io.{ReadsAtMost};
-ghost use Rattle.ripemd_files.specs.Readings.{any_place};
+ghost use Rattle.ripemd_files.specs.Files.{any_place};
 
 use ripemd_files::folder::Folder;
 use ripemd_files::log::{Complaint, Log};

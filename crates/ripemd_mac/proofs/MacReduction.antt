@@ -1,8 +1,10 @@
 -- What collisions of the inner and of the outer messages say of the texts.
 use Rattle.std.proofs.Common.{◌≡◌, ◌≢◌, ◌⊎◌, inl, inr, ◌↔◌, ℕ, sym, ap, subst, refl, rules, ◌∙◌}
-use Rattle.std.proofs.Common.{List, ◌++◌, Option, None, Some, Result, Ok, Err}
+use Rattle.std.proofs.Common.{List, ◌++◌, Option, None, Some, Result, Ok, Err, true}
 use Rattle.std.proofs.lemmas.List.{append_cancel_left}
 use Rattle.std.proofs.lemmas.Bool.{false≢true}
+use Rattle.std.proofs.lemmas.Slice.Eq.{bytes_eq-Decides}
+use Rattle.std.specs.Str.{bytes_eq}
 use Rattle.std.specs.Prelude.{IsErr, OnErr, IsNone, IfSome, IsSomeAnd, MatchOption}
 use Rattle.ripemd.specs.Collisions.{IsCollision, IsOnlyCollision}
 use Rattle.ripemd.specs.declared.witness.Collision.{Collision}
@@ -36,14 +38,6 @@ after_front other bytes hash same one front a b =
       ]),
     )
 
--- the bytes of an inner digest
-pub inner_hash : (hash : List ℕ → List ℕ) (key masked_key text digest bytes : List ℕ)
-    → masked_key ≡ masked 0x36 (key_block hash key) → digest ≡ hash (masked_key ++ text) → bytes ≡ digest
-    → bytes ≡ hash (inner_message hash key text)
-unfolding inner_message
-inner_hash hash key masked_key text digest bytes is hashed same =
-    same ∙ hashed ∙ ap (λ (k : List ℕ). hash (k ++ text)) is
-
 module _ (hash : List ℕ → List ℕ) (key a b : List ℕ) where
   -- when there is no collision
   abbrev pub Nothing : Type 0
@@ -52,6 +46,22 @@ module _ (hash : List ℕ → List ℕ) (key a b : List ℕ) where
   pub tags_agree : InnerAgree hash key a b → hmac hash key a ≡ hmac hash key b
   unfolding hmac outer_message
   tags_agree agree = ap (λ (bs : List ℕ). hash (masked 0x5c (key_block hash key) ++ bs)) agree
+
+  -- comparing the digests of the inner messages tells whether they agree
+  pub compared : (masked_key c d x y : List ℕ) → masked_key ≡ masked 0x36 (key_block hash key)
+      → c ≡ hash (masked_key ++ a) → x ≡ c → d ≡ hash (masked_key ++ b) → y ≡ d
+      → (x ≡ hash (inner_message hash key a)) × (y ≡ hash (inner_message hash key b)) × ((bytes_eq x y ≡ true) ↔ InnerAgree hash key a b)
+  unfolding inner_message
+  compared masked_key c d x y is of_c of_x of_d of_y =
+      let left : x ≡ hash (inner_message hash key a) = of_x ∙ of_c ∙ ap (λ (k : List ℕ). hash (k ++ a)) is in
+      let right : y ≡ hash (inner_message hash key b) = of_y ∙ of_d ∙ ap (λ (k : List ℕ). hash (k ++ b)) is in (
+        left,
+        right,
+        (
+          (λ same. sym left ∙ (bytes_eq-Decides x y).0 same ∙ right),
+          (λ agree. (bytes_eq-Decides x y).1 (left ∙ agree ∙ sym right)),
+        ),
+      )
 
   -- out of memory
   pub no_memory : {X E : Type 0} (r : Result (Option X) E) → IsErr r → a ≢ b → InnerAgree hash key a b

@@ -10,7 +10,8 @@ use Rattle.ripemd_files.specs.declared.verdict.Options.{Options}
 use Rattle.rmdsum.specs.declared.names.Wrong.{Wrong}
 use Rattle.rmdsum.specs.declared.request.Work.{Work}
 use Rattle.rmdsum.specs.declared.request.Work.TheVariants.{Print, Check}
-use Rattle.rmdsum.specs.Runs.{Deed, Item, Adds, Extends, AreOf, IsPart, Handles, IsRun, items, got, handled, succeeded}
+use Rattle.ripemd_files.specs.Said.{Adds}
+use Rattle.rmdsum.specs.Runs.{Deed, Item, Extends, AreOf, IsPart, Handles, IsRun, items, got, handled, succeeded}
 use Rattle.rmdsum.specs.Runs.Deed.{Gets, Prints, Checks, Says}
 use Rattle.rmdsum.specs.Runs.Item.{Name, Fault}
 
@@ -61,15 +62,6 @@ one_list only options a b c names i name text success answer within is read so_f
           (both (Check only options) [] [] (map Name (map vec_items (take i names))) (Name text ∷ []) so_far.0
           (Checks only options text answer ∷ []) success answer so_far.2 checked),
     )
-
--- files were printed
-pub one_print : (style : Style) (a b : Option (List Deed)) (names : List (List ℕ)) (answer : Bool)
-    → Adds a b (Prints style names answer ∷ []) → Extends a b (λ deeds. Handles (Print style) names deeds answer)
-one_print style a b names answer next = (
-  Prints style names answer ∷ [],
-  next,
-  record { of = (refl, tt); items_got = refl; items_handled = append-nil (map Name names); success_is = and_true answer },
-)
 
 -- what a run got so far it handled
 pub record IsBegun (work : Work) (deeds : List Deed) (success : Bool) : Type 0 where
@@ -131,11 +123,3 @@ ended work a b c [] None success none nothing so_far gave =
     )
 ended work a b c [] (Some wrong) success none nothing so_far gave = absurd (true≢false (sym nothing))
 ended work a b c (name ∷ names) wrong success none nothing so_far gave = absurd (omega (arith, none))
-
-adds_nothing : (a : Option (List Deed)) → Adds a a []
-adds_nothing None = tt
-adds_nothing (Some deeds) = sym (append-nil deeds)
-
-pub begun : (work : Work) (a : Option (List Deed)) → Begins work a a true
-begun work a =
-    ([], adds_nothing a, record { all = []; part = record { of = tt; items_got = refl; items_handled = refl; success_is = refl } })

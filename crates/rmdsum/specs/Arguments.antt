@@ -177,6 +177,7 @@ Reads given before after next = added before given ≡ Goes after next
 abbrev pub Says : Reading → List Word → Type 0
 Says given words = (next : Next) × (given ≡ Goes (map said words) next)
 
+-- the reason that a misuse names, if arguments alone give it
 abbrev pub why_of : Misuse → Why
 why_of (misuses.UnknownLong text) = UnknownLong text.items
 why_of (misuses.Ambiguous text) = Ambiguous text.items
@@ -187,6 +188,7 @@ why_of (misuses.MissingShortValue letter) = MissingShortValue letter
 why_of (misuses.UnknownVariant name) = UnknownVariant name.items
 why_of _ = NotInReading
 
+-- a reading is answered so: by what its words ask for, or by why it stopped
 abbrev pub Answers : Reading → Result Request Misuse → Type 0
 Answers (Goes words next) (Ok request) = Asks (reverse words) request
 Answers (Goes words next) (Err misuse) = IsRefused (reverse words) (refusals.Misuse misuse)

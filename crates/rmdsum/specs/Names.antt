@@ -1,9 +1,10 @@
 -- The names that a file has, each ended by a byte 0, as they are read.
-use Rattle.std.specs.Prelude.{◌≡◌, ◌≢◌, ℕ, List, [], ◌∷◌, ◌++◌, codes, Option, Some, None, IfSome, ⊤}
+use Rattle.std.specs.Prelude.{◌≡◌, ◌⊎◌, ℕ, List, [], ◌∷◌, ◌++◌, codes, Option, Some, None, IfSome, ⊤}
 use Rattle.std.specs.Io.KnownBytes.{IsAtEnd}
-use Rattle.std.specs.Io.BufRead.{first_piece, drop_through}
 use Rattle.std.specs.Io.Buffered.{reader_remaining}
 use Rattle.std.specs.declared.io.buffered.BufReader.{BufReader}
+use Rattle.ripemd_files.specs.declared.piece.Piece.TheVariants.{Whole, Last}
+use Rattle.ripemd_files.specs.Splitting.{IsPiece}
 use Rattle.rmdsum.specs.declared.names.Wrong.{Wrong}
 use Rattle.rmdsum.specs.declared.names.Wrong.TheVariants.{Unread, Empty, Input}
 use Rattle.rmdsum.specs.declared.names.Entry.{Entry}
@@ -14,9 +15,9 @@ abbrev pub left_in : {R A : Type 0} → (R → Option (List ℕ)) → Option (Bu
 left_in remaining None = Some []
 left_in remaining (Some reader) = reader_remaining remaining reader
 
--- known bytes began with this name
+-- this name was read: up to a byte 0, or to the end
 abbrev pub NextName : Option (List ℕ) → List ℕ → Option (List ℕ) → Type 0
-NextName old name new = IfSome old (λ bytes. (bytes ≢ []) × (name ≡ first_piece 0 bytes) × (new ≡ Some (drop_through 0 bytes)))
+NextName old name new = IsPiece 0 old new name Whole ⊎ IsPiece 0 old new name Last
 
 -- nothing was read
 abbrev pub Stays : Option (List ℕ) → Option (List ℕ) → Type 0

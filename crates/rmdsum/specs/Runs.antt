@@ -4,6 +4,7 @@ use Rattle.std.specs.List.{list_all}
 use Rattle.ripemd_files.specs.declared.line.Variant.{Variant}
 use Rattle.ripemd_files.specs.declared.printing.Style.{Style}
 use Rattle.ripemd_files.specs.declared.verdict.Options.{Options}
+use Rattle.ripemd_files.specs.Said.{Adds}
 use Rattle.rmdsum.specs.declared.names.Wrong.{Wrong}
 use Rattle.rmdsum.specs.declared.request.Work.{Work}
 use Rattle.rmdsum.specs.declared.request.Work.TheVariants.{Print, Check}
@@ -16,12 +17,7 @@ pub data Deed : Type 0 where
   Checks : Option Variant → Options → List ℕ → Bool → Deed
   Says : Option Wrong → Bool → Deed
 
--- known deeds grow by these
-abbrev pub Adds : Option (List Deed) → Option (List Deed) → List Deed → Type 0
-Adds None new more = ⊤
-Adds (Some xs) None more = ⊥
-Adds (Some xs) (Some ys) more = ys ≡ xs ++ more
-
+-- known deeds grow by such
 abbrev pub Extends : Option (List Deed) → Option (List Deed) → (List Deed → Type 0) → Type 0
 Extends old new P = (deeds : List Deed) × Adds old new deeds × P deeds
 

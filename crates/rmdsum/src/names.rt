@@ -1,8 +1,7 @@
 //! The names of files, as they come.
 
-ghost use Rattle.std.specs.Prelude.{◌≡◌, ℕ, true, false, IfOk, IsSomeAnd, None, is_none, map, vec_items, Vec};
+ghost use Rattle.std.specs.Prelude.{◌≡◌, [], ℕ, true, false, IfOk, IsSomeAnd, None, is_none, map, vec_items, Vec};
 ghost use Rattle.std.specs.Global.{Global};
-ghost use Rattle.std.specs.Io.BufRead.{ends_with_byte, strip_last};
 ghost use Rattle.rmdsum.specs.declared.request.NameSource.TheVariants.{Operands};
 ghost use Rattle.rmdsum.specs.Names.{left_in, Continues, IsEntry, IsNamed};
 
@@ -10,8 +9,9 @@ use crate::messages::{Message, say};
 use crate::request;
 use crate::system::{Source, buffered, is_input};
 use ripemd_files::fault::Fault;
+use ripemd_files::piece::{Piece, read_piece};
 use std::alloc::Global;
-use std::io::{BufRead, BufReader, ErrorKind, Read};
+use std::io::{BufReader, Read};
 use std::{io, mem};
 
 // So many names that a file has are given at once, at most.
@@ -104,8 +104,9 @@ enum Entry {
 impl<R: Read + Drop> Names<R> {
     /// The next names, up to a wrong one or one that has to be waited for.
     pub fn next(&mut self, alloc: Global) -> Result<Batch, Fault>
-        ensures { IfOk result (λ batch. Continues (left_in R.remaining self.old.reader) (left_in R.remaining self.new.reader)
+        ensures next { IfOk result (λ batch. Continues (left_in R.remaining self.old.reader) (left_in R.remaining self.new.reader)
             (map vec_items self.old.given.items) (map vec_items batch.names.items) batch.wrong) }
+        ensures given { IfOk result (λ _. self.new.given.items ≡ []) }
     {
         let mut names = mem::replace(&mut self.given, Vec::new(alloc));
         for _ in 0..MOST {
@@ -143,22 +144,21 @@ impl<R: Read + Drop> Names<R> {
             return Ok(Entry::End);
         };
         let mut name = Vec::new(alloc);
-        match reader.read_until(0, &mut name) {
-            Ok(_) => {}
-            Err(error) if error.kind() == ErrorKind::OutOfMemory => return Err(Fault::NoMemory),
-            Err(error) => {
+        match read_piece(reader, 0, &mut name)? {
+            Piece::Whole => Ok(self.entry(name)),
+            Piece::Last => {
                 self.reader = None;
-                return Ok(Entry::Wrong(Wrong::Unread(error)));
+                Ok(self.entry(name))
+            }
+            Piece::Nothing => {
+                self.reader = None;
+                Ok(Entry::End)
+            }
+            Piece::Failed(error) => {
+                self.reader = None;
+                Ok(Entry::Wrong(Wrong::Unread(error)))
             }
         }
-        if pop_zero(&mut name) {
-            return Ok(self.entry(name));
-        }
-        self.reader = None;
-        if name.is_empty() {
-            return Ok(Entry::End);
-        }
-        Ok(self.entry(name))
     }
 
     // A name that was read, or what is wrong with it.
@@ -176,19 +176,4 @@ impl<R: Read + Drop> Names<R> {
             Entry::Name(name)
         }
     }
-}
-
-// Takes a byte 0 from the end of a name. Whether there was one.
-fn pop_zero(name: &mut Vec<u8>) -> bool
-    ensures found { result ≡ ends_with_byte 0 name.old.items }
-    ensures name { name.new.items ≡ strip_last 0 name.old.items }
-{
-    let Some(end) = name.len().checked_sub(1) else {
-        return false;
-    };
-    if name[end] != 0 {
-        return false;
-    }
-    name.truncate(end);
-    true
 }

@@ -1,7 +1,7 @@
 //! The files of the system.
 
 ghost use Rattle.std.specs.Prelude.{◌≡◌, ◌↔◌, true, codes};
-ghost use Rattle.ripemd_files.specs.Readings.{any_place};
+ghost use Rattle.ripemd_files.specs.Files.{any_place};
 
 use crate::progress::Progress;
 use ripemd_files::folder::Folder;

@@ -2,7 +2,8 @@
 
 ghost use Rattle.std.specs.Prelude.{◌≡◌, [], ◌∷◌, List, Option, IfOk, is_none, map, vec_items};
 ghost use Rattle.rmdsum.specs.declared.request.Work.TheVariants.{Check};
-ghost use Rattle.rmdsum.specs.Runs.{Deed, Adds, Extends, IsRun, Handles};
+ghost use Rattle.ripemd_files.specs.Said.{Adds};
+ghost use Rattle.rmdsum.specs.Runs.{Deed, Extends, IsRun, Handles};
 ghost use Rattle.rmdsum.specs.Runs.Deed.{Gets, Prints, Checks, Says};
 
 use crate::names::{Batch, Wrong};

@@ -50,29 +50,29 @@ returns-in-Last-clause-ok g c =
       bounded = λ never. absurd (search (rules, never));
     }
 
-pub returns-in_err-misformatted-in-Line-clause-err : goal.returns-in_err-misformatted-in-Line-clause-err
-returns-in_err-misformatted-in-Line-clause-err g c =
-    search (rules, stops_at_line _ _ _ _ _ _ _ _ _ c.lines.invariant.reads _ _ c.in_err-misformatted-in-Line.ensures.err (rw c.in-Line.is at c.in_ok-read_line.ensures.piece))
+pub returns-in_err-misformatted-in-Whole-clause-err : goal.returns-in_err-misformatted-in-Whole-clause-err
+returns-in_err-misformatted-in-Whole-clause-err g c =
+    search (rules, stops_at_line _ _ _ _ _ _ _ _ _ c.lines.invariant.reads _ _ c.in_err-misformatted-in-Whole.ensures.err (rw c.in-Whole.is at c.in_ok-read_line.ensures.piece))
 
 pub returns-in-Some-clause-ok : goal.returns-in-Some-clause-ok
 returns-in-Some-clause-ok g c =
-    let piece = rw c.in-Line.is at c.in_ok-read_line.ensures.piece in
-    let line = c.in_ok-misformatted-in-Line.ensures in
+    let piece = rw c.in-Whole.is at c.in_ok-read_line.ensures.piece in
+    let line = c.in_ok-misformatted-in-Whole.ensures in
     record {
       rest = [];
-      reads = reads_line _ _ _ _ _ _ _ _ _ c.lines.invariant.reads _ _ _ (Some c.in-Some.number) (rw (c.as_slice-in-Line.ensures.value, c.in-Some.is) at line.takes) line.advances piece;
-      ended = (refl, (rw c.in-Line.is at c.in_ok-read_line.ensures.failed) ∙ sym c.requires.works);
+      reads = reads_line _ _ _ _ _ _ _ _ _ c.lines.invariant.reads _ _ _ (Some c.in-Some.number) (rw (c.as_slice-in-Whole.ensures.value, c.in-Some.is) at line.takes) line.advances piece;
+      ended = (refl, (rw c.in-Whole.is at c.in_ok-read_line.ensures.failed) ∙ sym c.requires.works);
       advanced = λ _. omega (arith, line.advances, c.lines.invariant.behind);
       bounded = λ _. line.bound;
     }
 
 pub lines-preserved : goal.lines-preserved
 lines-preserved g c =
-    let piece = rw c.in-Line.is at c.in_ok-read_line.ensures.piece in
-    let line = c.in_ok-misformatted-in-Line.ensures in
+    let piece = rw c.in-Whole.is at c.in_ok-read_line.ensures.piece in
+    let line = c.in_ok-misformatted-in-Whole.ensures in
     record {
-      reads = reads_line _ _ _ _ _ _ _ _ _ c.lines.invariant.reads _ _ _ None (rw (c.as_slice-in-Line.ensures.value, c.in-None.is) at line.takes) line.advances piece;
-      works = (rw c.in-Line.is at c.in_ok-read_line.ensures.failed) ∙ sym c.requires.works;
+      reads = reads_line _ _ _ _ _ _ _ _ _ c.lines.invariant.reads _ _ _ None (rw (c.as_slice-in-Whole.ensures.value, c.in-None.is) at line.takes) line.advances piece;
+      works = (rw c.in-Whole.is at c.in_ok-read_line.ensures.failed) ∙ sym c.requires.works;
       advanced = λ _. omega (arith, line.advances, c.lines.invariant.behind);
       bounded = λ _. line.bound;
       behind = omega (arith, line.advances, c.lines.invariant.behind);

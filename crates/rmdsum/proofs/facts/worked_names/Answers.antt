@@ -1,4 +1,4 @@
-use Rattle.std.proofs.Common.{ℕ, List, [], ◌∷◌, codes, Option, Some, None, refl, sym, ap, subst, length, arith}
+use Rattle.std.proofs.Common.{ℕ, List, [], ◌∷◌, codes, Option, Some, None, inl, inr, refl, sym, ap, subst, length, arith}
 use Rattle.rmdsum.specs.Names.{Follow, Stays}
 use Rattle.rmdsum.proofs.facts.worked_names.Goals as goal
 
@@ -13,7 +13,7 @@ returns c = record {
     read = codes "a" ∷ codes "b" ∷ [];
     between = Some [];
     all = refl;
-    follow = (Some (98 ∷ []), ((λ none. omega (arith, ap length none)), refl, refl), (Some [], ((λ none. omega (arith, ap length none)), refl, refl), refl));
+    follow = (Some (98 ∷ []), inl (refl, refl), (Some [], inr (refl, refl, (λ none. omega (arith, ap length none)), refl), refl));
     ends = refl;
     last = λ none nothing. absurd (omega (arith, ap length none));
   };
@@ -22,8 +22,8 @@ returns c = record {
     read = codes "a" ∷ [];
     between = Some (0 ∷ 98 ∷ []);
     all = refl;
-    follow = (Some (0 ∷ 98 ∷ []), ((λ none. omega (arith, ap length none)), refl, refl), refl);
-    ends = ((λ none. omega (arith, ap length none)), refl, refl);
+    follow = (Some (0 ∷ 98 ∷ []), inl (refl, refl), refl);
+    ends = inl (refl, refl);
     last = λ none nothing. absurd (omega (arith, ap length none));
   };
   not_ended = λ goes. omega (arith, ap length (goes.last refl refl));

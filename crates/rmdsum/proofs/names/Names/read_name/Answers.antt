@@ -1,10 +1,6 @@
-use Rattle.std.proofs.Common.{rules, sym, ◌∙◌}
-use Rattle.std.proofs.lemmas.Result.{IfOk-at_ok}
-use Rattle.rmdsum.proofs.Entries.{last_name}
+use Rattle.std.proofs.Common.{inl, inr}
+use Rattle.rmdsum.proofs.Entries.{entry_of, last_leaves, nothing_leaves}
 use Rattle.rmdsum.proofs.names.Names.read_name.Goals as goal
 
-pub returns-clause-entry : goal.returns-clause-entry
-returns-clause-entry g c =
-    rw (c.in-Some.is, c.entry-2.ensures.reader) (last_name _ _ _ _ _ c.new-name.ensures.items
-    (IfOk-at_ok _ c.in-Ok.is c.read_until.ensures.bytes) (sym c.pop_zero.ensures.found ∙ c.if-pop_zero.false) c.pop_zero.ensures.name
-    (search rules) c.entry-2.ensures.name)
+pub returns-in-Whole-clause-entry : goal.returns-in-Whole-clause-entry
+returns-in-Whole-clause-entry g c = entry_of _ _ _ _ (inl (rw c.in-Whole.is at c.in_ok-read_piece.ensures.piece)) c.entry-2.ensures.name
