@@ -4,17 +4,15 @@ import re
 import pytest
 from conftest import ROOT, fences, lines, run, version
 
-# The examples of these pages, and the contracts that they quote, stand in files that are proved.
+# The examples of these pages stand in files that are proved.
 USES = "crates/ripemd_uses"
 PROVED = {
     "crates/ripemd_block/README.md": [f"{USES}/src/block.rt"],
-    "crates/ripemd/README.md": [f"{USES}/src/readme.rt"],
+    "crates/ripemd/README.md": [f"{USES}/src/readme.rt", f"{USES}/src/calling.rt", f"{USES}/src/commands.rt",
+                                f"{USES}/proofs/calling/digest_of_reader/Invariants.antt"],
+    "crates/ripemd/BLOCK_FUNCTIONS.md": [f"{USES}/src/calling.rt"],
     "crates/ripemd_batch/README.md": [f"{USES}/src/batch.rt"],
-    "crates/ripemd_batch/CALLING.md": [f"{USES}/src/batch.rt"],
-    "crates/ripemd/CALLING.md": [f"{USES}/src/calling.rt", "crates/ripemd/src/digest.rt",
-                                 f"{USES}/proofs/calling/digest_of_reader/Invariants.antt"],
-    "crates/ripemd/BLOCK_FUNCTIONS.md": [f"{USES}/src/calling.rt", f"{USES}/src/commands.rt"],
-    "crates/ripemd_mac/CALLING.md": [f"{USES}/src/tags.rt"],
+    "crates/ripemd_mac/README.md": [f"{USES}/src/tags.rt"],
 }
 
 # What names the version beside nattizhu.h, from which everything else has it.

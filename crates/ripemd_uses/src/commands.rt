@@ -1,4 +1,4 @@
-//! The examples of `ripemd`'s page on callers that run lists of commands.
+//! The example of `ripemd`'s README that runs a list of commands.
 
 ghost use Rattle.std.specs.Prelude.{◌≡◌, [], ◌∷◌, ◌++◌, IfOk, IfErr};
 ghost use Rattle.ripemd.specs.Standard.Compression.{ripemd160};

@@ -1,4 +1,4 @@
-// The example of ripemd's README, as it stands there.
+// The first example of ripemd's README, as it stands there.
 
 ghost use Rattle.std.specs.Prelude.{◌≡◌, ◌++◌};
 ghost use Rattle.ripemd.specs.Standard.Compression.{ripemd160};
