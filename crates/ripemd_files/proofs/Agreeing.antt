@@ -1,12 +1,17 @@
 -- Lines that were printed, and are checked.
-use Rattle.std.proofs.Common.{rules, ◌≡◌, ◌≢◌, ℕ, ◌-◌, ◌==◌, ◌&&◌, Bool, true, false, List, [], ◌∷◌, length, take, get_or, cond, Option, unwrap_or, refl, sym, ap, subst, ◌∙◌, arith}
+use Rattle.std.proofs.Common.{rules, ◌≡◌, ◌≢◌, ◌↔◌, ◌⊎◌, inl, inr, ℕ, ◌-◌, ◌==◌, ◌&&◌, Bool, true, false, List, [], ◌∷◌, length, take, get_or, cond, Option, None, Some, unwrap_or, refl, sym, ap, subst, ◌∙◌, arith}
 use Rattle.std.specs.List.{list_any}
+use Rattle.std.specs.Prelude.{IfSome, IsNone, IsSomeAnd, MatchOption}
 use Rattle.std.specs.Str.{bytes_eq}
 use Rattle.std.specs.Io.BufRead.{ends_with_byte}
 use Rattle.std.proofs.lemmas.Bool.{lt-ltb, eqb-true, false_from_ne_true}
 use Rattle.std.proofs.lemmas.Slice.Eq.{bytes_eq-Decides}
 use Rattle.std.proofs.lemmas.List.Folds.{list_any_at}
+use Rattle.ripemd.specs.Collisions.{IsCollision}
+use Rattle.ripemd.specs.declared.witness.Collision.{Collision}
+use Rattle.ripemd.specs.Standard.Compression.{Parameters, compress}
 use Rattle.ripemd.specs.Standard.Hashing.{ripemd}
+use Rattle.ripemd_files.specs.declared.agreement.VariantCollision.{VariantCollision}
 use Rattle.ripemd_files.specs.declared.line.Form.{Form}
 use Rattle.ripemd_files.specs.declared.line.Layout.{Layout}
 use Rattle.ripemd_files.specs.declared.line.Layout.TheVariants.{Standard}
@@ -19,9 +24,9 @@ use Rattle.ripemd_files.specs.declared.verdict.Verdict.{Verdict}
 use Rattle.ripemd_files.specs.declared.verdict.Verdict.TheVariants.{Differs, Matches, Missing, Unreadable}
 use Rattle.ripemd_files.specs.Lines.{IsLine, RoundTrips, is_end}
 use Rattle.ripemd_files.specs.Files.{ComesTo, Gives, Place, parameters_of}
-use Rattle.ripemd_files.specs.Checking.{checked, is_missing, verdict_of}
+use Rattle.ripemd_files.specs.Checking.{checked, is_missing, verdict_of, verdict_of_digest}
 use Rattle.ripemd_files.specs.Lists.{IsEventOn, IsTaken, body_of_line}
-use Rattle.ripemd_files.specs.Printed.{IsPrinted, printed_line}
+use Rattle.ripemd_files.specs.Printed.{IsCollisionOf, IsPrinted, printed_line}
 use Rattle.ripemd_files.proofs.Written.{IsLine-line_of}
 use Rattle.ripemd_files.proofs.Ends.{no_end}
 use Rattle.ripemd_files.proofs.Sayings.{one_line}
@@ -127,3 +132,16 @@ module _ (kinds : Rules) (layout : Option Layout) (form : Form) (variant : Varia
         → (given : List ℕ) × Gives (place.opens name) place.left given × (ripemd (parameters_of variant) given ≡ digest)
     match_gives matches =
         same_digest place (ripemd (parameters_of variant)) name digest message refl ignore_missing event.2 came_to (sym matches ∙ is_verdict)
+
+    -- where the file gives no other message, this one has the digest
+    pub equal_digests : verdict ≡ Matches → (given : List ℕ) → ((m : List ℕ) → Gives (place.opens name) place.left m → m ≡ given)
+        → digest ≡ ripemd (parameters_of variant) given
+    equal_digests matches given gave =
+        let gives = match_gives matches in
+        sym gives.2 ∙ ap (ripemd (parameters_of variant)) (gave gives.0 gives.1)
+
+pub none_found : {S T : Type 0} (wrap : S → T) (found : Option S) (answer : Option T)
+    → MatchOption found (answer ≡ None) (λ c. IsSomeAnd answer (λ m. m ≡ wrap c)) → IsNone answer → IsNone found
+none_found wrap None answer is nothing = refl
+none_found wrap (Some c) None is nothing = absurd is
+none_found wrap (Some c) (Some m) is nothing = absurd cc

@@ -2,12 +2,17 @@
 use Rattle.std.specs.Prelude.{◌≡◌, ◌≢◌, ◌==◌, ◌&&◌, ℕ, List, ◌++◌, codes, map, flat_map, Option, unwrap_or, Result, Ok, Err, Bool, false, IsTrue, if◌then◌else◌}
 use Rattle.std.specs.List.{list_any}
 use Rattle.std.specs.declared.io.Error.{Error}
+use Rattle.ripemd.specs.Collisions.{IsCollision}
+use Rattle.ripemd.specs.Standard.Compression.{compress, ripemd128, ripemd160, ripemd256, ripemd320}
 use Rattle.ripemd.specs.Standard.Hashing.{ripemd}
+use Rattle.ripemd_files.specs.declared.agreement.VariantCollision.{VariantCollision}
+use Rattle.ripemd_files.specs.declared.agreement.VariantCollision.TheVariants as collisions
 use Rattle.ripemd_files.specs.declared.line.Form.{Form}
 use Rattle.ripemd_files.specs.declared.line.Layout.{Layout}
 use Rattle.ripemd_files.specs.declared.line.Layout.TheVariants.{Standard}
 use Rattle.ripemd_files.specs.declared.line.Ending.TheVariants.{Newline}
 use Rattle.ripemd_files.specs.declared.line.Variant.{Variant}
+use Rattle.ripemd_files.specs.declared.line.Variant.TheVariants.{R128, R160, R256, R320}
 use Rattle.ripemd_files.specs.declared.list.Rules.{Rules}
 use Rattle.ripemd_files.specs.declared.verdict.Verdict.{Verdict}
 use Rattle.ripemd_files.specs.declared.verdict.Verdict.TheVariants.{Missing, Unreadable}
@@ -47,9 +52,9 @@ abbrev pub events_now : Bool → Variant → (List ℕ → Result (List ℕ) Err
 events_now ignore_missing variant contents files =
     map (λ (f : Printed). checked f.name (verdict_now ignore_missing variant f.message (contents f.name))) files
 
--- a collision of two messages, by the compression function of this variant
+-- a collision of two messages, by the block function of this variant
 abbrev pub IsCollisionOf : Variant → List ℕ → List ℕ → VariantCollision → Type 0
-IsCollisionOf variant a b (collisions.R128 c) = (variant ≡ R128) × IsCollision (initial_words ripemd128) (compress ripemd128) a b c
-IsCollisionOf variant a b (collisions.R160 c) = (variant ≡ R160) × IsCollision (initial_words ripemd160) (compress ripemd160) a b c
-IsCollisionOf variant a b (collisions.R256 c) = (variant ≡ R256) × IsCollision (initial_words ripemd256) (compress ripemd256) a b c
-IsCollisionOf variant a b (collisions.R320 c) = (variant ≡ R320) × IsCollision (initial_words ripemd320) (compress ripemd320) a b c
+IsCollisionOf variant a b (collisions.R128 c) = (variant ≡ R128) × IsCollision ripemd128.start (compress ripemd128) a b c
+IsCollisionOf variant a b (collisions.R160 c) = (variant ≡ R160) × IsCollision ripemd160.start (compress ripemd160) a b c
+IsCollisionOf variant a b (collisions.R256 c) = (variant ≡ R256) × IsCollision ripemd256.start (compress ripemd256) a b c
+IsCollisionOf variant a b (collisions.R320 c) = (variant ≡ R320) × IsCollision ripemd320.start (compress ripemd320) a b c
