@@ -1,17 +1,13 @@
 -- Lines that were printed, and are checked.
-use Rattle.std.proofs.Common.{rules, ◌≡◌, ◌≢◌, ◌↔◌, ◌⊎◌, inl, inr, ℕ, ◌-◌, ◌==◌, ◌&&◌, Bool, true, false, List, [], ◌∷◌, length, take, get_or, cond, Option, None, Some, unwrap_or, refl, sym, ap, subst, ◌∙◌, arith}
+use Rattle.std.proofs.Common.{rules, ◌≡◌, ◌≢◌, ℕ, ◌-◌, ◌==◌, ◌&&◌, Bool, true, false, List, [], ◌∷◌, length, take, get_or, cond, Option, None, Some, unwrap_or, refl, sym, ap, subst, ◌∙◌, arith}
 use Rattle.std.specs.List.{list_any}
-use Rattle.std.specs.Prelude.{IfSome, IsNone, IsSomeAnd, MatchOption}
+use Rattle.std.specs.Prelude.{IsNone, IsSomeAnd, MatchOption}
 use Rattle.std.specs.Str.{bytes_eq}
 use Rattle.std.specs.Io.BufRead.{ends_with_byte}
 use Rattle.std.proofs.lemmas.Bool.{lt-ltb, eqb-true, false_from_ne_true}
 use Rattle.std.proofs.lemmas.Slice.Eq.{bytes_eq-Decides}
 use Rattle.std.proofs.lemmas.List.Folds.{list_any_at}
-use Rattle.ripemd.specs.Collisions.{IsCollision}
-use Rattle.ripemd.specs.declared.witness.Collision.{Collision}
-use Rattle.ripemd.specs.Standard.Compression.{Parameters, compress}
 use Rattle.ripemd.specs.Standard.Hashing.{ripemd}
-use Rattle.ripemd_files.specs.declared.agreement.VariantCollision.{VariantCollision}
 use Rattle.ripemd_files.specs.declared.line.Form.{Form}
 use Rattle.ripemd_files.specs.declared.line.Layout.{Layout}
 use Rattle.ripemd_files.specs.declared.line.Layout.TheVariants.{Standard}
@@ -24,9 +20,9 @@ use Rattle.ripemd_files.specs.declared.verdict.Verdict.{Verdict}
 use Rattle.ripemd_files.specs.declared.verdict.Verdict.TheVariants.{Differs, Matches, Missing, Unreadable}
 use Rattle.ripemd_files.specs.Lines.{IsLine, RoundTrips, is_end}
 use Rattle.ripemd_files.specs.Files.{ComesTo, Gives, Place, parameters_of}
-use Rattle.ripemd_files.specs.Checking.{checked, is_missing, verdict_of, verdict_of_digest}
+use Rattle.ripemd_files.specs.Checking.{checked, is_missing, verdict_of}
 use Rattle.ripemd_files.specs.Lists.{IsEventOn, IsTaken, body_of_line}
-use Rattle.ripemd_files.specs.Printed.{IsCollisionOf, IsPrinted, printed_line}
+use Rattle.ripemd_files.specs.Printed.{IsPrinted, printed_line}
 use Rattle.ripemd_files.proofs.Written.{IsLine-line_of}
 use Rattle.ripemd_files.proofs.Ends.{no_end}
 use Rattle.ripemd_files.proofs.Sayings.{one_line}
