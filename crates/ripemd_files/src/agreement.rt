@@ -1,4 +1,4 @@
-//! What is printed of a file, a check takes for what it is. Functions without a result do nothing; their contracts are the theorems.
+//! A check accepts what was printed. Functions without a result do nothing; their contracts are the theorems.
 
 ghost use Rattle.std.specs.Prelude.{◌≡◌, ◌≢◌, ◌<◌, ◌^◌, ◌++◌, ◌↔◌, ◌⊎◌, ℕ, List, map, Bool, true, Option, None, Some, Result, Ok, length, unwrap_or, IfSome, IsNone};
 ghost use Rattle.std.specs.List.{All};
@@ -40,7 +40,7 @@ pub fn digest_laws()
 /// If its file is found to match, it gave a message with the printed digest: the printed one, or see
 /// [`matching_collision`].
 pub fn printed_lines<F: Folder>(_folder: &F)
-    // The line counts, for what it is.
+    // A check accepts the line as one for this file.
     ensures taken { (rules : Rules) (layout : Option Layout) (form : Form) (variant : Variant) (message name : List ℕ)
         → IsPrinted rules layout form variant name
         → IsTaken rules layout (printed_line form variant message name) variant (ripemd (parameters_of variant) message) name }

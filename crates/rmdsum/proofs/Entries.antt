@@ -1,5 +1,5 @@
 -- The names that a file has, as they are read.
-use Rattle.std.proofs.Common.{◌≡◌, ◌≢◌, ℕ, ◌==◌, ◌-◌, ◌&&◌, get_or, Bool, true, false, cond, List, [], ◌∷◌, ◌++◌, length, Option, Some, None, refl, sym, ap, ◌∙◌, subst, true≢false, arith, map, vec_items, Global, append_assoc}
+use Rattle.std.proofs.Common.{inl, inr, ◌≡◌, ◌≢◌, ℕ, ◌==◌, ◌-◌, ◌&&◌, get_or, Bool, true, false, cond, List, [], ◌∷◌, ◌++◌, length, Option, Some, None, refl, sym, ap, ◌∙◌, subst, true≢false, arith, map, vec_items, Global, append_assoc}
 use Rattle.std.proofs.lemmas.Bool.{lt-ltb}
 use native.Mathlib.Numerals.{unary_clauses}
 use Rattle.std.specs.Prelude.{IfSome}
@@ -29,18 +29,18 @@ entry_of old new name entries.End next named = absurd named
 pub last_leaves : (old new : Option (List ℕ)) (name : List ℕ) → IsPiece 0 old new name Last → IsPiece 0 old (Some []) name Last
 last_leaves None new name last = last
 last_leaves (Some bytes) None name last = absurd last.0
-last_leaves (Some bytes) (Some rest) name last = (rw last.1 at last.0, refl, last.2)
+last_leaves (Some bytes) (Some rest) name last = (rw last.1 at last.0, refl, last.2, last.3)
 
 pub nothing_leaves : (old new : Option (List ℕ)) (name : List ℕ) → IsPiece 0 old new name Nothing → Stays old (Some [])
 nothing_leaves None new name nothing = tt
 nothing_leaves (Some bytes) None name nothing = absurd nothing.0
-nothing_leaves (Some bytes) (Some rest) name nothing = sym (rw nothing.1 at nothing.0)
+nothing_leaves (Some bytes) (Some rest) name nothing = sym (ap Some (rw nothing.1 at nothing.0))
 
 -- ---- some names
 
 stays_then : (old now new : Option (List ℕ)) (name : List ℕ) → Stays old now → NextName now name new → NextName old name new
 stays_then None now new name stays (inl whole) = inl (tt, whole.1)
-stays_then None now new name stays (inr last) = inr (tt, tt, last.2)
+stays_then None now new name stays (inr last) = inr (tt, tt, last.2, last.3)
 stays_then (Some bytes) now new name stays next = rw stays at next
 
 -- a name more was read

@@ -3,4 +3,6 @@ use Rattle.rmdsum.proofs.Entries.{entry_of, last_leaves, nothing_leaves}
 use Rattle.rmdsum.proofs.names.Names.read_name.Goals as goal
 
 pub returns-in-Whole-clause-entry : goal.returns-in-Whole-clause-entry
-returns-in-Whole-clause-entry g c = entry_of _ _ _ _ (inl (rw c.in-Whole.is at c.in_ok-read_piece.ensures.piece)) c.entry-2.ensures.name
+returns-in-Whole-clause-entry g c =
+    rw (c.in-Some.is, c.entry.ensures.reader)
+    (entry_of _ _ _ _ (inl (rw c.in-Whole.is at c.in_ok-read_piece.ensures.piece)) c.entry.ensures.name)
