@@ -17,7 +17,7 @@ use crate::list::{Cursor, Next, Rules, read_group};
 use crate::log::{Complaint, Log};
 use crate::outcome::Outcome;
 use crate::piece::ReadList;
-use crate::printing::{BUFFER, new_buffer, put, remark_unreadable};
+use crate::printing::{new_buffer, put, remark_unreadable};
 use crate::verdict::{Options, Tally, Verdict};
 use crate::writing::push_text;
 use std::alloc::{AllocError, Global};
@@ -52,7 +52,7 @@ pub fn check_list<F: Folder, R: ReadList, L: Log>(
         (R.state reader.old) (R.state reader.new) (L.told log.old) (L.told log.new)) }
     ensures layout { IsErr result → layout.new ≡ layout.old }
 {
-    let mut buffer = new_buffer(alloc, BUFFER)?;
+    let mut buffer = new_buffer(alloc)?;
     let mut cursor = Cursor {
         layout: *layout,
         number: 1,
@@ -254,14 +254,7 @@ fn check_outcomes<F: Folder, L: Log>(
     for k in 0..outcomes.len() {
         let line = &lines[k];
         let verdict = Verdict::of(options.ignore_missing, line.digest.as_slice(), &outcomes[k]);
-        tell(
-            alloc,
-            options,
-            line.name.as_slice(),
-            verdict,
-            &mut report,
-            log,
-        )?;
+        tell(options, line.name.as_slice(), verdict, &mut report, log)?;
         tally.add(&verdict);
     }
     put(log, report.as_slice())
@@ -299,10 +292,9 @@ fn names_of(alloc: Global, variant: Variant, lines: &[Line]) -> Result<Vec<&[u8]
     Ok(names)
 }
 
-// Adds the line of what was found of the file of this name to some that are not written yet, and remarks on it.
+// Remarks on what was found of the file of this name, and adds its line to some that are not written yet.
 #[tactic(auto, using(crate::proofs::Telling::telling))]
 fn tell<L: Log>(
-    alloc: Global,
     options: Options,
     name: &[u8],
     verdict: Verdict,
@@ -315,9 +307,8 @@ fn tell<L: Log>(
     ensures err { IfErr result (Stops ⊥ (L.told log.old) (L.told log.new)
         (written lines.old.items ++ items_of_event options (checked name.now verdict))) }
 {
-    let line = line_of(alloc, options, name, verdict)?;
     remark_on(name, verdict, lines, log)?;
-    lines.extend_from_slice(line.as_slice())?;
+    push_verdict(lines, options, name, verdict)?;
     Ok(())
 }
 
@@ -339,31 +330,24 @@ fn remark_on<L: Log>(
     Ok(())
 }
 
-// The line of what was found, if it has one.
-fn line_of(
-    alloc: Global,
+// Adds the line of what was found, if it has one.
+fn push_verdict(
+    lines: &mut Vec<u8>,
     options: Options,
     name: &[u8],
     verdict: Verdict,
-) -> Result<Vec<u8>, AllocError>
-    ensures { IfOk result (λ line. line.items ≡ line_of_event options (checked name.now verdict)) }
+) -> Result<(), AllocError>
+    ensures { OnOk result (lines.new.items ≡ lines.old.items ++ line_of_event options (checked name.now verdict)) }
 {
     if options.status {
-        return Ok(Vec::new(alloc));
+        return Ok(());
     }
-    report(alloc, options.quiet, name, verdict)
-}
-
-// The line of a verdict, if it has one.
-fn report(alloc: Global, quiet: bool, name: &[u8], verdict: Verdict) -> Result<Vec<u8>, AllocError>
-    ensures { IfOk result (λ line. line.items ≡ report_of quiet name.now verdict) }
-{
     match verdict {
-        Verdict::Matches if quiet => Ok(Vec::new(alloc)),
-        Verdict::Matches => shown_with(alloc, name, b": OK\n"),
-        Verdict::Differs => shown_with(alloc, name, b": FAILED\n"),
-        Verdict::Unreadable(_) => shown_with(alloc, name, b": FAILED open or read\n"),
-        Verdict::Missing => Ok(Vec::new(alloc)),
+        Verdict::Matches if options.quiet => Ok(()),
+        Verdict::Matches => push_shown(lines, name, b": OK\n"),
+        Verdict::Differs => push_shown(lines, name, b": FAILED\n"),
+        Verdict::Unreadable(_) => push_shown(lines, name, b": FAILED open or read\n"),
+        Verdict::Missing => Ok(()),
     }
 }
 
@@ -374,16 +358,14 @@ fn has_newline(name: &[u8]) -> bool
     name.iter().any(|byte| *byte == b'\n')
 }
 
-// A name as it is shown, and what stands behind it.
-fn shown_with(alloc: Global, name: &[u8], behind: &[u8]) -> Result<Vec<u8>, AllocError>
-    ensures { IfOk result (λ line. line.items ≡ shown name.now ++ behind.now) }
+// Adds a name as it is shown, and what follows it.
+fn push_shown(lines: &mut Vec<u8>, name: &[u8], after: &[u8]) -> Result<(), AllocError>
+    ensures { OnOk result (lines.new.items ≡ lines.old.items ++ (shown name.now ++ after.now)) }
 {
     let marked = has_newline(name);
-    let mut line = Vec::new(alloc);
     if marked {
-        line.push(b'\\')?;
+        lines.push(b'\\')?;
     }
-    push_text(&mut line, marked, name)?;
-    line.extend_from_slice(behind)?;
-    Ok(line)
+    push_text(lines, marked, name)?;
+    lines.extend_from_slice(after)
 }

@@ -75,8 +75,8 @@ fn is_wanted(only: Option<Variant>, variant: Variant) -> bool
     }
 }
 
-// Whether a name is that of standard input.
-fn is_input(name: &[u8]) -> bool
+/// Whether a name is that of standard input.
+pub fn is_input(name: &[u8]) -> bool
     ensures { IsTrue result ↔ (name.now ≡ codes "-") }
 {
     matches!(name, b"-")

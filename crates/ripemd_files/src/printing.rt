@@ -30,7 +30,7 @@ pub struct Style {
 }
 
 // How much of a file is read at once.
-pub(crate) const BUFFER: usize = 1 << 16;
+const BUFFER: usize = 1 << 16;
 
 /// Writes the line of each file, with the digest of all that it gave, in the order of their names. A file that
 /// can't be opened or read has no line, and is complained of. Whether all were read.
@@ -50,7 +50,7 @@ pub fn print_digests<F: Folder, L: Log>(
     ensures ok { IfOk result (PrintsAll (F.place folder.now) style (targets names.now) (L.told log.old) (L.told log.new)) }
     ensures err { IfErr result (PrintsFirst (F.place folder.now) style (targets names.now) (L.told log.old) (L.told log.new)) }
 {
-    let mut buffer = new_buffer(alloc, BUFFER)?;
+    let mut buffer = new_buffer(alloc)?;
     print_groups(alloc, folder, style, names, &mut buffer, log)
 }
 
@@ -81,12 +81,11 @@ fn print_groups<F: Folder, L: Log>(
     Ok(all)
 }
 
-// A buffer of this size.
-pub(crate) fn new_buffer(alloc: Global, size: usize) -> Result<Vec<u8>, AllocError>
-    requires { 0 < size }
+// What files are read to.
+pub(crate) fn new_buffer(alloc: Global) -> Result<Vec<u8>, AllocError>
     ensures { IfOk result (λ buffer. 0 < length buffer.items) }
 {
-    vec![in alloc; 0; size]
+    vec![in alloc; 0; BUFFER]
 }
 
 // Prints files that were read. Their lines are written at once, and before a remark.
@@ -132,15 +131,15 @@ fn print_outcome<L: Log>(
 {
     match outcome {
         Outcome::Digest(digest) => {
-            let line = write_line(
+            write_line(
                 alloc,
+                lines,
                 style.ending,
                 style.form,
                 style.variant,
                 digest.as_slice(),
                 name,
             )?;
-            lines.extend_from_slice(line.as_slice())?;
             Ok(true)
         }
         Outcome::Refused(error) | Outcome::Broken(error) => {

@@ -25,17 +25,6 @@ entry_of old new name (entries.Wrong (Empty number)) next named = subst (λ text
 entry_of old new name (entries.Wrong Input) next named = subst (λ text. NextName old text new) named next
 entry_of old new name entries.End next named = absurd named
 
--- what was read last leaves nothing
-pub last_leaves : (old new : Option (List ℕ)) (name : List ℕ) → IsPiece 0 old new name Last → IsPiece 0 old (Some []) name Last
-last_leaves None new name last = last
-last_leaves (Some bytes) None name last = absurd last.0
-last_leaves (Some bytes) (Some rest) name last = (rw last.1 at last.0, refl, last.2, last.3)
-
-pub nothing_leaves : (old new : Option (List ℕ)) (name : List ℕ) → IsPiece 0 old new name Nothing → Stays old (Some [])
-nothing_leaves None new name nothing = tt
-nothing_leaves (Some bytes) None name nothing = absurd nothing.0
-nothing_leaves (Some bytes) (Some rest) name nothing = sym (ap Some (rw nothing.1 at nothing.0))
-
 -- ---- some names
 
 stays_then : (old now new : Option (List ℕ)) (name : List ℕ) → Stays old now → NextName now name new → NextName old name new

@@ -1,7 +1,7 @@
 -- What the program's arguments say, by the rules of `getopt_long`.
 use Rattle.std.specs.Prelude.{◌≡◌, ℕ, ◌*◌, ◌==◌, Bool, true, false, if◌then◌else◌, List, [], ◌∷◌, ◌++◌, map, reverse, codes, Option, Some, None, bytes_eq, Result, Ok, Err, ⊤}
 use Rattle.std.specs.Fmt.{decimal}
-use Rattle.ripemd_files.specs.Lines.{size_of}
+use Rattle.ripemd_files.specs.Lines.{bits_of, size_of}
 use Rattle.ripemd_files.specs.declared.line.Variant.{Variant}
 use Rattle.ripemd_files.specs.declared.line.Variant.TheVariants.{R128, R160, R256, R320}
 use Rattle.rmdsum.specs.declared.switches.Flag.{Flag}
@@ -29,25 +29,19 @@ use Rattle.rmdsum.specs.Asked.{Asks, IsRefused}
 
 -- ---- the names of the variants
 
--- the name of a variant, the length of its digest in bits
-abbrev pub name_of : Variant → List ℕ
-name_of R128 = codes "128"
-name_of R160 = codes "160"
-name_of R256 = codes "256"
-name_of R320 = codes "320"
-
+-- the name of a variant is the length of its digest in bits
 pub record NamesAreLengths : Type 0 where
-  pub r128 : name_of R128 ≡ decimal (8 * size_of R128)
-  pub r160 : name_of R160 ≡ decimal (8 * size_of R160)
-  pub r256 : name_of R256 ≡ decimal (8 * size_of R256)
-  pub r320 : name_of R320 ≡ decimal (8 * size_of R320)
+  pub r128 : bits_of R128 ≡ decimal (8 * size_of R128)
+  pub r160 : bits_of R160 ≡ decimal (8 * size_of R160)
+  pub r256 : bits_of R256 ≡ decimal (8 * size_of R256)
+  pub r320 : bits_of R320 ≡ decimal (8 * size_of R320)
 
 abbrev pub variant_named : List ℕ → Option Variant
 variant_named name =
-    if bytes_eq name (name_of R128) then Some R128
-    else if bytes_eq name (name_of R160) then Some R160
-    else if bytes_eq name (name_of R256) then Some R256
-    else if bytes_eq name (name_of R320) then Some R320
+    if bytes_eq name (bits_of R128) then Some R128
+    else if bytes_eq name (bits_of R160) then Some R160
+    else if bytes_eq name (bits_of R256) then Some R256
+    else if bytes_eq name (bits_of R320) then Some R320
     else None
 
 -- ---- what arguments say

@@ -1,6 +1,7 @@
 -- Options with their values, and operands: what arguments say.
 use Rattle.std.specs.Prelude.{ℕ, Bool, false, List, [], ◌∷◌, ◌++◌, Option, Some, None, bytes_eq, vec_items}
 use Rattle.std.specs.List.{list_any}
+use Rattle.core.specs.Option.{option_or}
 use Rattle.ripemd_files.specs.declared.line.Variant.{Variant}
 use Rattle.rmdsum.specs.declared.switches.Flag.{Flag}
 use Rattle.rmdsum.specs.declared.switches.Flag.TheVariants.{Binary, Quiet, Status, Tag, Text, Warn}
@@ -63,13 +64,9 @@ telling_in _ = None
 abbrev pub gives : Flag → List Said → Bool
 gives flag words = list_any (sets flag) words
 
-abbrev pub or_else : {A : Type 0} → Option A → Option A → Option A
-or_else (Some a) other = Some a
-or_else None other = other
-
 abbrev pub last : {A : Type 0} → (Said → Option A) → List Said → Option A
 last pick [] = None
-last pick (word ∷ words) = or_else (pick word) (last pick words)
+last pick (word ∷ words) = option_or (pick word) (last pick words)
 
 -- the names of files, in their order
 abbrev pub names_of : List Said → List (List ℕ)

@@ -23,7 +23,7 @@ use names::{Batch, Names, Wrong};
 use request::Request;
 use ripemd_files::checking::check_list;
 use ripemd_files::fault::Fault;
-use ripemd_files::list::Rules;
+use ripemd_files::list::{Rules, is_input};
 use ripemd_files::piece::List;
 use ripemd_files::printing::{Style, print_digests};
 use ripemd_files::verdict::Options;
@@ -33,7 +33,7 @@ use std::env;
 use std::env::VarError;
 use std::io::{ErrorKind, Write};
 use std::process::ExitCode;
-use system::{Source, System, buffered, is_input};
+use system::{Source, System, buffered};
 use worker::{Worker, do_all};
 
 // The status of a run that writes to a closed pipe, as a shell shows it for one that SIGPIPE ends.

@@ -42,8 +42,7 @@ pub fn say(rt: &HostRuntime, message: Message<'_>) -> io::Result<()> {
 
 fn try_say(rt: &HostRuntime, message: Message<'_>) -> io::Result<()> {
     let program = program(rt, rt.alloc())?;
-    let mut text = Vec::new(rt.alloc());
-    text.extend_from_slice(program.as_slice())?;
+    let mut text = Vec::from_slice(rt.alloc(), program.as_slice())?;
     text.extend_from_slice(b": ")?;
     push_message(rt, &mut text, program.as_slice(), message)?;
     text.push(b'\n')?;
@@ -60,7 +59,7 @@ fn push_message(
     let charset = Charset::of(rt);
     match message {
         Message::Misuse(misuse) => {
-            text.extend_from_slice(misuse.text(rt.alloc(), charset)?.as_slice())?;
+            misuse.push_text(text, charset)?;
             text.extend_from_slice(b"\nTry '")?;
             text.extend_from_slice(program)?;
             text.extend_from_slice(b" --help' for more information.")?;

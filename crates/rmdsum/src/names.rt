@@ -7,8 +7,9 @@ ghost use Rattle.rmdsum.specs.Names.{left_in, Continues, IsEntry, IsNamed};
 
 use crate::messages::{Message, say};
 use crate::request;
-use crate::system::{Source, buffered, is_input};
+use crate::system::{Source, buffered};
 use ripemd_files::fault::Fault;
+use ripemd_files::list::is_input;
 use ripemd_files::piece::{Piece, read_piece};
 use std::alloc::Global;
 use std::io::{BufReader, Read};

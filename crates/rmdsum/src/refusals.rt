@@ -2,7 +2,7 @@
 
 use crate::quoting::{Charset, quote, quoteaf};
 use crate::switches::{Flag, Parameter, SWITCHES, around_equals};
-use std::alloc::{AllocError, Global};
+use std::alloc::AllocError;
 
 /// Why the arguments ask for nothing that the program does.
 #[derive(PartialEq, Eq, Debug, Drop)]
@@ -36,15 +36,8 @@ pub enum Misuse {
 }
 
 impl Misuse {
-    /// What the program says of it, after its own name and a colon, without the last newline.
-    pub fn text(&self, alloc: Global, charset: Charset) -> Result<Vec<u8>, AllocError> {
-        let mut text = Vec::new(alloc);
-        self.push_text(&mut text, charset)?;
-        Ok(text)
-    }
-
-    // Adds what the program says of it.
-    fn push_text(&self, text: &mut Vec<u8>, charset: Charset) -> Result<(), AllocError> {
+    /// Adds what the program says of it, after its own name and a colon, without the last newline.
+    pub fn push_text(&self, text: &mut Vec<u8>, charset: Charset) -> Result<(), AllocError> {
         match self {
             Misuse::UnknownLong(option) => {
                 push_parts(text, &[b"unrecognized option '--", option.as_slice(), b"'"])

@@ -1,10 +1,10 @@
 //! The files of the system.
 
-ghost use Rattle.std.specs.Prelude.{◌≡◌, ◌↔◌, true, codes};
 ghost use Rattle.ripemd_files.specs.Files.{any_place};
 
 use crate::progress::Progress;
 use ripemd_files::folder::Folder;
+use ripemd_files::list::is_input;
 use std::alloc::AllocError;
 use std::fs::File;
 use std::io::{BufReader, ErrorKind, IsTerminal, Read, Stdin};
@@ -51,13 +51,6 @@ impl Read for Source {
             Source::File(file) => file.read(buffer),
         }
     }
-}
-
-/// Whether a name stands for standard input.
-pub fn is_input(name: &[u8]) -> bool
-    ensures { (result ≡ true) ↔ (name.now ≡ codes "-") }
-{
-    matches!(name, b"-")
 }
 
 /// What a list, or a file of names, is read through: 64 KiB at a time.

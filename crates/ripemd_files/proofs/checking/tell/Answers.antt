@@ -8,6 +8,6 @@ pub returns-in_err-remark_on-clause-err : goal.returns-in_err-remark_on-clause-e
 returns-in_err-remark_on-clause-err g c =
     search (rules, stops_in ⊥ _ _ (written c.args.lines.now.items) (remarks_on_verdict c.args.name.now c.args.verdict) (written (line_of_event c.args.options (checked c.args.name.now c.args.verdict))) _ c.in_err-remark_on.ensures.err)
 
-pub returns-in_err-extend_from_slice-clause-err : goal.returns-in_err-extend_from_slice-clause-err
-returns-in_err-extend_from_slice-clause-err g c =
+pub returns-in_err-push_verdict-clause-err : goal.returns-in_err-push_verdict-clause-err
+returns-in_err-push_verdict-clause-err g c =
     search (rules, pends_no_memory ⊥ _ _ _ _ _ (written (line_of_event c.args.options (checked c.args.name.now c.args.verdict))) c.in_ok-remark_on.ensures.told)

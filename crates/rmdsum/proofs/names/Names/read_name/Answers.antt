@@ -1,5 +1,5 @@
-use Rattle.std.proofs.Common.{inl, inr}
-use Rattle.rmdsum.proofs.Entries.{entry_of, last_leaves, nothing_leaves}
+use Rattle.std.proofs.Common.{inl}
+use Rattle.rmdsum.proofs.Entries.{entry_of}
 use Rattle.rmdsum.proofs.names.Names.read_name.Goals as goal
 
 pub returns-in-Whole-clause-entry : goal.returns-in-Whole-clause-entry
