@@ -13,6 +13,8 @@ from test_openssl import PAGE
 
 ARCHIVE = f"nattizhu-{version()}-linux-x86_64"
 PAGES = {"x86_64": ["nattizhu.3", "ripemd_sum.1", "rmdsum.1"], "aarch64": ["nattizhu.3"]}
+# The pages of the archives and of three Debian packages, which are where they are in the repository.
+SHIPPED = ["SECURITY.md", "docs/C.md", "docs/OPENSSL.md", "docs/PACKAGES.md", "docs/PYTHON.md"]
 # For each machine and file, the version of the C library that it needs by docs/PACKAGES.md.
 OLDEST = [(machine, name, needed) for name, *versions in re.findall(
     r"^\| `([^`]+)`[^|]* \| ([0-9.]+) \| ([0-9.]*) ?\|$", (ROOT / "docs/PACKAGES.md").read_text("utf-8"), re.MULTILINE)
@@ -125,6 +127,27 @@ def test_manual_pages(files):
     for page in (path for path in files if path.parts[-3] == "man"):
         shown = run("man", "--warnings", "-l", page)
         assert shown.stderr == "" and f"nattizhu {version()}" in shown.stdout
+
+
+def assert_pages(folder):
+    """Each link of the pages in this folder leads to one of them."""
+    places = {os.path.normpath(os.path.join(os.path.dirname(page), target or os.path.basename(page))) for page in SHIPPED
+              for target in re.findall(r"\]\(([^)#]*)[^)]*\)", (folder / page).read_text("utf-8"))}
+    assert "SECURITY.md" in places and places <= set(SHIPPED)
+
+
+def test_pages_of_the_archives(files):
+    [folder] = [path.parent for path in files if path.name == "SECURITY.md"]
+    assert_pages(folder)
+
+
+def test_pages_of_the_debian_packages(debs, tmp_path):
+    for deb in debs:
+        run("dpkg-deb", "-x", deb, tmp_path / deb.stem)
+    folders = [path.parent for path in tmp_path.glob("*/usr/share/doc/*/SECURITY.md")]
+    assert {path.name for path in folders} == {"libnattizhu-dev", "openssl-provider-nattizhu", "python3-nattizhu"}
+    for folder in folders:
+        assert_pages(folder)
 
 
 @pytest.fixture(name="shell", scope="module")

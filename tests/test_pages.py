@@ -22,6 +22,7 @@ VERSIONS = {
     "js/package.json": r'^  "version": "(.*)",$',
     "js/ripemd160/package.json": r'^  "version": "(.*)",$',
     "CHANGELOG.md": r"^## (.*)$",
+    "docs/JAVASCRIPT.md": r"^npm install \./nattizhu-(.*)\.tgz$",
     "debian/changelog": r"^nattizhu \((.*)-[0-9]*\) ",
 }
 
