@@ -21,30 +21,18 @@ hash_of_one step output first message last size is = rw (blocks_of_one (padded_a
 
 module _ (tag : List ℕ → List ℕ) (first : List ℕ) where
   pub next_tag : (n : ℕ) → 1 ≤ n → iterate tag (n + 1 - 1) first ≡ tag (iterate tag (n - 1) first)
-  next_tag zero some = absurd (omega (arith, some))
-  next_tag (suc n) some =
-      let count : suc n + 1 - 1 ≡ suc n = omega arith in
-      let before : suc n - 1 ≡ n = omega arith in
-      rw (count, before) (again n first)
+  next_tag n some = let count : n + 1 - 1 ≡ suc (n - 1) = omega arith in rw count (again (n - 1) first)
     where
       again : (n : ℕ) (x : List ℕ) → iterate tag (suc n) x ≡ tag (iterate tag n x)
       again zero x = refl
       again (suc n) x = again n (tag x)
 
-  pub first_combined : combined_tags tag 1 first ≡ first
-  unfolding combined_tags
-  first_combined = refl
-
   pub next_combined : (n : ℕ) → 1 ≤ n
       → combined_tags tag (n + 1) first ≡ zip2 bit_xor (combined_tags tag n first) (iterate tag (n + 1 - 1) first)
   unfolding combined_tags
-  next_combined zero some = absurd (omega (arith, some))
-  next_combined (suc n) some =
-      let count : suc n + 1 - 1 ≡ n + 1 = omega arith in
-      let before : suc n - 1 ≡ n = omega arith in
+  next_combined n some =
       let at : ℕ → List ℕ = λ j. iterate tag (j - 1) first in
-      let last : n + 1 + 1 - 1 ≡ n + 1 = omega arith in
-      rw (count, before)
-      (ap (fold (zip2 bit_xor) first) (map-range_with_len_more at 2 n (n + 1 + 1) (omega arith))
-      ∙ fold-append (zip2 bit_xor) first (map at (range_with_len 2 n)) (at (n + 1 + 1) ∷ [])
-      ∙ ap (λ k. zip2 bit_xor (fold (zip2 bit_xor) first (map at (range_with_len 2 n))) (iterate tag k first)) last)
+      let count : n + 1 - 1 ≡ n - 1 + 1 = omega arith in
+      ap (λ k. fold (zip2 bit_xor) first (map at (range_with_len 2 k))) count
+      ∙ ap (fold (zip2 bit_xor) first) (map-range_with_len_more at 2 (n - 1) (n + 1) (omega arith))
+      ∙ fold-append (zip2 bit_xor) first (map at (range_with_len 2 (n - 1))) (at (n + 1) ∷ [])

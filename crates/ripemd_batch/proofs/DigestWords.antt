@@ -21,11 +21,8 @@ use Rattle.ripemd_batch.specs.Lanes.{HasWords, lane_at, lane_of, padded_after, p
 xor_byte : (a b k : ℕ) → bit_xor a b / 2 ^ k % 2 ^ 8 ≡ bit_xor (a / 2 ^ k % 2 ^ 8) (b / 2 ^ k % 2 ^ 8)
 xor_byte a b k = ap (λ n. n % 2 ^ 8) (xor_shr a b k) ∙ xor_mod (a / 2 ^ k) (b / 2 ^ k) 8
 
-four : {a b c d p q r s : ℕ} → a ≡ p → b ≡ q → c ≡ r → d ≡ s → a ∷ b ∷ c ∷ d ∷ [] ≡ p ∷ q ∷ r ∷ s ∷ []
-four in_a in_b in_c in_d = rw (in_a, in_b, in_c, in_d) refl
-
 xor_bytes : (a b : ℕ) → to_le_bytes w32 (bit_xor a b) ≡ zip2 bit_xor (to_le_bytes w32 a) (to_le_bytes w32 b)
-xor_bytes a b = four (xor_mod a b 8) (xor_byte a b 8) (xor_byte a b 16) (xor_byte a b 24)
+xor_bytes a b = rw (xor_mod a b 8, xor_byte a b 8, xor_byte a b 16, xor_byte a b 24) refl
 
 pub xor_word_bytes : (xs ys : List ℕ) → length xs ≡ length ys
     → word_bytes (zip2 bit_xor xs ys) ≡ zip2 bit_xor (word_bytes xs) (word_bytes ys)
@@ -89,11 +86,11 @@ zero_words (suc n) =
 -- a length that is a word
 length_words : (n : ℕ) → n < 2 ^ 32 → word_bytes (n ∷ 0 ∷ []) ≡ to_le_bytes w64 n
 length_words n fits =
-    let a : 0 ≡ n / 4294967296 % 256 = omega (arith, fits) in
-    let b : 0 ≡ n / 1099511627776 % 256 = omega (arith, fits) in
-    let c : 0 ≡ n / 281474976710656 % 256 = omega (arith, fits) in
-    let d : 0 ≡ n / 72057594037927936 % 256 = omega (arith, fits) in
-    ap (λ zeros. to_le_bytes w32 n ++ zeros) (four a b c d)
+    let a : n / 4294967296 % 256 ≡ 0 = omega (arith, fits) in
+    let b : n / 1099511627776 % 256 ≡ 0 = omega (arith, fits) in
+    let c : n / 281474976710656 % 256 ≡ 0 = omega (arith, fits) in
+    let d : n / 72057594037927936 % 256 ≡ 0 = omega (arith, fits) in
+    rw (a, b, c, d) refl
 
 -- the bytes of the words and of their padding
 pub padded_words : (words : List ℕ) (n : ℕ) → length words ≡ n → n ≤ 13
@@ -110,22 +107,22 @@ padded_words words n many few =
     rw (size, zeros, bits, flat_map-append (to_le_bytes w32) words (padding_words n), padding)
     (append_assoc (word_bytes words) (0x80 ∷ replicate (suc (suc (suc (4 * (13 - n))))) 0) (to_le_bytes w64 (512 + 32 * n)))
 
--- the words of these bytes, if these vectors have them, and their number
+-- their number
+length-padded : (words : List ℕ) (n : ℕ) → length words ≡ n → n ≤ 13 → length (words ++ padding_words n) ≡ 16
+length-padded words n many few =
+    omega (arith, length-append words (padding_words n), length-append (replicate (13 - n) 0) ((512 + 32 * n) ∷ 0 ∷ []), length-replicate {A = ℕ} (13 - n) 0, many, few)
+
+pub padded_size : (words : List ℕ) (n : ℕ) → length words ≡ n → n ≤ 13 → length (padded_after 64 (word_bytes words)) ≡ 64
+padded_size words n many few =
+    rw (padded_words words n many few) (omega (arith, length-word_bytes (words ++ padding_words n), length-padded words n many few))
+
+-- the words of these bytes, if these vectors have them
 pub has_padded_words : {V : Type 0} (words_of : V → List ℕ) (v : List V) (words : List ℕ) (n j : ℕ) → length v ≡ 16 → length words ≡ n → n ≤ 13
     → ((i : ℕ) → i < 16 → (d : V) → slice_index (words ++ padding_words n) i ≡ slice_index (words_of (get_or v i d)) j)
     → ((i : ℕ) → i < 16 → (d : V) → slice_index (words_of (get_or v i d)) j < 2 ^ 32)
     → HasWords (map words_of v) j (padded_after 64 (word_bytes words))
 has_padded_words words_of v words n j count many few same fit i h =
-    let size : length (words ++ padding_words n) ≡ 16 = all_words words n many few in
+    let size : length (words ++ padding_words n) ≡ 16 = length-padded words n many few in
     rw (padded_words words n many few)
     (sym (word_is words_of v i j (message_word (word_bytes (words ++ padding_words n)) i) (omega (arith, count, h))
     (λ d. message_word_of (words ++ padding_words n) i (omega (arith, size, h)) (rw (same i h d) (fit i h d)) ∙ same i h d)))
-  where
-    all_words : (words : List ℕ) (n : ℕ) → length words ≡ n → n ≤ 13 → length (words ++ padding_words n) ≡ 16
-    all_words words n many few =
-        omega (arith, length-append words (padding_words n), length-append (replicate (13 - n) 0) ((512 + 32 * n) ∷ 0 ∷ []), length-replicate {A = ℕ} (13 - n) 0, many, few)
-
-pub padded_size : (words : List ℕ) (n : ℕ) → length words ≡ n → n ≤ 13 → length (padded_after 64 (word_bytes words)) ≡ 64
-padded_size words n many few =
-    rw (padded_words words n many few)
-    (omega (arith, length-word_bytes (words ++ padding_words n), length-append words (padding_words n), length-append (replicate (13 - n) 0) ((512 + 32 * n) ∷ 0 ∷ []), length-replicate {A = ℕ} (13 - n) 0, many, few))

@@ -1,36 +1,26 @@
 -- The blocks of a key, from the states after the two masked keys.
-use Rattle.std.proofs.Common.{◌≡◌, ℕ, ◌+◌, ◌-◌, ◌*◌, ◌/◌, ◌%◌, ◌^◌, ◌<◌, ◌≤◌, ◌⊎◌, inl, inr, arith}
+use Rattle.std.proofs.Common.{◌≡◌, ℕ, ◌+◌, ◌-◌, ◌*◌, ◌%◌, ◌^◌, ◌<◌, ◌≤◌, suc, arith}
 use Rattle.std.proofs.Common.{List, [], ◌∷◌, ◌++◌, length, refl, ap, sym, subst, ◌∙◌}
-use Rattle.std.proofs.Math.Nat.{div-eq_of_lt, mod-eq_of_lt, mul-add-div, mul-add-mod_self_left, mul-le-mul_left, mul-le-mul_right, le-mul_of_pos_right}
+use Rattle.std.proofs.Math.Nat.{mul-le-mul_right, le-mul_of_pos_right, lt_of_mul-lt-mul_right, suc-mul}
 use Rattle.std.specs.Int.{div_ceil}
 use Rattle.std.specs.List.{flat_map}
-use Rattle.std.proofs.lemmas.Bool.{cases_lt}
 use Rattle.std.proofs.lemmas.Grind.{div_ceil_times}
 use Rattle.std.proofs.Math.Path.{fun_ext}
+use Rattle.std.proofs.lemmas.Nat.{div-mul-add, mod-mul-add}
 use Rattle.std.proofs.lemmas.List.{append_assoc}
 use Rattle.ripemd_block.specs.Standard.Hashing.{hash}
-use Rattle.ripemd_mac.specs.Hmac.{key_block, masked, hmac}
+use Rattle.ripemd_mac.specs.Hmac.{key_block, masked, inner_message, outer_message, hmac}
 use Rattle.ripemd_mac.specs.Pbkdf2.{INT, U, F}
 use Rattle.ripemd_batch.specs.Pbkdf2.{HasBlocks, InGroup, IsFilled, KeyList, block_at, combined_tags, tag_after, total}
 use Rattle.ripemd_batch.specs.Lanes.{hash_after, list_at}
-use Rattle.ripemd_batch.proofs.Tagging.{tag_after as tag_is}
 use Rattle.ripemd_batch.proofs.Walking.{hash_after_block}
 
 -- block b of key i
 pub block_in_key : (PRF : List ℕ → List ℕ → List ℕ) (keys : KeyList) (i b : ℕ) → b < keys.count
     → block_at PRF keys (keys.count * i + b) ≡ F PRF (list_at keys.passwords i) (list_at keys.salts i) keys.rounds (b + 1)
 block_in_key PRF keys i b inside =
-    let count : ℕ = keys.count in
-    let some : 0 < count = omega (arith, inside) in
-    let key : (count * i + b) / count ≡ i = mul-add-div some i b ∙ ap (λ x. i + x) (div-eq_of_lt inside) ∙ omega arith in
-    let place : (count * i + b) % count ≡ b = mul-add-mod_self_left count i b ∙ mod-eq_of_lt inside in
-    rw (key, place) refl
-
--- the place of a block among all blocks is below their number
-pub inside_all : (count n i b : ℕ) → i < n → b < count → count * i + b < count * n
-inside_all count n i b key block =
-    let all : count * (i + 1) ≤ count * n = mul-le-mul_left count (omega (arith, key)) in
-    omega (arith, all, block)
+    let order : keys.count * i + b ≡ i * keys.count + b = omega arith in
+    rw (order, div-mul-add i keys.count b inside, mod-mul-add i keys.count b inside) refl
 
 -- a block in its group, and the group that the next block is in
 pub in_group : (size : ℕ) (PRF : List ℕ → List ℕ → List ℕ) (keys : KeyList) (k : ℕ) (group : List (List ℕ))
@@ -48,18 +38,14 @@ next_group size PRF keys k n group has next more j h within =
 
 -- a key has fewer than 2^32 blocks, and all keys have no more blocks than bytes
 pub count_fits : (size digest : ℕ) → 0 < digest → size ≤ (2 ^ 32 - 1) * digest → div_ceil size digest < 2 ^ 32
-count_fits size digest some most = go (cases_lt (div_ceil size digest) (2 ^ 32))
-  where
-    go : (div_ceil size digest < 2 ^ 32) ⊎ (2 ^ 32 ≤ div_ceil size digest) → div_ceil size digest < 2 ^ 32
-    go (inl fits) = fits
-    go (inr more) = absurd (omega (arith, most, mul-le-mul_right digest more, (div_ceil_times size digest some).1))
+count_fits size digest some most = lt_of_mul-lt-mul_right digest (omega (arith, most, (div_ceil_times size digest some).1))
 
 pub all_fit : (size digest n : ℕ) → 0 < digest → size * n < 2 ^ 63 → div_ceil size digest * n < 2 ^ 63
-all_fit size digest n some fits = omega (arith, fits, mul-le-mul_right n (fewer (cases_lt size (div_ceil size digest))))
-  where
-    fewer : (size < div_ceil size digest) ⊎ (div_ceil size digest ≤ size) → div_ceil size digest ≤ size
-    fewer (inl more) = absurd (omega (arith, le-mul_of_pos_right size some, mul-le-mul_right digest more, (div_ceil_times size digest some).1))
-    fewer (inr few) = few
+all_fit size digest n some fits =
+    let few : div_ceil size digest < suc size =
+    lt_of_mul-lt-mul_right digest (omega (arith, suc-mul size digest, le-mul_of_pos_right size some, (div_ceil_times size digest some).1)) in
+    let fewer : div_ceil size digest ≤ size = omega arith in
+    omega (arith, fits, mul-le-mul_right n fewer)
 
 -- keys of no bytes
 pub no_keys : (keys : List ℕ) (f : ℕ → List ℕ) (xs : List ℕ) → length keys ≡ 0 → ((i : ℕ) → f i ≡ []) → keys ≡ flat_map f xs
@@ -71,9 +57,13 @@ module _ (start : List ℕ) (step : List ℕ → List ℕ → List ℕ) (output 
     (inner_size : length inner ≡ 64) (outer_size : length outer ≡ 64)
     (is_inner : inner ≡ masked 0x36 (key_block (hash start step output) password))
     (is_outer : outer ≡ masked 0x5c (key_block (hash start step output) password)) where
-  tags : tag_after step output (step start inner) (step start outer) ≡ hmac (hash start step output) password
-  tags = fun_ext (tag_is start step output password inner outer (step start inner) (step start outer) inner_size outer_size
-      is_inner is_outer refl refl)
+  -- the tag of a text
+  pub tags : tag_after step output (step start inner) (step start outer) ≡ hmac (hash start step output) password
+  unfolding hmac outer_message inner_message
+  tags = fun_ext (λ text.
+      let texts : List ℕ = hash start step output (inner ++ text) in
+      rw (hash_after_block start step output inner text inner_size, hash_after_block start step output outer texts outer_size, is_inner, is_outer)
+      refl)
 
   first : (salt : List ℕ) (i : ℕ)
       → hash_after 64 (step start outer) step output (hash start step output (inner ++ salt ++ INT i))

@@ -1,4 +1,3 @@
-pub mod Blocks
 pub mod Chaining
 pub mod Chunks
 pub mod DigestWords
@@ -8,7 +7,6 @@ pub mod KeyBlocks
 pub mod OneLane
 pub mod Placing
 pub mod Rotating
-pub mod Tagging
 pub mod Transposing
 pub mod Turns
 pub mod Walking

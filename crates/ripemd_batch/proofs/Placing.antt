@@ -1,57 +1,63 @@
 -- Elements put in their places, one after another.
-use Rattle.std.proofs.Common.{◌≡◌, ℕ, ◌+◌, ◌-◌, ◌<◌, ◌≤◌, arith, refl, sym, ap, ◌∙◌}
+use Rattle.std.proofs.Common.{◌≡◌, ℕ, ◌+◌, ◌-◌, ◌<◌, ◌≤◌, min, arith, refl, sym, ap, ◌∙◌}
 use Rattle.std.proofs.Common.{List, [], ◌∷◌, ◌++◌, length, map, take, drop, slice_set}
-use Rattle.std.proofs.lemmas.List.{append_assoc, take_more, take_more_set, take-map, drop-map}
+use Rattle.std.proofs.lemmas.List.{append_assoc, take_more, take_more_set, take-map, drop-map, length-set}
 use Rattle.std.proofs.lemmas.List.{length-map, length-take-le, length-drop, get_or-map}
 use Rattle.std.proofs.Math.Seq.{take-add}
 use Rattle.std.specs.Borrow.{Bor}
 use Rattle.ripemd_batch.specs.Lanes.{PutFrom, list_at, targets}
 
--- the first j are in the places from `at` on, after those before
-abbrev pub Put : {A : Type 0} (list before made : List A) (at j : ℕ) → Type 0
-Put list before made at j = take (at + j) list ≡ before ++ take j made
+module _ (made : List ℕ → List ℕ) (messages : List (Bor (List ℕ))) (old : List (List ℕ)) (at : ℕ) where
+  -- the outputs of the first j messages are in the places from `at` on, after those before
+  pub record Put (j : ℕ) (new : List (List ℕ)) : Type 0 where
+    pub size : length new ≡ length old
+    pub so_far : take (at + min j (length messages)) new ≡ take at old ++ take (min j (length messages)) (map made (targets messages))
 
--- if the outputs of the first j messages are there, and the next one is put after them, so are those of the first j +
--- 1
-pub put_next : (made : List ℕ → List ℕ) (messages : List (Bor (List ℕ))) (list before : List (List ℕ)) (at j : ℕ) (a : List ℕ)
-    → at + j < length list → j < length messages → a ≡ made (list_at (targets messages) j)
-    → Put list before (map made (targets messages)) at j
-    → Put (slice_set list (at + j) a) before (map made (targets messages)) at (j + 1)
-put_next made messages list before at j a in_list in_messages next so_far =
-    let all : List (List ℕ) = targets messages in
-    let outputs : List (List ℕ) = map made all in
-    let many : length all ≡ length messages = length-map messages (λ m. m.now) in
-    let behind : at + (j + 1) ≡ at + j + 1 = omega arith in
-    ap (λ n. take n (slice_set list (at + j) a)) behind
-    ∙ take_more_set list (at + j) a in_list
-    ∙ ap (λ xs. xs ++ a ∷ []) so_far
-    ∙ append_assoc before (take j outputs) (a ∷ [])
-    ∙ ap (λ x. before ++ (take j outputs ++ x ∷ [])) (next ∙ sym (get_or-map made all j [] [] (omega (arith, many))))
-    ∙ ap (λ xs. before ++ xs) (sym (take_more outputs j [] (omega (arith, many, length-map all made))))
+  -- if the next one is put after them, so are those of the first j + 1
+  pub put_next : (j : ℕ) (list : List (List ℕ)) (a : List ℕ) → at + length messages ≤ length old → j < length messages
+      → a ≡ made (list_at (targets messages) j) → Put j list → Put (j + 1) (slice_set list (at + j) a)
+  put_next j list a room in_messages next before =
+      let outputs : List (List ℕ) = map made (targets messages) in
+      let many : length (targets messages) ≡ length messages = length-map messages (λ m. m.now) in
+      let here : min j (length messages) ≡ j = omega arith in
+      let more : min (j + 1) (length messages) ≡ j + 1 = omega arith in
+      let behind : at + (j + 1) ≡ at + j + 1 = omega arith in
+      record {
+        size = length-set list (at + j) a ∙ before.size;
+        so_far = rw (more, behind) (take_more_set list (at + j) a (omega (arith, before.size))
+            ∙ ap (λ xs. xs ++ a ∷ []) (rw here at before.so_far) ∙ append_assoc (take at old) (take j outputs) (a ∷ [])
+            ∙ ap (λ x. take at old ++ (take j outputs ++ x ∷ [])) (next ∙ sym (get_or-map made (targets messages) j [] [] (omega (arith, many))))
+            ∙ ap (λ xs. take at old ++ xs) (sym (take_more outputs j [] (omega (arith, many, length-map (targets messages) made)))));
+      }
 
--- the outputs of a part of the messages
-pub put_part : (made : List ℕ → List ℕ) (messages : List (Bor (List ℕ))) (old new before : List (List ℕ)) (at j end : ℕ)
-    → j ≤ end → end ≤ length messages
-    → PutFrom (at + j) (map made (targets (take (end - j) (drop j messages)))) old new
-    → Put old before (map made (targets messages)) at j → Put new before (map made (targets messages)) at end
-put_part made messages old new before at j end order fits part so_far =
-    let k : ℕ = end - j in
-    let target : Bor (List ℕ) → List ℕ = λ m. m.now in
-    let all : List (List ℕ) = targets messages in
-    let outputs : List (List ℕ) = map made all in
-    let same : map made (targets (take k (drop j messages))) ≡ take k (drop j outputs) =
-    rw (drop-map made j all, take-map made k (drop j all), drop-map target j messages, take-map target k (drop j messages)) refl in
-    let size : length (map made (targets (take k (drop j messages)))) ≡ k =
-    omega (
-      arith,
-      length-map (targets (take k (drop j messages))) made,
-      length-map (take k (drop j messages)) target,
-      length-take-le k (drop j messages) (omega (arith, length-drop j messages)),
-    ) in
-    let whole : j + k ≡ end = omega arith in
-    let behind : at + end ≡ at + j + k = omega arith in
-    ap (λ n. take n new) behind
-    ∙ rw (size, same) at part.1
-    ∙ ap (λ xs. xs ++ take k (drop j outputs)) so_far
-    ∙ append_assoc before (take j outputs) (take k (drop j outputs))
-    ∙ ap (λ xs. before ++ xs) (sym (take-add j k outputs) ∙ ap (λ n. take n outputs) whole)
+  pub put_no_more : (j : ℕ) (list : List (List ℕ)) → length messages ≤ j → Put j list → Put (j + 1) list
+  put_no_more j list no_more before =
+      let same : min (j + 1) (length messages) ≡ min j (length messages) = omega arith in
+      record { size = before.size; so_far = rw same before.so_far }
+
+  -- and so are those of a part of the messages
+  pub put_part : (j n end : ℕ) (list new : List (List ℕ)) → j < length messages → end ≡ min (j + n) (length messages)
+      → PutFrom (at + j) (map made (targets (take (end - j) (drop j messages)))) list new → Put j list → Put (j + n) new
+  put_part j n end list new in_messages is_end part before =
+      let k : ℕ = end - j in
+      let all : List (List ℕ) = targets messages in
+      let outputs : List (List ℕ) = map made all in
+      let same : map made (targets (take k (drop j messages))) ≡ take k (drop j outputs) =
+      rw (drop-map made j all, take-map made k (drop j all), drop-map (λ m. m.now) j messages, take-map (λ m. m.now) k (drop j messages)) refl in
+      let size : length (map made (targets (take k (drop j messages)))) ≡ k =
+      omega (
+        arith,
+        length-map (targets (take k (drop j messages))) made,
+        length-map (take k (drop j messages)) (λ m. m.now),
+        length-take-le k (drop j messages) (omega (arith, length-drop j messages)),
+      ) in
+      let here : min j (length messages) ≡ j = omega arith in
+      let whole : min (j + n) (length messages) ≡ j + k = omega arith in
+      let behind : at + (j + k) ≡ at + j + k = omega arith in
+      record {
+        size = part.0 ∙ before.size;
+        so_far = rw (whole, behind) ((rw (size, same) at part.1)
+            ∙ ap (λ xs. xs ++ take k (drop j outputs)) (rw here at before.so_far)
+            ∙ append_assoc (take at old) (take j outputs) (take k (drop j outputs))
+            ∙ ap (λ xs. take at old ++ xs) (sym (take-add j k outputs)));
+      }

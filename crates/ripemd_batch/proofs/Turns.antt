@@ -1,9 +1,8 @@
 -- The turns of one message: its blocks one after another, and then, if there is a state for it, its output hashed
 -- again.
 use Rattle.std.proofs.Common.{◌≡◌, ℕ, ◌+◌, ◌<◌, ◌≤◌, arith, rules, refl, ap, ◌∙◌}
-use Rattle.std.proofs.Common.{List, [], length, take, get_or, Option, None, Some, true, false, sym}
+use Rattle.std.proofs.Common.{List, [], length, take, get_or, Option, None, Some, cond}
 use Rattle.std.specs.Option.{IfSome, is_some, unwrap_or}
-use Rattle.std.proofs.lemmas.Bool.{false≢true}
 use Rattle.std.proofs.lemmas.List.{take_all}
 use Rattle.ripemd_block.specs.Standard.Hashing.{blocks, walk}
 use Rattle.ripemd_batch.specs.Lanes.{padded_after, hash_after, hashed_again, listed}
@@ -11,18 +10,7 @@ use Rattle.ripemd_batch.proofs.Walking.{walk_on, output_after}
 
 -- the number of turns, for at most so many blocks
 abbrev pub turns_of : {S : Type 0} → Option S → ℕ → ℕ
-turns_of None most = most
-turns_of (Some outer) most = most + 1
-
-pub turns_with : {S : Type 0} (outer : Option S) (most turns : ℕ) → is_some outer ≡ true → turns ≡ most + 1
-    → turns ≡ turns_of outer most
-turns_with None most turns some are = absurd (false≢true some)
-turns_with (Some outer) most turns some are = are
-
-pub turns_without : {S : Type 0} (outer : Option S) (most turns : ℕ) → is_some outer ≡ false → turns ≡ most
-    → turns ≡ turns_of outer most
-turns_without None most turns none are = are
-turns_without (Some outer) most turns none are = absurd (false≢true (sym none))
+turns_of outer most = cond (is_some outer) (most + 1) most
 
 module _ (step : List ℕ → List ℕ → List ℕ) (output : List ℕ → List ℕ) {S : Type 0} (list : S → List ℕ)
     (first : List ℕ) (bs : List (List ℕ)) (most : ℕ) where

@@ -6,12 +6,12 @@ use Rattle.std.proofs.lemmas.List.Elements.{All-append}
 use Rattle.std.proofs.lemmas.Bool.{cases_lt}
 use Rattle.std.proofs.lemmas.List.{append_assoc, append-nil, length-replicate, length-drop}
 use Rattle.std.proofs.lemmas.List.{length-take-le, take-append-drop, take_all, take_at, drop_at}
-use Rattle.ripemd.specs.States.{HashState, IsHashState, with_tail}
+use Rattle.ripemd.specs.States.{HashState, IsHashState, IsWithoutTail, with_tail}
 use Rattle.ripemd.specs.States.{output_and_count, tail_bytes, core_and_tail, fed}
 use Rattle.ripemd.specs.OverLists.{IsInjectiveOutput}
 use Rattle.ripemd_block.specs.Laws.Pieces.{fed_short}
 use Rattle.ripemd_block.specs.Laws.Saved.{length-output_and_count, core_and_tail-split}
-use Rattle.ripemd.proofs.Saved.{core_front, tail_back, whole}
+use Rattle.ripemd.proofs.Saved.{core_front, own_core, tail_back, whole}
 use Rattle.ripemd_calls.specs.KeptBytes.{IsAppended, cleared, cleared_tail}
 
 -- what follows for any loaded state
@@ -42,7 +42,7 @@ cleared_front (n ∷ behind) size short =
 
 module _ (tail kept : List ℕ) (size : length kept ≡ 64) (short : length tail < 64) (is : tail_bytes tail ≡ cleared_tail kept) where
   -- such bytes begin with the length of the tail and the tail
-  pub begins : kept ≡ length tail ∷ tail ++ drop (suc (length tail)) kept
+  begins : kept ≡ length tail ∷ tail ++ drop (suc (length tail)) kept
   begins = parts kept size is
     where
       parts : (kept : List ℕ) → length kept ≡ 64 → tail_bytes tail ≡ cleared_tail kept
@@ -59,14 +59,14 @@ module _ (tail kept : List ℕ) (size : length kept ≡ 64) (short : length tail
           ap (λ (k : ℕ). k ∷ behind) first
           ∙ ap (λ (bs : List ℕ). m ∷ bs) (sym (take-append-drop m behind) ∙ ap (λ (bs : List ℕ). bs ++ drop m behind) own)
 
-  pub tail_length : get_or kept 0 0 ≡ length tail
+  tail_length : get_or kept 0 0 ≡ length tail
   tail_length = ap (λ (bs : List ℕ). get_or bs 0 0) begins
 
-  pub tail_held : take (length tail) (drop 1 kept) ≡ tail
+  tail_held : take (length tail) (drop 1 kept) ≡ tail
   tail_held = ap (λ (bs : List ℕ). take (length tail) (drop 1 bs)) begins ∙ take_at tail _ (length tail) refl
 
   -- a piece is written after the tail, and its length added to the tail's
-  pub tail_appended : (piece front room : List ℕ) (len : ℕ) → length tail ≡ len → len + length piece < 64
+  tail_appended : (piece front room : List ℕ) (len : ℕ) → length tail ≡ len → len + length piece < 64
       → front ≡ take (1 + len) kept → room ≡ drop (1 + len) kept
       → cleared_tail (slice_set front 0 (len + length piece) ++ (piece ++ drop (length piece) room)) ≡ tail_bytes (tail ++ piece)
   tail_appended piece front room len same_len fits is_front is_room =
@@ -115,48 +115,62 @@ saved_is_clear {output = output} tells core size h valid =
 module _ {are_words : List ℕ → Type 0} {output : List ℕ → List ℕ} {size : ℕ} (told : IsInjectiveOutput are_words output size)
     (h : HashState) (valid : IsHashState are_words h) (n : ℕ) (core_size : n ≡ size + 8)
     (kept : List ℕ) (same : core_and_tail output h ≡ cleared n kept) where
-  pub kept_size : length kept ≡ n + 64
+  kept_size : length kept ≡ n + 64
   kept_size = sym (length-cleared n kept) ∙ whole told h valid n core_size (cleared n kept) same
 
   front_size : length (take n kept) ≡ n
   front_size = length-take-le n kept (omega (arith, kept_size))
 
-  pub kept_front : (front : List ℕ) → front ≡ take n kept → front ≡ take n (cleared n kept)
-  kept_front front is = is ∙ sym (take_at (take n kept) (cleared_tail (drop n kept)) n front_size)
-
+  -- the first are those of its core
   pub kept_core : (front : List ℕ) → front ≡ take n kept → output_and_count output (with_tail h []) ≡ front
-  kept_core front is = core_front told h valid n core_size (cleared n kept) same front (kept_front front is)
+  kept_core front is =
+      core_front told h valid n core_size (cleared n kept) same front
+      (is ∙ sym (take_at (take n kept) (cleared_tail (drop n kept)) n front_size))
 
-  pub kept_own : (front : List ℕ) → front ≡ take n kept → output_and_count output h ≡ front
-  unfolding output_and_count
-  kept_own = kept_core
+  pub no_core : (front : List ℕ) → front ≡ take n kept
+      → ¬ ((core : HashState) → IsWithoutTail are_words core → ¬ (output_and_count output core ≡ front))
+  no_core front is none = none (with_tail h []) (own_core told h valid n core_size (cleared n kept) same) (kept_core front is)
 
-  pub kept_tail : (back : List ℕ) → back ≡ drop n kept → tail_bytes h.tail ≡ cleared_tail back
-  kept_tail back is =
-      tail_back told h valid n core_size (cleared n kept) same (cleared_tail back)
-      (ap cleared_tail is ∙ sym (drop_at (take n kept) (cleared_tail (drop n kept)) n front_size))
+  -- the others are those of its tail
+  module _ (back : List ℕ) (is : back ≡ drop n kept) where
+    pub back_size : length back ≡ 64
+    back_size = omega (arith, ap length is, length-drop n kept, kept_size)
 
-  -- a piece that completes no block goes into the tail
-  pub kept_appended : (step : List ℕ → List ℕ → List ℕ) (piece front new : List ℕ) → front ≡ take n kept
-      → length h.tail + length piece < 64 → All (λ b. b < 256) piece → new ≡ tail_bytes (h.tail ++ piece)
-      → IsAppended (IsHashState are_words) (core_and_tail output) (fed step) (cleared n kept) piece (front ++ new)
-  unfolding output_and_count
-  kept_appended step piece front new is_front short small added =
-      let after : HashState = with_tail h (h.tail ++ piece) in
-      let fits : length (h.tail ++ piece) < 64 = omega (arith, length-append h.tail piece, short) in
-      let core : output_and_count output after ≡ front = kept_core front is_front in
-      record {
-        state = h;
-        before = record { valid = valid; saved = same };
-        after = rw (fed_short step h piece valid.count fits) (record {
-          valid = record {
-            words = valid.words;
-            count = valid.count;
-            tail = record { short = fits; bytes = All-append (λ (b : ℕ). b < 256) h.tail piece valid.tail.bytes small };
-          };
-          saved = core_and_tail-split output after ∙ rw (core, added) refl;
-        });
-      }
+    kept_tail : tail_bytes h.tail ≡ cleared_tail back
+    kept_tail =
+        tail_back told h valid n core_size (cleared n kept) same (cleared_tail back)
+        (ap cleared_tail is ∙ sym (drop_at (take n kept) (cleared_tail (drop n kept)) n front_size))
+
+    pub kept_length : get_or back 0 0 ≡ length h.tail
+    kept_length = tail_length h.tail back back_size valid.tail.short kept_tail
+
+    pub kept_held : take (length h.tail) (drop 1 back) ≡ h.tail
+    kept_held = tail_held h.tail back back_size valid.tail.short kept_tail
+
+    -- a piece that completes no block goes into the tail
+    pub kept_appended : (step : List ℕ → List ℕ → List ℕ) (piece front held room : List ℕ) (len : ℕ) → front ≡ take n kept
+        → held ≡ take (1 + len) back → room ≡ drop (1 + len) back → length h.tail ≡ len → len + length piece < 64
+        → All (λ b. b < 256) piece
+        → IsAppended (IsHashState are_words) (core_and_tail output) (fed step) (cleared n kept) piece
+        (front ++ cleared_tail (slice_set held 0 (len + length piece) ++ (piece ++ drop (length piece) room)))
+    unfolding output_and_count
+    kept_appended step piece front held room len is_front is_held is_room same_len short small =
+        let after : HashState = with_tail h (h.tail ++ piece) in
+        let fits : length (h.tail ++ piece) < 64 = omega (arith, length-append h.tail piece, same_len, short) in
+        let core : output_and_count output after ≡ front = kept_core front is_front in
+        let added = tail_appended h.tail back back_size valid.tail.short kept_tail piece held room len same_len short is_held is_room in
+        record {
+          state = h;
+          before = record { valid = valid; saved = same };
+          after = rw (fed_short step h piece valid.count fits) (record {
+            valid = record {
+              words = valid.words;
+              count = valid.count;
+              tail = record { short = fits; bytes = All-append (λ (b : ℕ). b < 256) h.tail piece valid.tail.bytes small };
+            };
+            saved = core_and_tail-split output after ∙ rw (core, added) refl;
+          });
+        }
 
 -- a core and a tail are kept as the bytes of the core, the tail's length, the tail, and any bytes
 pub both_kept : (output : List ℕ → List ℕ) (h : HashState) (tail : List ℕ) (n : ℕ) (core place behind none : List ℕ)

@@ -1,8 +1,8 @@
 -- The kept bytes of an HMAC state: two hash states.
-use Rattle.std.proofs.Common.{◌≡◌, ℕ, ◌+◌, List, ◌++◌, length, take, drop, sym, ap, ◌∙◌, arith}
+use Rattle.std.proofs.Common.{◌≡◌, ◌≢◌, ℕ, ◌+◌, List, ◌++◌, length, take, drop, sym, ap, ◌∙◌, arith}
 use Rattle.std.proofs.Common.{Option, Some, None, IfNone}
 use Rattle.std.proofs.lemmas.List.{take_at, drop_at, length-take-le}
-use Rattle.ripemd.specs.States.{core_and_tail}
+use Rattle.ripemd.specs.States.{HashState, IsHashState, core_and_tail}
 use Rattle.ripemd.specs.OverLists.{IsInjectiveOutput}
 use Rattle.ripemd_mac.specs.Hmac.{KeyedState}
 use Rattle.ripemd_mac.specs.Saved.{IsKeyedState, hmac_bytes}
@@ -24,22 +24,25 @@ cleared-both core inner outer size =
     ∙ ap (λ (back : List ℕ). cleared core inner ++ cleared core back) (drop_at inner outer (core + 64) size)
 
 module _ {are_words : List ℕ → Type 0} {output : List ℕ → List ℕ} {n : ℕ} (tells : IsInjectiveOutput are_words output n)
-    (s : KeyedState) (valid : IsKeyedState are_words s) (core : ℕ) (core_size : core ≡ n + 8) (kept : List ℕ)
-    (size : length kept ≡ (core + 64) + (core + 64)) (same : hmac_bytes output s ≡ cleared_hmac core kept) where
+    (core : ℕ) (core_size : core ≡ n + 8) (kept : List ℕ) (size : length kept ≡ (core + 64) + (core + 64)) where
   front_size : length (cleared core (take (core + 64) kept)) ≡ n + 8 + 64
   front_size =
       length-cleared core (take (core + 64) kept) ∙ length-take-le (core + 64) kept (omega (arith, size)) ∙ ap (λ (k : ℕ). k + 64) core_size
 
-  -- the first of them keep the inner hash state, and the others the outer one
-  pub kept_inner : (inner : List ℕ) → inner ≡ take (core + 64) kept → core_and_tail output s.inner ≡ cleared core inner
-  kept_inner inner is =
-      inner_part tells s valid (cleared_hmac core kept) same
-      ∙ take_at (cleared core (take (core + 64) kept)) (cleared core (drop (core + 64) kept)) (n + 8 + 64) front_size ∙ ap (cleared core) (sym is)
+  -- no state is kept as these bytes if no inner hash state is as the first of them, or no outer one as the others
+  pub no_inner : (inner : List ℕ) → inner ≡ take (core + 64) kept
+      → ((h : HashState) → IsHashState are_words h → core_and_tail output h ≢ cleared core inner)
+      → (s : KeyedState) → IsKeyedState are_words s → hmac_bytes output s ≢ cleared_hmac core kept
+  no_inner inner is none s valid same = none s.inner valid.inner
+      (inner_part tells s valid (cleared_hmac core kept) same
+      ∙ take_at (cleared core (take (core + 64) kept)) (cleared core (drop (core + 64) kept)) (n + 8 + 64) front_size ∙ ap (cleared core) (sym is))
 
-  pub kept_outer : (outer : List ℕ) → outer ≡ drop (core + 64) kept → core_and_tail output s.outer ≡ cleared core outer
-  kept_outer outer is =
-      outer_part tells s valid (cleared_hmac core kept) same
-      ∙ drop_at (cleared core (take (core + 64) kept)) (cleared core (drop (core + 64) kept)) (n + 8 + 64) front_size ∙ ap (cleared core) (sym is)
+  pub no_outer : (outer : List ℕ) → outer ≡ drop (core + 64) kept
+      → ((h : HashState) → IsHashState are_words h → core_and_tail output h ≢ cleared core outer)
+      → (s : KeyedState) → IsKeyedState are_words s → hmac_bytes output s ≢ cleared_hmac core kept
+  no_outer outer is none s valid same = none s.outer valid.outer
+      (outer_part tells s valid (cleared_hmac core kept) same
+      ∙ drop_at (cleared core (take (core + 64) kept)) (cleared core (drop (core + 64) kept)) (n + 8 + 64) front_size ∙ ap (cleared core) (sym is))
 
 -- the saved bytes of an HMAC state have zeros after both tails
 pub saved_hmac_is_clear : {are_words : List ℕ → Type 0} {output : List ℕ → List ℕ} {n : ℕ} → IsInjectiveOutput are_words output n

@@ -14,7 +14,7 @@ pub refused : {Fits : Type 0} {output old new : List ℕ} (done : Bool) → ¬ F
 refused true unfit writes = absurd (unfit (writes.fits.0 (search rules)))
 refused false unfit writes = (search rules, writes.unchanged (search rules))
 
--- nor is it answered
-pub not_answered : {Fits : Type 0} (answer : Bool) → ¬ Fits → (IsTrue answer → Fits) → IsFalse answer
-not_answered true unfit fits = absurd (unfit (fits (search rules)))
-not_answered false unfit fits = search rules
+-- nor are bytes taken for others that differ in this number
+pub differs : {a b : List ℕ} (of : List ℕ → ℕ) (answer : Bool) → (IsTrue answer → a ≡ b) → ¬ (of a ≡ of b) → IsFalse answer
+differs of true same apart = absurd (apart (ap of (same (search rules))))
+differs of false same apart = search rules

@@ -1,5 +1,5 @@
 -- The blocks of a derived key, one U after another, and how they lie in the key.
-use Rattle.std.proofs.Common.{◌≡◌, ℕ, zero, suc, ◌+◌, ◌-◌, ◌*◌, ◌/◌, ◌%◌, ◌<◌, ◌≤◌, ◌⊎◌, inl, inr, min, arith, refl, ap, sym, ◌∙◌, length-append}
+use Rattle.std.proofs.Common.{◌≡◌, ℕ, zero, suc, ◌+◌, ◌-◌, ◌*◌, ◌<◌, ◌≤◌, ◌⊎◌, inl, inr, min, arith, refl, ap, ap₂, sym, ◌∙◌, length-append}
 use Rattle.std.proofs.Common.{List, [], ◌∷◌, ◌++◌, length, map, replicate, take, drop}
 use Rattle.std.specs.Int.Bits.{bit_xor}
 use Rattle.std.specs.Simd.Lanes.{zip2}
@@ -10,10 +10,11 @@ use lib.LanesLaws.{length-zip2}
 use Rattle.std.proofs.lemmas.List.Sums.{fold-append}
 use Rattle.std.proofs.lemmas.List.FromFn.{map-range_with_len_more}
 use Rattle.std.proofs.lemmas.Bool.{cases_lt}
-use Rattle.std.proofs.lemmas.Grind.{flat_map-append}
-use Rattle.std.proofs.lemmas.List.{append-nil, take-append-le, length-take-le, take_all, length-drop}
+use Rattle.std.proofs.lemmas.Grind.{div_ceil_times, flat_map-append}
+use Rattle.std.proofs.lemmas.List.Folds.{flat_map-map}
+use Rattle.std.proofs.lemmas.List.{append-nil, nil_from_length, take-append-le, length-take-le, take_all, length-drop}
 use Rattle.std.proofs.Math.Seq.{take-append_seam, take-append-add}
-use Rattle.std.proofs.Math.Nat.{div-add-mod, mod-lt, mul-le-mul_left}
+use Rattle.std.proofs.Math.Nat.{mul-le-mul_right}
 use Rattle.ripemd_mac.specs.Hmac.{filled}
 use Rattle.ripemd_mac.specs.Pbkdf2.{INT, U, F}
 
@@ -25,48 +26,27 @@ module _ (PRF : List ℕ → List ℕ → List ℕ) (P S : List ℕ) (i : ℕ) w
   -- the next U, and F of one more round
   pub next_U : (j : ℕ) → 1 ≤ j → U PRF P S i (j + 1) ≡ PRF P (U PRF P S i j)
   unfolding U
-  next_U zero most = absurd (omega (arith, most))
-  next_U (suc j) most =
-      let count : suc j + 1 - 1 ≡ suc j = omega arith in
-      let before : suc j - 1 ≡ j = omega arith in
-      rw (count, before) (iterate_next (PRF P) j (PRF P (S ++ INT i)))
+  next_U j most =
+      let count : j + 1 - 1 ≡ suc (j - 1) = omega arith in
+      rw count (iterate_next (PRF P) (j - 1) (PRF P (S ++ INT i)))
 
   pub next_F : (c : ℕ) → 1 ≤ c → F PRF P S (c + 1) i ≡ zip2 bit_xor (F PRF P S c i) (U PRF P S i (c + 1))
   unfolding F
-  next_F zero most = absurd (omega (arith, most))
-  next_F (suc c) most =
-      let count : suc c + 1 - 1 ≡ c + 1 = omega arith in
-      let before : suc c - 1 ≡ c = omega arith in
-      rw (count, before)
-      (ap (fold (zip2 bit_xor) (U PRF P S i 1)) (map-range_with_len_more (U PRF P S i) 2 c (suc c + 1) (omega arith))
-      ∙ fold-append (zip2 bit_xor) (U PRF P S i 1) (map (U PRF P S i) (range_with_len 2 c)) (U PRF P S i (suc c + 1) ∷ []))
-
-  pub first_U : U PRF P S i 1 ≡ PRF P (S ++ INT i)
-  unfolding U
-  first_U = refl
-
-  pub first_F : F PRF P S 1 i ≡ U PRF P S i 1
-  unfolding F
-  first_F = refl
+  next_F c most =
+      let count : c + 1 - 1 ≡ c - 1 + 1 = omega arith in
+      ap (λ k. fold (zip2 bit_xor) (U PRF P S i 1) (map (U PRF P S i) (range_with_len 2 k))) count
+      ∙ ap (fold (zip2 bit_xor) (U PRF P S i 1)) (map-range_with_len_more (U PRF P S i) 2 (c - 1) (c + 1) (omega arith))
+      ∙ fold-append (zip2 bit_xor) (U PRF P S i 1) (map (U PRF P S i) (range_with_len 2 (c - 1))) (U PRF P S i (c + 1) ∷ [])
 
 -- ---- the blocks in the key
-
-range_more : (a n j : ℕ) → a + n ≡ j → range_with_len a (n + 1) ≡ range_with_len a n ++ j ∷ []
-range_more a zero j last = let same : a ≡ j = omega (arith, last) in ap (λ x. x ∷ []) same
-range_more a (suc n) j last =
-    let count : suc n + 1 ≡ suc (n + 1) = omega arith in
-    rw count (ap (λ xs. a ∷ xs) (range_more (a + 1) n j (omega (arith, last))))
 
 -- one more of what is joined
 pub next_joined : (f : ℕ → List ℕ) (a n j : ℕ) → a + n ≡ j
     → flat_map f (range_with_len a (n + 1)) ≡ flat_map f (range_with_len a n) ++ f j
 next_joined f a n j last =
-    ap (flat_map f) (range_more a n j last) ∙ flat_map-append f (range_with_len a n) (j ∷ [])
-    ∙ ap (λ x. flat_map f (range_with_len a n) ++ x) (append-nil (f j))
-
-pub next_block : (f : ℕ → List ℕ) (n : ℕ)
-    → flat_map f (range_with_len 1 (n + 1)) ≡ flat_map f (range_with_len 1 n) ++ f (n + 1)
-next_block f n = next_joined f 1 n (n + 1) (omega arith)
+    sym (flat_map-map (λ x. x) f (range_with_len a (n + 1))) ∙ ap (flat_map (λ x. x)) (map-range_with_len_more f a n j last)
+    ∙ flat_map-append (λ x. x) (map f (range_with_len a n)) (f j ∷ [])
+    ∙ ap₂ (λ x y. x ++ y) (flat_map-map (λ x. x) f (range_with_len a n)) (append-nil (f j))
 
 -- the front of a list after a part is written over
 pub front_put : (xs part rest : List ℕ) (at n : ℕ) → at ≤ length xs → n ≡ at + length part
@@ -103,10 +83,6 @@ pub record Written (f : ℕ → List ℕ) (h n b : ℕ) (key : List ℕ) : Type 
   pub many : length (flat_map f (range_with_len 1 b)) ≡ h * b
   pub so_far : take (h * b) key ≡ take n (flat_map f (range_with_len 1 b))
 
-none_left : (xs : List ℕ) → length xs ≡ 0 → xs ≡ []
-none_left [] size = refl
-none_left (x ∷ xs) size = absurd (omega (arith, size))
-
 pub one_more : (f : ℕ → List ℕ) (h n b end : ℕ) (key part rest block : List ℕ) → Written f h n b key → h * b < n
     → end ≡ min n (h * b + h) → length part ≡ end - h * b → length rest ≡ n - end
     → part ≡ take (length part) block → block ≡ filled (f (b + 1)) → length (f (b + 1)) ≡ h
@@ -121,12 +97,13 @@ one_more f h n b end key part rest block before inside is_end size behind writte
     written ∙ ap (λ k. take k block) size ∙ ap (take (end - h * b)) filled_block
     ∙ take-append-le (end - h * b) next (replicate (64 - length next) 0) (omega (arith, is_end, whole)) in
     let more : h * (b + 1) ≡ h * b + h = omega arith in
+    let joined : flat_map f (range_with_len 1 (b + 1)) ≡ all ++ next = next_joined f 1 b (b + 1) (omega arith) in
     let blocks : n ≡ length all + (n - h * b) = omega (arith, before.many, inside) in
     let wanted : take n (flat_map f (range_with_len 1 (b + 1))) ≡ all ++ take (n - h * b) next =
-    ap (take n) (next_block f b) ∙ ap (λ k. take k (all ++ next)) blocks ∙ take-append-add all next (n - h * b) in
+    ap (take n) joined ∙ ap (λ k. take k (all ++ next)) blocks ∙ take-append-add all next (n - h * b) in
     record {
       len = omega (arith, length-append front (part ++ rest), length-append part rest, place, size, behind, is_end, inside);
-      many = ap length (next_block f b) ∙ omega (arith, length-append all next, before.many, whole);
+      many = ap length joined ∙ omega (arith, length-append all next, before.many, whole);
       so_far = rw more (so_far is_front cut (cases_lt n (h * b + h)) ∙ sym wanted);
     }
   where
@@ -135,7 +112,7 @@ one_more f h n b end key part rest block before inside is_end size behind writte
         → take (h * b + h) (take (h * b) key ++ (part ++ rest)) ≡ flat_map f (range_with_len 1 b) ++ take (n - h * b) (f (b + 1))
     so_far is_front cut (inl last) =
         let same : end ≡ n = omega (arith, is_end, last) in
-        let nothing : rest ≡ [] = none_left rest (omega (arith, behind, same)) in
+        let nothing : rest ≡ [] = nil_from_length rest (omega (arith, behind, same)) in
         let place : length (take (h * b) key) ≡ h * b = length-take-le (h * b) key (omega (arith, before.len, inside)) in
         rw (nothing, append-nil part)
         (take_all (h * b + h) (take (h * b) key ++ part) (omega (arith, length-append (take (h * b) key) part, place, size, same, last))
@@ -147,28 +124,9 @@ one_more f h n b end key part rest block before inside is_end size behind writte
         ∙ ap (λ x. flat_map f (range_with_len 1 b) ++ x) (cut ∙ take_all (end - h * b) (f (b + 1)) (omega (arith, whole, same))
         ∙ sym (take_all (n - h * b) (f (b + 1)) (omega (arith, whole, full))))
 
--- a block begins in the key, and all of them reach its end
+-- a block begins in the key
 pub block_begins : (n h i : ℕ) → 0 < h → i < div_ceil n h → h * i < n
-block_begins n h i some less = go (cases_lt 0 (n % h))
-  where
-    go : (0 < n % h) ⊎ (n % h ≤ 0) → h * i < n
-    go (inl more) =
-        let most : h * i ≤ h * (n / h) = mul-le-mul_left h (omega (arith, less)) in
-        omega (arith, div-add-mod n h, more, most)
-    go (inr none) =
-        let most : h * (i + 1) ≤ h * (n / h) = mul-le-mul_left h (omega (arith, less, none)) in
-        omega (arith, div-add-mod n h, some, most)
-
-blocks_end : (n h : ℕ) → 0 < h → n ≤ h * div_ceil n h
-blocks_end n h some = go (cases_lt 0 (n % h))
-  where
-    go : (0 < n % h) ⊎ (n % h ≤ 0) → n ≤ h * div_ceil n h
-    go (inl more) =
-        let count : div_ceil n h ≡ n / h + 1 = omega (arith, more) in
-        rw count (omega (arith, div-add-mod n h, mod-lt n some))
-    go (inr none) =
-        let count : div_ceil n h ≡ n / h = omega (arith, none) in
-        rw count (omega (arith, div-add-mod n h, none))
+block_begins n h i some less = omega (arith, mul-le-mul_right h less, (div_ceil_times n h some).1)
 
 -- the key before the first block is written, and after the last
 pub none_written : (f : ℕ → List ℕ) (h n : ℕ) (key : List ℕ) → length key ≡ n → Written f h n 0 key
@@ -179,12 +137,7 @@ none_written f h n key len =
 pub all_written : (f : ℕ → List ℕ) (h n : ℕ) (key : List ℕ) → 0 < h → Written f h n (div_ceil n h) key
     → key ≡ take n (flat_map f (range_with_len 1 (div_ceil n h)))
 all_written f h n key some done =
-    sym (take_all (h * div_ceil n h) key (omega (arith, done.len, blocks_end n h some))) ∙ done.so_far
-
--- a key of no bytes is the front of any
-pub no_key : (key bytes : List ℕ) → length key ≡ 0 → key ≡ take (length key) bytes
-no_key [] bytes none = refl
-no_key (x ∷ key) bytes none = absurd (omega (arith, none))
+    sym (take_all (h * div_ceil n h) key (omega (arith, done.len, (div_ceil_times n h some).0))) ∙ done.so_far
 
 zeros : (m : ℕ) → zip2 bit_xor (replicate m 0) (replicate m 0) ≡ replicate m 0
 zeros zero = refl

@@ -1,8 +1,8 @@
 -- Bytes compared by the bitwise or of their differences.
-use Rattle.std.proofs.Common.{◌≡◌, ℕ, ◌+◌, ◌≤◌, ◌<◌, ◌↔◌, inl, inr, IsTrue, nat_eq}
+use Rattle.std.proofs.Common.{◌≡◌, ℕ, ◌+◌, ◌≤◌, ◌<◌, ◌↔◌, IsTrue, nat_eq}
 use Rattle.std.proofs.Common.{List, length, get_or, bit_or, sym, ap, ◌∙◌, arith, rules}
 use Rattle.std.specs.Int.Bits.{bit_xor, xor_assoc, xor_self, xor_zero_l, xor_zero_r, or_zero_l}
-use Rattle.std.proofs.lemmas.Bool.{cases_lt}
+use borrow.Author.Count.{below_more}
 use Rattle.std.proofs.lemmas.List.{same_lists, get_or_default}
 use Rattle.std.proofs.lemmas.Nat.{le_or_l, le_or_r}
 
@@ -21,15 +21,10 @@ pub difference_more : (d n : ℕ) (a b : List ℕ) → (d ≡ 0) ↔ AgreeTo n a
 difference_more d n a b before =
     let x : ℕ = get_or a n 0 in
     let y : ℕ = get_or b n 0 in (
-      (λ none j within.
+      (λ none.
           let so_far : d ≡ 0 = omega (arith, none, le_or_l d (bit_xor x y)) in
           let here : bit_xor x y ≡ 0 = omega (arith, none, le_or_r d (bit_xor x y)) in
-          elim (cases_lt j n) [
-            | inl less ↦ before.0 so_far j less
-            | inr most ↦
-                let last : n ≡ j = omega arith in
-                rw (← last) (no_difference x y here)
-          ]),
+          below_more (λ j. get_or a j 0 ≡ get_or b j 0) n (before.0 so_far) (no_difference x y here)),
       (λ agree.
           let so_far : d ≡ 0 = before.1 (λ j less. agree j (omega arith)) in
           rw (so_far, agree n (omega arith), xor_self y) (or_zero_l 0)),

@@ -1,75 +1,49 @@
-use Rattle.std.proofs.Common.{◌≡◌, ℕ, ◌<◌, ◌≤◌, List, [], ◌∷◌, length, arith, sym, ◌∙◌}
+use Rattle.std.proofs.Common.{◌≡◌, ℕ, ◌<◌, List, [], ◌∷◌, length, arith, sym, ◌∙◌}
 use Rattle.std.proofs.lemmas.Bool.{lt-leb, le-leb}
 use Rattle.ripemd_block.specs.Standard.Hashing.{blocks}
 use Rattle.ripemd_batch.specs.Lanes.{targets, list_at, blocks_of, padded_after}
 use Rattle.ripemd_batch.proofs.EightLanes.{below_eight}
-use Rattle.ripemd_batch.proofs.Turns.{none_turned, turns_of, turns_with, turns_without, turn_on, all_turned}
+use Rattle.ripemd_batch.proofs.Turns.{none_turned, turns_of, turn_on, all_turned}
 use Rattle.ripemd_batch.proofs.groups.walk_group.Goals as goal
 use Rattle.ripemd_batch.proofs.groups.walk_group.Goals.{then-is_some, else-is_some}
 
 pub loop-i-init : goal.loop-i-init
-loop-i-init g c j h =
-    let f = g.S.Function.ListBlockFunction in
-    let own : List (List (List ℕ)) = c.blocks_of_message.result ∷ c.blocks_of_message-2.result ∷ c.blocks_of_message-3.result ∷ c.blocks_of_message-4.result ∷ c.blocks_of_message-5.result
-    ∷ c.blocks_of_message-6.result ∷ c.blocks_of_message-7.result ∷ c.blocks_of_message-8.result ∷ [] in
-    none_turned f.step f.output f.list (f.list c.args.first) (blocks_of own j) c.most-most.result c.args.outer
-    (g.S.LaneStates.words_of j c.splat-states.result) (c.splat-states.ensures j h)
+loop-i-init g c = record {
+  turns = elim c.if-is_some.branch [
+    | then-is_some w ↦ rw (sym c.is_some.ensures ∙ w.if-is_some.true) w.turns-is
+    | else-is_some w ↦ rw (sym c.is_some.ensures ∙ w.if-is_some.false) w.turns-is
+  ];
+  turned = λ j h. none_turned _ _ _ _ _ _ c.args.outer _ (c.splat-states.ensures j h);
+}
 
 pub loop-i-preserved : goal.loop-i-preserved
-loop-i-preserved g c j h =
-    let lane : j < 8 = omega (arith, h, g.met.S.Vector.Lanes.few) in
-    let s = g.S.LaneStates in
-    let f = g.S.Function.ListBlockFunction in
-    let most : ℕ = c.most-most.result in
-    let own : List (List (List ℕ)) = c.blocks_of_message.result ∷ c.blocks_of_message-2.result ∷ c.blocks_of_message-3.result ∷ c.blocks_of_message-4.result ∷ c.blocks_of_message-5.result
-    ∷ c.blocks_of_message-6.result ∷ c.blocks_of_message-7.result ∷ c.blocks_of_message-8.result ∷ [] in
-    let top : length (blocks_of own j) ≤ most =
-    omega (arith, c.block_counts-counts.ensures.value j lane, c.most-most.ensures.most j lane) in
-    let turns : c.if-is_some.turns ≡ turns_of c.args.outer most =
-    elim c.if-is_some.branch [
-      | then-is_some w ↦
-          turns_with c.args.outer most c.if-is_some.turns (sym c.is_some.ensures ∙ w.if-is_some.true) w.turns-is
-      | else-is_some w ↦
-          turns_without c.args.outer most c.if-is_some.turns (sym c.is_some.ensures ∙ w.if-is_some.false) w.turns-is
-    ] in
-    let inside : c.loop-i.i < turns_of c.args.outer most = rw (← turns) c.loop-i-test.true in
-    let next = c.next_states-next.ensures in
-    turn_on f.step f.output f.list (f.list c.args.first) (blocks_of own j) most c.args.outer c.args.first
-    c.unwrap_or-second.result c.loop-i.i (s.words_of j c.loop-i.states) (s.words_of j c.next_states-next.result)
-    top inside c.unwrap_or-second.ensures (λ here. next.taken (lt-leb most c.loop-i.i here) j h)
-    (λ here. next.kept (lt-leb most c.loop-i.i here) j h) (λ end. next.again (le-leb most c.loop-i.i end) j h)
-    (c.loop-i.invariant j h)
+loop-i-preserved g c = record {
+  turns = c.loop-i.invariant.turns;
+  turned = λ j h.
+      let lane : j < 8 = omega (arith, h, g.met.S.Vector.Lanes.few) in
+      let most : ℕ = c.most-most.result in
+      let inside : c.loop-i.i < turns_of c.args.outer most = rw (← c.loop-i.invariant.turns) c.loop-i-test.true in
+      let next = c.next_states-next.ensures in
+      turn_on _ _ _ _ _ most c.args.outer c.args.first c.unwrap_or-second.result c.loop-i.i _ _
+      (omega (arith, c.block_counts-counts.ensures.value j lane, c.most-most.ensures.most j lane))
+      inside c.unwrap_or-second.ensures (λ here. next.taken (lt-leb most c.loop-i.i here) j h)
+      (λ here. next.kept (lt-leb most c.loop-i.i here) j h) (λ end. next.again (le-leb most c.loop-i.i end) j h)
+      (c.loop-i.invariant.turned j h);
+}
 
 pub returns : goal.returns
 returns g c j h within =
     let lane : j < 8 = omega (arith, h, g.met.S.Vector.Lanes.few) in
-    let f = g.S.Function.ListBlockFunction in
-    let count : ℕ = length c.args.messages.now in
     let all : List (List ℕ) = targets c.args.messages.now in
-    let before : ℕ = c.args.before in
-    let own : List (List (List ℕ)) = c.blocks_of_message.result ∷ c.blocks_of_message-2.result ∷ c.blocks_of_message-3.result ∷ c.blocks_of_message-4.result ∷ c.blocks_of_message-5.result
-    ∷ c.blocks_of_message-6.result ∷ c.blocks_of_message-7.result ∷ c.blocks_of_message-8.result ∷ [] in
-    let blocks_are : blocks_of own j ≡ blocks (padded_after before (list_at all j)) =
-    below_eight (λ i. i < count → blocks_of own i ≡ blocks (padded_after before (list_at all i)))
-    c.blocks_of_message.ensures
-    c.blocks_of_message-2.ensures
-    c.blocks_of_message-3.ensures
-    c.blocks_of_message-4.ensures
-    c.blocks_of_message-5.ensures
-    c.blocks_of_message-6.ensures
-    c.blocks_of_message-7.ensures
-    c.blocks_of_message-8.ensures
+    let own : List (List (List ℕ)) = c.blocks_of_message.result ∷ c.blocks_of_message-2.result ∷ c.blocks_of_message-3.result
+    ∷ c.blocks_of_message-4.result ∷ c.blocks_of_message-5.result ∷ c.blocks_of_message-6.result ∷ c.blocks_of_message-7.result
+    ∷ c.blocks_of_message-8.result ∷ [] in
+    let blocks_are : blocks_of own j ≡ blocks (padded_after c.args.before (list_at all j)) =
+    below_eight (λ i. i < length c.args.messages.now → blocks_of own i ≡ blocks (padded_after c.args.before (list_at all i)))
+    c.blocks_of_message.ensures c.blocks_of_message-2.ensures c.blocks_of_message-3.ensures c.blocks_of_message-4.ensures
+    c.blocks_of_message-5.ensures c.blocks_of_message-6.ensures c.blocks_of_message-7.ensures c.blocks_of_message-8.ensures
     j lane within in
-    let most : ℕ = c.most-most.result in
-    let top : length (blocks_of own j) ≤ most =
-    omega (arith, c.block_counts-counts.ensures.value j lane, c.most-most.ensures.most j lane) in
-    let turns : c.if-is_some.turns ≡ turns_of c.args.outer most =
-    elim c.if-is_some.branch [
-      | then-is_some w ↦
-          turns_with c.args.outer most c.if-is_some.turns (sym c.is_some.ensures ∙ w.if-is_some.true) w.turns-is
-      | else-is_some w ↦
-          turns_without c.args.outer most c.if-is_some.turns (sym c.is_some.ensures ∙ w.if-is_some.false) w.turns-is
-    ] in
-    let all_done : c.loop-i.i ≡ c.if-is_some.turns = omega (arith, c.loop-i-test.false, c.loop-i.auto.i-end) in
-    all_turned f.step f.output f.list (f.list c.args.first) (blocks_of own j) c.most-most.result c.args.outer before
-    c.loop-i.i (g.S.LaneStates.words_of j c.loop-i.states) (list_at all j) top (all_done ∙ turns) blocks_are (c.loop-i.invariant j h)
+    let done : c.loop-i.i ≡ c.if-is_some.turns = omega (arith, c.loop-i-test.false, c.loop-i.auto.i-end) in
+    all_turned _ _ _ _ _ _ c.args.outer c.args.before c.loop-i.i _ (list_at all j)
+    (omega (arith, c.block_counts-counts.ensures.value j lane, c.most-most.ensures.most j lane))
+    (done ∙ c.loop-i.invariant.turns) blocks_are (c.loop-i.invariant.turned j h)

@@ -1,12 +1,15 @@
 -- The states are those after so many turns.
-use Rattle.std.proofs.Common.{ℕ, ◌<◌}
+use Rattle.std.proofs.Common.{◌≡◌, ℕ, ◌<◌}
 use Rattle.ripemd_batch.specs.Lanes.{blocks_of}
-use Rattle.ripemd_batch.proofs.Turns.{Turned}
+use Rattle.ripemd_batch.proofs.Turns.{Turned, turns_of}
 use Rattle.ripemd_batch.proofs.groups.walk_group.Given as goal
 
 abbrev pub invariant-loop-i : goal.invariant-loop-i
 invariant-loop-i g l =
     let f = g.S.Function.ListBlockFunction in
-    (j : ℕ) → j < g.S.Vector.Lanes.COUNT
-    → Turned f.step f.output f.list (f.list l.fn.first) (blocks_of l.blocks j) l.most l.fn.outer l.i
-    (g.S.LaneStates.words_of j l.states)
+    record {
+      turns : l.turns ≡ turns_of l.fn.outer l.most;
+      turned : (j : ℕ) → j < g.S.Vector.Lanes.COUNT
+          → Turned f.step f.output f.list (f.list l.fn.first) (blocks_of l.blocks j) l.most l.fn.outer l.i
+          (g.S.LaneStates.words_of j l.states);
+    }

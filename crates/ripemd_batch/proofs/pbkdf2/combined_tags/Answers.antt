@@ -2,19 +2,13 @@ use Rattle.std.proofs.Common.{◌≡◌, ℕ, ◌<◌, ◌+◌, ◌-◌, List, a
 use Rattle.std.specs.Fn.{iterate}
 use Rattle.std.specs.Int.Bits.{bit_xor}
 use Rattle.std.specs.Simd.Lanes.{zip2}
-use Rattle.ripemd_batch.specs.Pbkdf2.{tag_after}
-use Rattle.ripemd_batch.proofs.Chaining.{next_tag, first_combined, next_combined}
+use Rattle.ripemd_batch.specs.Pbkdf2.{combined_tags, tag_after}
+use Rattle.ripemd_batch.proofs.Chaining.{next_tag, next_combined}
 use Rattle.ripemd_batch.proofs.pbkdf2.combined_tags.Goals as goal
 
 pub loop-k-init : goal.loop-k-init
-loop-k-init g c =
-    let f = g.S.Function.ListBlockFunction in
-    let words = g.S.LaneStates.words_of in
-    record {
-      tag = λ j h. refl;
-      sum = λ j h. sym (first_combined (tag_after f.step f.output (words j c.args.inner) (words j c.args.outer))
-          (f.output (words j c.args.first)));
-    }
+unfolding combined_tags
+loop-k-init g c = record { tag = λ j h. refl; sum = λ j h. refl }
 
 pub loop-k-preserved : goal.loop-k-preserved
 loop-k-preserved g c =

@@ -6,17 +6,17 @@ use Rattle.ripemd_mac.specs.Hmac.{filled}
 use Rattle.ripemd_mac.proofs.Deriving.{combined_filled, length-combined}
 use Rattle.ripemd_batch.specs.Pbkdf2.{combined_tags, tag_after}
 use Rattle.ripemd_batch.specs.Lanes.{hash_after}
-use Rattle.ripemd_batch.proofs.Chaining.{next_tag, first_combined, next_combined}
+use Rattle.ripemd_batch.proofs.Chaining.{next_tag, next_combined}
 use Rattle.ripemd_batch.proofs.pbkdf2.one_by_one.Goals as goal
 
 pub loop-k-init : goal.loop-k-init
+unfolding combined_tags
 loop-k-init g c =
     let d = g.D.Digest in
     let list = g.D.Function.ListBlockFunction.list in
     let bytes_of = g.D.OutputSizeUser.bytes_of in
     let tag_of : List ℕ → List ℕ = tag_after d.step d.output (list c.args.chain.inner) (list c.args.chain.outer) in
     let first : List ℕ = d.output (list c.args.chain.first) in
-    let one = first_combined tag_of first in
     let last = c.args.chain.first in
     let same = g.met.D.BatchDigest in
     let tag : bytes_of c.output-tag.result ≡ first =
@@ -25,8 +25,8 @@ loop-k-init g c =
     ∙ ap (λ (output : List ℕ → List ℕ). output (list last)) same.same_output in
     record {
       tag = tag;
-      sum = c.filled-sum.ensures ∙ ap filled (c.output_bytes.ensures.bytes ∙ tag ∙ sym one);
-      size = ap length (one ∙ sym (c.output_bytes.ensures.bytes ∙ tag)) ∙ c.output_bytes.ensures.size;
+      sum = c.filled-sum.ensures ∙ ap filled (c.output_bytes.ensures.bytes ∙ tag);
+      size = ap length (sym (c.output_bytes.ensures.bytes ∙ tag)) ∙ c.output_bytes.ensures.size;
     }
 
 pub loop-k-preserved : goal.loop-k-preserved

@@ -1,4 +1,4 @@
-use Rattle.std.proofs.Common.{◌≡◌, ℕ, ◌*◌, List, [], Some, Bool, IsTrue, length, get_or, refl, rules, arith, ap, ◌∙◌}
+use Rattle.std.proofs.Common.{◌≡◌, ℕ, ◌*◌, List, [], Some, Bool, IsTrue, length, get_or, refl, rules, arith, ◌∙◌}
 use Rattle.std.proofs.lemmas.List.FromFn.{length-range_with_len}
 use Rattle.ripemd.specs.Published.{hexadecimal}
 use Rattle.ripemd.specs.Standard.Compression.{Parameters, ripemd128, ripemd160, ripemd256, ripemd320}
@@ -10,7 +10,7 @@ use Rattle.ripemd_mac.specs.Pbkdf2.{U, F, pbkdf2}
 use Rattle.ripemd_calls.specs.Variants.{digest_size, variant_of}
 use Rattle.ripemd_calls.specs.KeptStates.{InitsState, UpdatesState, FinalizesState}
 use Rattle.ripemd_calls.specs.Worked.{Gives, abc}
-use Rattle.ripemd_calls.proofs.Working.{written, refused, not_answered}
+use Rattle.ripemd_calls.proofs.Working.{written, refused, differs}
 use Rattle.ripemd_calls.proofs.facts.worked_calls.Goals as goal
 
 -- a piece that is "abc", after the start
@@ -45,10 +45,10 @@ returns-clause-tags c = record {
   whole = λ new done does. written refl refl does;
   long = λ new done does. refused done (λ fits. absurd (omega (arith, fits))) does;
   verified = λ answer does. does.1 refl;
-  wrong = λ answer does. not_answered answer (λ same. omega (arith, ap (λ (bytes : List ℕ). get_or bytes 0 0) same)) does.0;
-  part = λ answer does. not_answered answer (λ same. omega (arith, ap (λ (bytes : List ℕ). length bytes) same)) does.0;
-  nothing = λ answer does. not_answered answer (λ same. omega (arith, ap (λ (bytes : List ℕ). length bytes) same)) does.0;
-  longer = λ answer does. not_answered answer (λ same. omega (arith, ap (λ (bytes : List ℕ). length bytes) same)) does.0;
+  wrong = λ answer does. differs (λ bytes. get_or bytes 0 0) answer does.0 (λ same. omega (arith, same));
+  part = λ answer does. differs (λ bytes. length bytes) answer does.0 (λ same. omega (arith, same));
+  nothing = λ answer does. differs (λ bytes. length bytes) answer does.0 (λ same. omega (arith, same));
+  longer = λ answer does. differs (λ bytes. length bytes) answer does.0 (λ same. omega (arith, same));
   no_variant = λ answer does. does;
 }
 

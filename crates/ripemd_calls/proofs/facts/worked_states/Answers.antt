@@ -1,4 +1,4 @@
-use Rattle.std.proofs.Common.{◌≡◌, ℕ, Bool, List, [], ◌∷◌, ◌++◌, codes, length, replicate, drop, get_or, refl, sym, ap, subst, ◌∙◌, arith, rules}
+use Rattle.std.proofs.Common.{◌≡◌, ℕ, List, [], ◌∷◌, ◌++◌, codes, length, replicate, drop, get_or, refl, sym, ap, subst, ◌∙◌, arith, rules}
 use Rattle.ripemd.specs.Standard.Words.{word_bytes}
 use Rattle.ripemd.specs.Standard.Compression.{ripemd160, registers_after, lines_after, compress}
 use Rattle.ripemd.specs.Standard.Hashing.{with_padding, blocks, partial_block, hash}
@@ -10,11 +10,11 @@ use Rattle.ripemd_mac.specs.Laws.{inner_part, outer_part}
 use Rattle.ripemd.specs.Published.{hexadecimal}
 use Rattle.ripemd_mac.specs.Hmac.{KeyedState, key_block, inner_message, outer_message, hmac, keyed_state, fed_text}
 use Rattle.ripemd_mac.specs.Worked.{saved_inner, saved_outer}
-use Rattle.ripemd_calls.specs.KeptStates.{IsSavedState, IsSavedHmac, LoadsState, LoadsHmac}
-use Rattle.ripemd_calls.specs.Worked.{forged, key, saved_bytes, soiled, soiled_bytes}
+use Rattle.ripemd_calls.specs.KeptStates.{IsSavedState, IsSavedHmac}
+use Rattle.ripemd_calls.specs.Worked.{forged, key, soiled, soiled_bytes}
 use Rattle.ripemd_calls.specs.KeptBytes.{cleared}
 use Rattle.ripemd_calls.proofs.KeptBytes.{saved_is_clear}
-use Rattle.ripemd_calls.proofs.Working.{written, refused, not_answered}
+use Rattle.ripemd_calls.proofs.Working.{written, refused, differs}
 use Rattle.ripemd_calls.proofs.facts.worked_states.Goals as goal
 
 -- the hash state
@@ -26,18 +26,11 @@ after = record {
 }
 
 is_state : IsState ripemd160 after
-is_state = record {
-  words = record { count = refl; fit = search rules };
-  count = omega arith;
-  tail = record { short = omega arith; bytes = search rules };
-}
+is_state = search rules
 
 -- after another block
 abbrev twice : HashState
 twice = record after { count = 2 }
-
-twice_is_state : IsState ripemd160 twice
-twice_is_state = record { words = is_state.words; count = omega arith; tail = is_state.tail }
 
 -- the forged bytes have a tail of 255
 not_state : (h : HashState) → ¬ IsSavedState ripemd160 h forged
@@ -76,15 +69,6 @@ exchanged_saved s is =
       saved = ap (λ (bytes : List ℕ). bytes ++ core_and_tail word_bytes s.inner) outer ∙ ap (λ (bytes : List ℕ). saved_outer ++ bytes) inner;
     }
 
--- if a state is loaded, the bytes after it stay
-loaded_behind : (h : HashState) → IsSavedState ripemd160 h saved_bytes → (any next : List ℕ) (done : Bool)
-    → LoadsState 160 saved_bytes any next done → drop 93 next ≡ drop 93 any
-loaded_behind h is any next done does = (does.state h is).behind
-
-loaded_behind_hmac : (s : KeyedState) → IsSavedHmac ripemd160 s (saved_inner ++ saved_outer) → (any next : List ℕ) (done : Bool)
-    → LoadsHmac 160 (saved_inner ++ saved_outer) any next done → drop 185 next ≡ drop 185 any
-loaded_behind_hmac s is any next done does = (does.state s is).behind
-
 -- the HMAC state of the key
 abbrev start : KeyedState
 start = keyed_state ripemd160.start (compress ripemd160) word_bytes key
@@ -101,7 +85,7 @@ returns-clause-states c = record {
         λ new done gives. written refl refl ((rw does.mark at gives).message tt (replicate 64 0x61 ++ 0x62 ∷ 0x63 ∷ []) after_message.1),
       );
   continued = λ next done does.
-      let after_piece = does.kept.state twice (record { valid = twice_is_state; saved = refl }) in (
+      let after_piece = does.kept.state twice (record { valid = search rules; saved = refl }) in (
         after_piece.0,
         λ new done gives. written refl refl ((rw does.mark at gives).state (fed (compress ripemd160) twice (codes "c")) after_piece.1),
       );
@@ -111,7 +95,7 @@ returns-clause-states c = record {
       (record { valid = is_state; saved = refl }) in (
         keeps.yes,
         λ new done gives. written refl refl ((rw keeps.marked at gives).message tt (replicate 64 0x61 ++ 0x62 ∷ []) keeps.kept),
-        loaded_behind after (record { valid = is_state; saved = refl }) any next done does,
+        keeps.behind,
       );
   short = λ new done does. refused done (λ fits. absurd (omega (arith, fits))) (does.state after (record { valid = is_state; saved = refl }));
   not_finalized = λ new done does. does.refused not_state;
@@ -143,24 +127,16 @@ returns-clause-hmac_states c =
           let keeps = does.state (fed_text (compress ripemd160) start (codes "Hi There")) text in (
             keeps.yes,
             λ new done gives. written refl refl ((rw keeps.marked at gives).message key (codes "Hi There") keeps.kept),
-            loaded_behind_hmac after_text text any next done does,
+            keeps.behind,
           );
       short = λ new done does. refused done (λ fits. absurd (omega (arith, fits))) (does.message key (codes "Hi There") text);
       not_finalized = λ new done does. does.refused (no_outer forged not_state);
       other_kind = λ answer does. does;
       verified = λ answer does. (does.message key (codes "Hi There") text).1 refl;
-      wrong = λ answer does.
-          not_answered answer (λ same. omega (arith, ap (λ (bytes : List ℕ). get_or bytes 0 0) same))
-          (does.message key (codes "Hi There") text).0;
-      nothing = λ answer does.
-          not_answered answer (λ same. omega (arith, ap (λ (bytes : List ℕ). length bytes) same))
-          (does.message key (codes "Hi There") text).0;
-      part = λ answer does.
-          not_answered answer (λ same. omega (arith, ap (λ (bytes : List ℕ). length bytes) same))
-          (does.message key (codes "Hi There") text).0;
-      longer = λ answer does.
-          not_answered answer (λ same. omega (arith, ap (λ (bytes : List ℕ). length bytes) same))
-          (does.message key (codes "Hi There") text).0;
+      wrong = λ answer does. differs (λ bytes. get_or bytes 0 0) answer (does.message key (codes "Hi There") text).0 (λ same. omega (arith, same));
+      nothing = λ answer does. differs (λ bytes. length bytes) answer (does.message key (codes "Hi There") text).0 (λ same. omega (arith, same));
+      part = λ answer does. differs (λ bytes. length bytes) answer (does.message key (codes "Hi There") text).0 (λ same. omega (arith, same));
+      longer = λ answer does. differs (λ bytes. length bytes) answer (does.message key (codes "Hi There") text).0 (λ same. omega (arith, same));
       not_verified = λ some answer does. does.refused (no_outer forged not_state);
       not_updated = λ piece new done does.
           let unfit = does.kept.refused.1 (no_outer forged not_state) in (unfit, does.unchanged unfit);

@@ -4,12 +4,12 @@ use Rattle.ripemd_block.specs.Standard.Hashing.{blocks, partial_block}
 use Rattle.ripemd_block.specs.States.{HashState, IsHashState, after_blocks, fed, output_and_count, with_tail}
 use Rattle.ripemd_block.specs.Laws.Saved.{length-output_and_count}
 use Rattle.ripemd_block.specs.Laws.Walking.{after_joined_blocks}
-use Rattle.ripemd_calls.proofs.KeptBytes.{both_kept, tail_held, kept_own, kept_size, kept_tail}
+use Rattle.ripemd_calls.proofs.KeptBytes.{back_size, both_kept, kept_core, kept_held}
 use Rattle.ripemd_calls.proofs.kept.absorb_kept.Goals as goal
 use Rattle.ripemd_calls.proofs.kept.absorb_kept.Goals.{then-len-gt0, else-len-gt0}
 
 pub returns : goal.returns
-unfolding fed
+unfolding fed output_and_count
 returns g c =
     let f = g.F.ListBlockFunction in
     let r = g.met.F.ResumableFunction in
@@ -27,13 +27,11 @@ returns g c =
     let back = c.split_at_mut-back.result.0.now in
     let front_is : front ≡ take n kept = rw c.LEN.ensures at parts.ensures.front in
     let behind_is : behind ≡ drop n kept = rw c.LEN.ensures at parts.ensures.back in
-    let whole = kept_size told h valid n r.saved_core_size kept s.saved.saved in
-    let size : length behind ≡ 64 = omega (arith, ap length behind_is, length-drop n kept, whole) in
+    let size = back_size told h valid n r.saved_core_size kept s.saved.saved behind behind_is in
     let same_back : back ≡ behind = c.split_at_mut-back.ensures.front ∙ take_all 64 behind (omega (arith, size)) in
     let none = c.split_at_mut-back.ensures.back ∙ drop_all 64 behind (omega (arith, size)) in
-    let of_core : output_and_count f.output h ≡ front = kept_own told h valid n r.saved_core_size kept s.saved.saved front front_is in
-    let of_tail : take (length h.tail) (drop 1 behind) ≡ h.tail =
-    tail_held h.tail behind size valid.tail.short (kept_tail told h valid n r.saved_core_size kept s.saved.saved behind behind_is) in
+    let of_core : output_and_count f.output h ≡ front = kept_core told h valid n r.saved_core_size kept s.saved.saved front front_is in
+    let of_tail = kept_held told h valid n r.saved_core_size kept s.saved.saved behind behind_is in
     let last = c.update_saved-2 in
     let Taken : HashState → Type 0 = λ core. IsHashState f.are_words core × (output_and_count f.output core ≡ last.new.saved) in
     let walked : Taken (after_blocks f.step h (blocks all)) = elim c.if-len-gt0.branch [

@@ -1,35 +1,25 @@
-use Rattle.std.proofs.Common.{◌≡◌, ◌+◌, ◌-◌, ◌<◌, ◌∙◌, [], All, refl, length, take, drop, get_or, ap, arith}
+use Rattle.std.proofs.Common.{◌≡◌, ◌+◌, ◌-◌, ◌<◌, ◌∙◌, All, refl, length, take, drop, get_or, arith}
 use Rattle.std.proofs.lemmas.List.{length-drop, length-take-le}
 use Rattle.ripemd.specs.States.{HashState, with_tail, output_and_count, tail_bytes}
 use Rattle.ripemd_block.specs.Laws.Saved.{core_and_tail-split}
-use Rattle.ripemd.proofs.Saved.{own_core}
-use Rattle.ripemd_calls.specs.KeptBytes.{cleared, cleared_tail}
-use Rattle.ripemd_calls.proofs.KeptBytes.{tail_length, cleared_front, kept_size, kept_core, kept_tail}
+use Rattle.ripemd_calls.specs.KeptBytes.{cleared_tail}
+use Rattle.ripemd_calls.proofs.KeptBytes.{cleared_front, kept_length, no_core}
 use Rattle.ripemd_calls.proofs.kept.tail_len.Goals as goal
 
 -- the first bytes of a hasher are its core's
 pub returns-in_default-clause-none : goal.returns-in_default-clause-none
 returns-in_default-clause-none g c h valid same =
     let r = g.met.F.ResumableFunction in
-    let told = r.injective_output in
-    let n = g.F.SavedCore.ByteArray.LEN in
-    c.in_default.ensures.err (with_tail h []) (own_core told h valid n r.saved_core_size (cleared n c.args.kept.now) same)
-    (kept_core told h valid n r.saved_core_size c.args.kept.now same c.split_at.result.0.now
-    (rw c.LEN.ensures at c.split_at.ensures.front))
+    no_core r.injective_output h valid g.F.SavedCore.ByteArray.LEN r.saved_core_size c.args.kept.now same c.split_at.result.0.now
+    (rw c.LEN.ensures at c.split_at.ensures.front) c.in_default.ensures.err
 
 -- and then comes the length of its tail
 pub returns-then-len-ge64-clause-none : goal.returns-then-len-ge64-clause-none
 returns-then-len-ge64-clause-none g c h valid same =
     let r = g.met.F.ResumableFunction in
-    let told = r.injective_output in
-    let n = g.F.SavedCore.ByteArray.LEN in
-    let kept = c.args.kept.now in
-    let back = c.split_at.result.1.now in
-    let back_is = rw c.LEN.ensures at c.split_at.ensures.back in
-    let size : length back ≡ 64 =
-    omega (arith, ap length back_is, length-drop n kept, kept_size told h valid n r.saved_core_size kept same) in
-    let is = kept_tail told h valid n r.saved_core_size kept same back back_is in
-    omega (arith, c.if-len-ge64.true, tail_length h.tail back size valid.tail.short is, valid.tail.short)
+    let len = kept_length r.injective_output h valid g.F.SavedCore.ByteArray.LEN r.saved_core_size c.args.kept.now same c.split_at.result.1.now
+    (rw c.LEN.ensures at c.split_at.ensures.back) in
+    omega (arith, c.if-len-ge64.true, len, valid.tail.short)
 
 pub returns-clause-some : goal.returns-clause-some
 unfolding output_and_count

@@ -1,8 +1,8 @@
 use Rattle.std.proofs.Common.{◌≡◌, ℕ, List, [], ◌∷◌, codes, get_or, refl, sym, ◌∙◌, ap, arith, rules}
 use Rattle.ripemd.specs.Standard.Words.{word_bytes}
-use Rattle.ripemd.specs.Standard.Compression.{ripemd160, registers_after, lines_after, compress}
+use Rattle.ripemd.specs.Standard.Compression.{registers_after, lines_after, compress}
 use Rattle.ripemd.specs.Standard.Hashing.{with_padding, blocks, partial_block}
-use Rattle.ripemd.specs.States.{HashState, IsState, fed, finish, output_and_count, core_and_tail}
+use Rattle.ripemd.specs.States.{HashState, fed, finish, output_and_count, core_and_tail}
 use Rattle.ripemd_mac.specs.Hmac.{key_block, keyed_state}
 use Rattle.ripemd_mac.specs.Saved.{hmac_bytes}
 use Rattle.ripemd_mac.proofs.facts.saved_tag.Goals as goal
@@ -22,26 +22,12 @@ outer = record {
   tail = [];
 }
 
-is_inner_state : IsState ripemd160 inner
-is_inner_state = record {
-  words = record { count = refl; fit = search rules };
-  count = omega arith;
-  tail = record { short = omega arith; bytes = search rules };
-}
-
-is_outer_state : IsState ripemd160 outer
-is_outer_state = record {
-  words = record { count = refl; fit = search rules };
-  count = omega arith;
-  tail = record { short = omega arith; bytes = search rules };
-}
-
 pub returns : goal.returns
 unfolding registers_after lines_after compress with_padding blocks partial_block fed finish output_and_count core_and_tail key_block keyed_state
 returns c = record {
   saved = record {
     state = record { inner = inner; outer = outer };
-    valid = record { inner = is_inner_state; outer = is_outer_state };
+    valid = search rules;
     saved = refl;
     stands = record { is = refl };
   };

@@ -4,10 +4,11 @@ use Rattle.std.specs.Simd.Lanes.{zip2}
 use Rattle.ripemd.specs.Standard.Hashing.{hash}
 use Rattle.ripemd_mac.specs.Hmac.{StandsFor, filled, hmac}
 use Rattle.ripemd_mac.specs.Pbkdf2.{U, F}
-use Rattle.ripemd_mac.proofs.Deriving.{next_U, next_F, first_U, first_F, combined_filled, length-combined}
+use Rattle.ripemd_mac.proofs.Deriving.{next_U, next_F, combined_filled, length-combined}
 use Rattle.ripemd_mac.proofs.pbkdf2.derived_block.Goals as goal
 
 pub loop-j-init : goal.loop-j-init
+unfolding U F
 loop-j-init g c password stands =
     let start = g.D.Digest.start in
     let step = g.D.Digest.step in
@@ -19,11 +20,11 @@ loop-j-init g c password stands =
     let salted = c.update.ensures.text password [] copy in
     let numbered = c.update-2.ensures.text password salt salted in
     let tag = c.finalize-tag.ensures.text password _ numbered
-    ∙ ap (λ bytes. PRF password (salt ++ bytes)) c.to_be_bytes.ensures ∙ sym (first_U PRF password salt i) in
+    ∙ ap (λ bytes. PRF password (salt ++ bytes)) c.to_be_bytes.ensures in
     record {
       tag = tag;
-      block = c.filled-block.ensures ∙ ap filled (c.output_bytes.ensures.bytes ∙ tag ∙ sym (first_F PRF password salt i));
-      size = ap length (first_F PRF password salt i ∙ sym tag) ∙ c.finalize-tag.ensures.size;
+      block = c.filled-block.ensures ∙ ap filled (c.output_bytes.ensures.bytes ∙ tag);
+      size = ap length (sym tag) ∙ c.finalize-tag.ensures.size;
     }
 
 pub loop-j-preserved : goal.loop-j-preserved

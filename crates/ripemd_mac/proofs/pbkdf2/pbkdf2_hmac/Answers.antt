@@ -1,15 +1,17 @@
 use Rattle.std.proofs.Common.{◌≡◌, ℕ, ◌+◌, ◌-◌, ◌*◌, ◌<◌, min, List, length, drop, refl, ap, sym, ◌∙◌, arith, rules, subst, take}
-use Rattle.std.proofs.lemmas.List.{length-take-le, length-drop}
+use Rattle.std.proofs.lemmas.List.{length-take-le, length-drop, nil_from_length}
 use Rattle.std.specs.Int.{div_ceil}
 use Rattle.ripemd.specs.Standard.Hashing.{hash}
 use Rattle.ripemd_mac.specs.Hmac.{hmac}
 use Rattle.ripemd_mac.specs.Pbkdf2.{F, pbkdf2}
-use Rattle.ripemd_mac.proofs.Deriving.{Written, all_written, block_begins, no_key, none_written, one_more}
+use Rattle.ripemd_mac.proofs.Deriving.{Written, all_written, block_begins, none_written, one_more}
 use Rattle.ripemd_mac.proofs.pbkdf2.pbkdf2_hmac.Goals as goal
 
 pub returns-then-is_empty-clause-ok : goal.returns-then-is_empty-clause-ok
 unfolding pbkdf2
-returns-then-is_empty-clause-ok g c = no_key c.args.key.now _ (search (rules, arith))
+returns-then-is_empty-clause-ok g c =
+    let none : length c.args.key.now ≡ 0 = search (rules, arith) in
+    rw (nil_from_length c.args.key.now none) refl
 
 pub loop-i-init : goal.loop-i-init
 loop-i-init g c = none_written _ c.OUTPUT_SIZE-size.result (length c.args.key.now) c.args.key.now refl

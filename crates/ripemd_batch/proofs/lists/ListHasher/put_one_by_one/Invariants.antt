@@ -1,12 +1,8 @@
 -- What is made of the messages so far is in its place.
-use Rattle.std.proofs.Common.{◌≡◌, length, map, take}
-use Rattle.ripemd_batch.specs.Lanes.{made_by, targets}
+use Rattle.ripemd_batch.specs.Lanes.{made_by}
 use Rattle.ripemd_batch.proofs.Placing.{Put}
 use Rattle.ripemd_batch.proofs.lists.ListHasher.put_one_by_one.Given as goal
 
 abbrev pub invariant-loop-j : goal.invariant-loop-j
-invariant-loop-j g l = record {
-  size : length (g.P.Places.list l.places) ≡ length (g.P.Places.list l.fn.places);
-  so_far : Put (g.P.Places.list l.places) (take l.at (g.P.Places.list l.fn.places))
-      (map (made_by g.D.Digest.step g.D.Digest.output l.self) (targets l.messages)) l.at l.j;
-}
+invariant-loop-j g l =
+    Put (made_by g.D.Digest.step g.D.Digest.output l.self) l.messages (g.P.Places.list l.fn.places) l.at l.j (g.P.Places.list l.places)

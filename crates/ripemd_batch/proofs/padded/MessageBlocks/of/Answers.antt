@@ -1,10 +1,10 @@
-use Rattle.std.proofs.Common.{arith}
-use Rattle.ripemd_batch.proofs.Blocks.{joined_blocks}
+use Rattle.std.proofs.Common.{◌≡◌, ℕ, ◌+◌, ◌*◌, ◌%◌, ◌^◌, length, sym, arith}
+use Rattle.ripemd_block.specs.Laws.Pieces.{with_padding_rest}
 use Rattle.ripemd_batch.proofs.padded.MessageBlocks.of.Goals as goal
 
+-- the whole blocks of a message and the blocks of its tail with the padding are all its blocks
 pub returns : goal.returns
 returns c =
-    let whole = c.whole_blocks in
-    let last = c.last_blocks in
-    joined_blocks c.args.before c.args.message.now whole.result.1.now _ whole.result.0.now last.result.now
-    whole.ensures.whole whole.ensures.tail (omega arith) last.ensures.value
+    let n : ℕ = 8 * (c.args.before + length c.args.message.now) % 2 ^ 64 in
+    let bits : (c.args.before + length c.args.message.now) % 2 ^ 64 * 8 % 2 ^ 64 ≡ n = omega arith in
+    rw (c.whole_blocks.ensures.whole, c.last_blocks.ensures.value, c.whole_blocks.ensures.tail, bits) (sym (with_padding_rest c.args.message.now n))

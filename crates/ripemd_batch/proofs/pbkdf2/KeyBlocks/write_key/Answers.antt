@@ -1,5 +1,6 @@
 use Rattle.std.proofs.Common.{◌≡◌, ℕ, ◌+◌, ◌-◌, ◌*◌, ◌%◌, ◌<◌, min, List, length, take, drop, ap, refl, sym, ◌∙◌, arith, rules, subst}
 use Rattle.std.proofs.lemmas.List.{length-take-le, length-drop}
+use Rattle.std.proofs.lemmas.Nat.{mul-add-lt}
 use Rattle.std.specs.Int.{div_ceil}
 use Rattle.ripemd_block.specs.Standard.Hashing.{hash}
 use Rattle.ripemd_mac.specs.Hmac.{hmac}
@@ -7,7 +8,7 @@ use Rattle.ripemd_mac.specs.Pbkdf2.{F, pbkdf2}
 use Rattle.ripemd_mac.proofs.Deriving.{Written, all_written, block_begins, none_written, one_more}
 use Rattle.ripemd_batch.specs.Pbkdf2.{HasBlocks, InGroup, IsFilled, KeyList, block_at, total}
 use Rattle.ripemd_batch.specs.Lanes.{list_at}
-use Rattle.ripemd_batch.proofs.KeyBlocks.{block_in_key, in_group, inside_all, next_group}
+use Rattle.ripemd_batch.proofs.KeyBlocks.{block_in_key, in_group, next_group}
 use Rattle.ripemd_batch.proofs.pbkdf2.KeyBlocks.write_key.Goals as goal
 
 pub loop-b-init : goal.loop-b-init
@@ -39,7 +40,7 @@ loop-b-preserved g c =
     let inside : at < n = block_begins n size b c.digest_size-size.ensures.some (rw (is, ← c.requires.count) within) in
     let blocks : HasBlocks digest tag keys (k - k % 8) group =
     c.begin_group.ensures (subst (λ (count : ℕ). InGroup digest tag keys (count * i + b) c.loop-b.group) (sym own) c.loop-b.invariant.group) in
-    let within_all : k < total keys = rw own (inside_all keys.count (length keys.passwords) i b c.requires.pair within) in
+    let within_all : k < total keys = rw own (omega (arith, mul-add-lt i keys.count b (length keys.passwords) c.requires.pair within)) in
     let has : IsFilled digest (list_at group (k % 8)) (f (b + 1)) =
     subst (IsFilled digest (list_at group (k % 8)))
     (ap (λ count. block_at tag keys (count * i + b)) own ∙ block_in_key tag keys i b within)
