@@ -2,8 +2,8 @@
 use Rattle.std.proofs.Common.{◌≡◌, ℕ, ◌*◌, Bool, true, false, List, ◌∷◌, ◌++◌, length, Option, Some, None, refl, sym, ap, subst, ◌∙◌, cond, inl, inr, arith}
 use Rattle.std.specs.Prelude.{is_some, IfSome}
 use Rattle.std.specs.List.{list_all}
-use Rattle.std.proofs.lemmas.Bool.{and_parts, eq-eqb, eqb-true}
-use Rattle.std.proofs.lemmas.Bool.Decides.{eqb_tells}
+use Rattle.std.proofs.lemmas.Bool.{and_parts, false_from_ne_true, eq-eqb, eqb-true}
+use Rattle.std.proofs.lemmas.Bool.Decides.{eqb_tells, nat_tests}
 use Rattle.std.proofs.lemmas.List.Sums.{AllPass-from_list_all}
 use Rattle.std.proofs.lemmas.Option.{same_Some, option_and_then_some}
 use Rattle.hex.specs.Hex.{is_hex_digit}
@@ -14,26 +14,13 @@ use Rattle.ripemd_files.specs.declared.line.Layout.TheVariants.{Standard, Revers
 use Rattle.ripemd_files.specs.Lines.{size_of, IsDigest, mark_of}
 use Rattle.ripemd_files.specs.Reading.{Found, skip_blanks, split_blank, strip_mark, strip_tag, variant_of, text_at, untagged_at}
 use Rattle.ripemd_files.specs.Layouts.{has_digits, is_wanted_length, layout_at, layout_of, HasLayout}
-use Rattle.ripemd_files.proofs.Bodies.{skip_blanks-sound, digits_of, starts, starts-form, strip_tag-none, untagged_at-sound, untagged_at-form, variant_of-size}
+use Rattle.ripemd_files.proofs.Bodies.{differs, skip_blanks-sound, digits_of, starts, starts-form, strip_tag-none, untagged_at-sound, untagged_at-form, variant_of-size}
 use Rattle.ripemd_files.proofs.Sayings.{marked-front, strip_mark-sound}
 
 -- ---- the number of digits
 
 variant_of-count : (count : ℕ) (variant : Variant) → variant_of count ≡ Some variant → count ≡ 2 * size_of variant
-variant_of-count count variant e =
-    elim (eqb_tells count 32) [
-      | inl is ↦ subst (λ (v : Variant). count ≡ 2 * size_of v) (same_Some _ _ (rw is.0 at e)) is.1
-      | inr other ↦ elim (eqb_tells count 40) [
-        | inl is ↦ subst (λ (v : Variant). count ≡ 2 * size_of v) (same_Some _ _ (rw (other.0, is.0) at e)) is.1
-        | inr other2 ↦ elim (eqb_tells count 64) [
-          | inl is ↦ subst (λ (v : Variant). count ≡ 2 * size_of v) (same_Some _ _ (rw (other.0, other2.0, is.0) at e)) is.1
-          | inr other3 ↦ elim (eqb_tells count 80) [
-            | inl is ↦ subst (λ (v : Variant). count ≡ 2 * size_of v) (same_Some _ _ (rw (other.0, other2.0, other3.0, is.0) at e)) is.1
-            | inr other4 ↦ let none : None ≡ Some variant = rw (other.0, other2.0, other3.0, other4.0) at e in absurd cc
-          ]
-        ]
-      ]
-    ]
+variant_of-count count variant e = grind (arith, nat_tests)
 
 untagged_at-variant : (layout : Layout) (body : List ℕ) (found : Found) → untagged_at layout body ≡ Some found
     → variant_of (length found.digits) ≡ Some found.variant
@@ -97,15 +84,7 @@ pub layout_of-found : (only : Option Variant) (layout : Layout) (line : List ℕ
 unfolding layout_at
 layout_of-found only layout line e =
     let body = (strip_mark (skip_blanks line)).1 in
-    go (is_some (strip_tag body)) (has_digits only (untagged_at Standard body)) (has_digits only (untagged_at Reversed body)) refl refl e
-  where
-    go : (tagged standard reversed : Bool) → has_digits only (untagged_at Standard (strip_mark (skip_blanks line)).1) ≡ standard
-        → has_digits only (untagged_at Reversed (strip_mark (skip_blanks line)).1) ≡ reversed
-        → cond tagged None (cond standard (Some Standard) (cond reversed (Some Reversed) None)) ≡ Some layout → HasLayout only layout line
-    go true standard reversed s r e = absurd cc
-    go false true reversed s r e = subst (λ (l : Layout). HasLayout only l line) (same_Some _ _ e) (has_layout only Standard line s)
-    go false false true s r e = subst (λ (l : Layout). HasLayout only l line) (same_Some _ _ e) (has_layout only Reversed line r)
-    go false false false s r e = absurd cc
+    grind (arith, has_layout only Standard line, has_layout only Reversed line)
 
 -- ---- what is there is found
 
@@ -123,7 +102,7 @@ no_tag only layout line h =
     let first = starts h.variant h.digits h.digest h.is_digest in
     let behind = h.form.separator ++ h.text in
     let whole : h.body ≡ first.0 ∷ (first.1 ++ behind) = h.form.whole ∙ ap (λ (front : List ℕ). front ++ behind) first.2 in
-    ap strip_tag (body_found only layout line h ∙ whole) ∙ strip_tag-none first.0 (first.1 ++ behind) first.3.no_tag
+    ap strip_tag (body_found only layout line h ∙ whole) ∙ strip_tag-none first.0 (first.1 ++ behind) (differs first.0 82 first.3 refl)
 
 digits_found : (only : Option Variant) (layout : Layout) (line : List ℕ) → HasLayout only layout line
     → has_digits only (untagged_at layout (strip_mark (skip_blanks line)).1) ≡ true
@@ -145,11 +124,6 @@ unfolding layout_at
 layout_of-reversed only line h other =
     rw (
       no_tag only Reversed line h,
-      not_standard (has_digits only (untagged_at Standard (strip_mark (skip_blanks line)).1)) refl,
+      false_from_ne_true _ (λ is. other (has_layout only Standard line is)),
       digits_found only Reversed line h,
     ) refl
-  where
-    not_standard : (has : Bool) → has_digits only (untagged_at Standard (strip_mark (skip_blanks line)).1) ≡ has
-        → has_digits only (untagged_at Standard (strip_mark (skip_blanks line)).1) ≡ false
-    not_standard true is = absurd (other (has_layout only Standard line is))
-    not_standard false is = is

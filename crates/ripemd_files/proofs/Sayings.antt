@@ -1,7 +1,7 @@
 -- What a line is read as is what it is a line of, and the other way round.
-use Rattle.std.proofs.Common.{◌≡◌, ℕ, Bool, true, false, List, [], ◌∷◌, ◌++◌, Option, Some, None, refl, sym, ap, subst, ◌∙◌, eqb, inl, inr}
+use Rattle.std.proofs.Common.{◌≡◌, ℕ, Bool, true, false, List, [], ◌∷◌, ◌++◌, Option, Some, None, arith, refl, sym, ap, subst, ◌∙◌, eqb, inl, inr}
 use Rattle.std.specs.Prelude.{option_map, IfSome}
-use Rattle.std.proofs.lemmas.Bool.Decides.{eqb_tells}
+use Rattle.std.proofs.lemmas.Bool.Decides.{nat_tests}
 use Rattle.std.proofs.lemmas.Option.{same_Some, none-some, option_and_then_some}
 use Rattle.ripemd_files.specs.declared.line.Variant.{Variant}
 use Rattle.ripemd_files.specs.declared.line.Layout.{Layout}
@@ -13,11 +13,7 @@ use Rattle.ripemd_files.proofs.Bodies.{skip_blanks-sound, skip_blanks-front, sta
 
 pub strip_mark-sound : (bytes : List ℕ) → bytes ≡ mark_of (strip_mark bytes).0 ++ (strip_mark bytes).1
 strip_mark-sound [] = refl
-strip_mark-sound (x ∷ rest) =
-    elim (eqb_tells x 92) [
-      | inl is ↦ rw is.1 refl
-      | inr other ↦ rw other.0 refl
-    ]
+strip_mark-sound (x ∷ rest) = grind (arith, nat_tests)
 
 -- what a line says, it is a line of
 pub IsLine-said : (layout : Layout) (line : List ℕ) (variant : Variant) (digest name : List ℕ)
