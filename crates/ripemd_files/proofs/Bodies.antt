@@ -221,9 +221,6 @@ digest_at-digest variant digits digest h = rw (eq-eqb _ _ h.twice, h.bytes) refl
 
 -- ---- the untagged form
 
-no_nil : {A : Type 0} (x : A) (xs : List A) → x ∷ xs ≢ []
-no_nil x xs e = cc
-
 text_at-sound : (layout : Layout) (blank : ℕ) (rest text : List ℕ) → IsTrue (is_blank blank) → text_at layout rest ≡ Some text
     → (separator : List ℕ) × IsSeparator layout separator × (text ≢ []) × (blank ∷ rest ≡ separator ++ text)
 text_at-sound Standard blank [] text is e = absurd cc
@@ -255,13 +252,14 @@ untagged_of layout body digits rest text split at =
     }
 
 pub untagged_at-sound : (layout : Layout) (body : List ℕ) (found : Found) → untagged_at layout body ≡ Some found
-    → IsUntagged layout body found.digits found.text
+    → IsUntagged layout body found.digits found.text × (variant_of (length found.digits) ≡ Some found.variant)
 unfolding untagged_at
 untagged_at-sound layout body found e =
     option_and_then_some _ (split_blank body) found e (λ parts split e2.
-    option_and_then_some _ (variant_of (length parts.0)) found e2 (λ variant _ e3.
+    option_and_then_some _ (variant_of (length parts.0)) found e2 (λ variant is e3.
     option_and_then_some _ (text_at layout parts.1) found e3 (λ text named e4.
-    subst (λ (f : Found). IsUntagged layout body f.digits f.text) (same_Some _ _ e4) (untagged_of layout body parts.0 parts.1 text split named))))
+    subst (λ (f : Found). IsUntagged layout body f.digits f.text × (variant_of (length f.digits) ≡ Some f.variant)) (same_Some _ _ e4)
+    (untagged_of layout body parts.0 parts.1 text split named, is))))
 
 pub variant_of-size : (variant : Variant) (count : ℕ) → count ≡ 2 * size_of variant → variant_of count ≡ Some variant
 variant_of-size R128 count e = rw e refl
@@ -387,7 +385,7 @@ found_at-sound layout body f e = go (strip_tag body) refl e
     go : (tag : Option (Variant × List ℕ)) → strip_tag body ≡ tag → either_at layout tag body ≡ Some f
         → IsUntagged layout body f.digits f.text ⊎ IsTagged body f.variant f.digits f.text
     go (Some tag) is e = let parts = strip_tag-sound body tag.0 tag.1 is in inr (tagged_at-sound body parts.0 tag.1 tag.0 f parts.1 parts.2 e)
-    go None is e = inl (untagged_at-sound layout body f e)
+    go None is e = inl (untagged_at-sound layout body f e).0
 
 pub found_at-form : (layout : Layout) (body : List ℕ) (variant : Variant) (digits digest text : List ℕ)
     → IsUntagged layout body digits text ⊎ IsTagged body variant digits text → IsDigest variant digits digest → found_at layout body ≡ found variant digits text

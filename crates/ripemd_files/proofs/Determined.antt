@@ -264,8 +264,9 @@ module _ {File : Type 0} (place : Place File) (contents : List ℕ → Result (L
           rw (← lines, lines_to_end start a.read refl) a.reports in
           let (es, fs, mid, split, come) = reports_front first 1 report.lines more a.events one.last reports in
           let same = (one_list place contents known options.ignore_missing rules first 1 report.lines es report.events mid end.stops.last come report.reports).0 in
-          front_of (flat_map (items_of_event options) fs ++ last_remarks ended options one.checks.tally)
-          (a.said ∙ grouped options a.events es fs report.events _ split same ∙ ap (λ l. l ++ _) (sym report.said))
+          let rest = last_remarks ended options one.checks.tally in
+          front_of (flat_map (items_of_event options) fs ++ rest)
+          (a.said ∙ grouped options a.events es fs report.events rest split same ∙ ap (λ l. l ++ (flat_map (items_of_event options) fs ++ rest)) (sym report.said))
       at ended is =
           let report = b ended is in
           let said = same_lines a report refl (sym (lines_to_end start a.read refl) ∙ lines_to_end start report.read refl) in

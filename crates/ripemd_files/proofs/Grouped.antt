@@ -31,7 +31,7 @@ module _ {File : Type 0} (place : Place File) (ignore_missing : Bool) (kinds : R
   }
 
   -- what comes of all of them
-  pub first_of_all : (cursor : Cursor) (lines : List (List ℕ)) (events : List Event) (last : Option Layout)
+  abbrev pub first_of_all : (cursor : Cursor) (lines : List (List ℕ)) (events : List Event) (last : Option Layout)
       → ReportsFrom place ignore_missing kinds cursor lines events last → ReportsFirst place ignore_missing kinds cursor lines events
   first_of_all cursor lines events last reports =
       record { first = lines; back = []; split = sym (append-nil lines); last = last; reports = reports }

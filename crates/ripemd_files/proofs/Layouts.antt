@@ -22,15 +22,6 @@ use Rattle.ripemd_files.proofs.Sayings.{marked-front, strip_mark-sound}
 variant_of-count : (count : ℕ) (variant : Variant) → variant_of count ≡ Some variant → count ≡ 2 * size_of variant
 variant_of-count count variant e = grind (arith, nat_tests)
 
-untagged_at-variant : (layout : Layout) (body : List ℕ) (found : Found) → untagged_at layout body ≡ Some found
-    → variant_of (length found.digits) ≡ Some found.variant
-unfolding untagged_at
-untagged_at-variant layout body found e =
-    option_and_then_some _ (split_blank body) found e (λ parts split e2.
-    option_and_then_some _ (variant_of (length parts.0)) found e2 (λ variant is e3.
-    option_and_then_some _ (text_at layout parts.1) found e3 (λ text named e4.
-    subst (λ (f : Found). variant_of (length f.digits) ≡ Some f.variant) (same_Some _ _ e4) is)))
-
 -- the number that counts is that of the variant
 wanted_of : (only : Option Variant) (variant : Variant) (count : ℕ) → is_wanted_length only count ≡ true → variant_of count ≡ Some variant
     → IfSome only (λ one. one ≡ variant)
@@ -63,7 +54,7 @@ has_layout only layout line = go (untagged_at layout (strip_mark (skip_blanks li
         let marked = strip_mark (skip_blanks line) in
         let indent = skip_blanks-sound line in
         let parts = and_parts (is_wanted_length only (length found.digits)) (list_all is_hex_digit found.digits) has in
-        let variant = untagged_at-variant layout marked.1 found is in
+        let (form, variant) = untagged_at-sound layout marked.1 found is in
         let digest = digest_of found.variant found.digits (variant_of-count _ _ variant) parts.1 in
         record {
           indent = indent.0;
@@ -75,7 +66,7 @@ has_layout only layout line = go (untagged_at layout (strip_mark (skip_blanks li
           text = found.text;
           is_indent = indent.1;
           whole = indent.2 ∙ ap (λ (back : List ℕ). indent.0 ++ back) (strip_mark-sound (skip_blanks line));
-          form = untagged_at-sound layout marked.1 found is;
+          form = form;
           is_digest = digest.1;
           counted = wanted_of only found.variant (length found.digits) parts.0 variant;
         }
