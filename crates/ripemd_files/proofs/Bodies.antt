@@ -227,17 +227,12 @@ text_at-sound Standard blank [] text is e = absurd cc
 text_at-sound Standard blank (kind ∷ []) text is e = absurd cc
 text_at-sound Reversed blank [] text is e = absurd cc
 text_at-sound Standard blank (kind ∷ first ∷ others) text is e =
-    elim (eqb_tells kind 32) [
-      | inl here ↦
-          let same : first ∷ others ≡ text = same_Some _ _ (rw here.0 at e) in
-          (blank ∷ kind ∷ [], (blank, kind, is, inl here.1, refl), rw (← same) (no_nil first others), ap (λ (t : List ℕ). blank ∷ kind ∷ t) same)
-      | inr other ↦
-          let found = cond_some (eqb kind 42) (first ∷ others) text (rw other.0 at e) in
-          (blank ∷ kind ∷ [], (blank, kind, is, inr (eqb-true kind 42 found.0), refl), rw (← found.1) (no_nil first others), ap (λ (t : List ℕ). blank ∷ kind ∷ t) found.1)
-    ]
+    let found = cond_some (eqb kind 32 || eqb kind 42) (first ∷ others) text e in
+    let separates : (kind ≡ 32) ⊎ (kind ≡ 42) = grind (arith, nat_tests) in
+    (blank ∷ kind ∷ [], (blank, kind, is, separates, refl), λ none. cc (found.1, none), ap (λ (t : List ℕ). blank ∷ kind ∷ t) found.1)
 text_at-sound Reversed blank (first ∷ others) text is e =
     let same : first ∷ others ≡ text = same_Some _ _ e in
-    (blank ∷ [], (blank, is, refl), rw (← same) (no_nil first others), ap (λ (t : List ℕ). blank ∷ t) same)
+    (blank ∷ [], (blank, is, refl), λ none. cc (same, none), ap (λ (t : List ℕ). blank ∷ t) same)
 
 untagged_of : (layout : Layout) (body digits rest text : List ℕ) → split_blank body ≡ parts_of digits rest → text_at layout rest ≡ Some text
     → IsUntagged layout body digits text
@@ -312,12 +307,6 @@ tagged_of body tag rest inner text behind digits variant is_tag whole opens spli
     let before = skip_blanks-sound behind in
     let equal = strip-sound (codes "=") (skip_blanks behind) digits equals in
     let after = skip_blanks-sound digits in
-    let at_equal : skip_blanks behind ≡ codes "=" ++ (after.0 ++ skip_blanks digits) = equal ∙ ap (λ (back : List ℕ). codes "=" ++ back) after.2 in
-    let at_close : behind ≡ before.0 ++ (codes "=" ++ (after.0 ++ skip_blanks digits)) = before.2 ∙ ap (λ (back : List ℕ). before.0 ++ back) at_equal in
-    let at_text : inner ≡ text ++ (codes ")" ++ (before.0 ++ (codes "=" ++ (after.0 ++ skip_blanks digits)))) =
-    closed ∙ ap (λ (back : List ℕ). text ++ (codes ")" ++ back)) at_close in
-    let at_open : skip_space rest ≡ codes "(" ++ (text ++ (codes ")" ++ (before.0 ++ (codes "=" ++ (after.0 ++ skip_blanks digits))))) =
-    opened ∙ ap (λ (back : List ℕ). codes "(" ++ back) at_text in
     record {
       tag = tag;
       space = space.0;
@@ -327,7 +316,7 @@ tagged_of body tag rest inner text behind digits variant is_tag whole opens spli
       is_space = space.1;
       is_before = before.1;
       is_after = after.1;
-      whole = whole ∙ ap (λ (back : List ℕ). tag ++ back) (space.2 ∙ ap (λ (back : List ℕ). space.0 ++ back) at_open);
+      whole = rw (← after.2, ← equal, ← before.2, ← closed, ← opened, ← space.2, ← whole) refl;
     }
 
 pub tagged_at-sound : (body tag rest : List ℕ) (variant : Variant) (found : Found) → IsTag variant tag → body ≡ tag ++ rest

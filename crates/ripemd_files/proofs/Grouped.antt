@@ -57,9 +57,8 @@ module _ {File : Type 0} (place : Place File) (ignore_missing : Bool) (kinds : R
       none : (count : ℕ) (events : List Event) → AllZip (IsEventOf place ignore_missing) (take count []) events
           → ReportsFirst place ignore_missing kinds cursor [] events
       none zero [] zipped = first_of_all cursor [] [] cursor.layout (refl, refl)
-      none zero (e ∷ es) zipped = absurd zipped
       none (suc n) [] zipped = first_of_all cursor [] [] cursor.layout (refl, refl)
-      none (suc n) (e ∷ es) zipped = absurd zipped
+      none _ _ zipped = absurd zipped
 
   module _ (old now next : Option (List ℕ)) (before cursor : Cursor) (lines : List Line)
       (so_far : ReadsLines place ignore_missing kinds old now before cursor lines [] true []) where

@@ -46,10 +46,6 @@ spells_from true (x ∷ rest) name e =
     subst (λ (n : List ℕ). Spells (92 ∷ x ∷ rest) n) tail.2
     (rest, inl (sym (ap (λ (front : List ℕ). front ++ rest) (escape_of-meant x head.0 head.1))), spells_from false rest tail.0 tail.1)
 
--- what is read of a text spells it
-pub Spells-unescaped : (text name : List ℕ) → unescaped false text ≡ Some name → Spells text name
-Spells-unescaped text name e = spells_from false text name e
-
 unescaped-escape : (byte : ℕ) (rest : List ℕ) → unescaped false (escape_of byte ++ rest) ≡ option_map (λ name. byte ∷ name) (unescaped false rest)
 unfolding unescaped
 unescaped-escape byte rest = grind (arith, nat_tests)
@@ -81,7 +77,7 @@ unfolding name_at
 name_at-said true text name e =
     let spelled = bind_some (unescaped false text) without_zero name e in
     let said = no_zero_of spelled.0 name spelled.2 in
-    (Spells-unescaped text name (spelled.1 ∙ ap (λ (n : List ℕ). Some n) said.1), said.0)
+    (spells_from false text name (spelled.1 ∙ ap (λ (n : List ℕ). Some n) said.1), said.0)
 name_at-said false text name e = let said = no_zero_of text name e in (said.1, said.0)
 
 pub name_at-spelled : (marked : Bool) (text name : List ℕ) → MatchBool marked (Spells text name) (text ≡ name)
