@@ -19,7 +19,7 @@ use Rattle.ripemd_files.specs.declared.line.Layout.{Layout}
 use Rattle.ripemd_files.specs.declared.line.Layout.TheVariants.{Standard, Reversed}
 use Rattle.ripemd_files.specs.Lines.{size_of, bits_of, tag_of, IsTag, is_blank, IsBlank, IsDigest, IsSeparator, IsUntagged, IsTagged}
 use Rattle.ripemd_files.specs.Reading.{first_of_two, strip, skip_blanks, split_blank, split_close, variant_of, strip_bits, strip_tag, Found, text_at, untagged_at, skip_space, tagged_at, either_at, found_at, digest_at}
-use Rattle.ripemd_files.proofs.Names.{bind_some, map_some}
+use Rattle.ripemd_files.proofs.Names.{map_some}
 
 -- ---- prefixes
 
@@ -181,12 +181,12 @@ pub strip_tag-sound : (bytes : List ℕ) (variant : Variant) (rest : List ℕ) �
     → (tag : List ℕ) × IsTag variant tag × (bytes ≡ tag ++ rest)
 unfolding strip_tag
 strip_tag-sound bytes variant rest e =
-    let word = bind_some (first_of_two (strip (codes "RMD") bytes) (first_of_two (strip (codes "RIPEMD-") bytes) (strip (codes "RIPEMD") bytes))) strip_bits (variant, rest) e in
-    let bits = strip_bits-sound word.0 variant rest word.2 in
-    let whole = λ (front : List ℕ) (e : strip front bytes ≡ Some word.0). strip-sound front bytes word.0 e ∙ ap (λ (back : List ℕ). front ++ back) bits in
-    first_of (strip (codes "RMD") bytes) _ word.0 word.1 (λ e. (codes "RMD" ++ bits_of variant, inl refl, whole (codes "RMD") e)) (λ e.
-    first_of (strip (codes "RIPEMD-") bytes) _ word.0 e (λ e. (codes "RIPEMD-" ++ bits_of variant, inr (inl refl), whole (codes "RIPEMD-") e)) (λ e.
-    (codes "RIPEMD" ++ bits_of variant, inr (inr refl), whole (codes "RIPEMD") e)))
+    option_and_then_some strip_bits _ (variant, rest) e (λ after word is.
+    let bits = strip_bits-sound after variant rest is in
+    let whole = λ (front : List ℕ) (e : strip front bytes ≡ Some after). strip-sound front bytes after e ∙ ap (λ (back : List ℕ). front ++ back) bits in
+    first_of (strip (codes "RMD") bytes) _ after word (λ e. (codes "RMD" ++ bits_of variant, inl refl, whole (codes "RMD") e)) (λ e.
+    first_of (strip (codes "RIPEMD-") bytes) _ after e (λ e. (codes "RIPEMD-" ++ bits_of variant, inr (inl refl), whole (codes "RIPEMD-") e)) (λ e.
+    (codes "RIPEMD" ++ bits_of variant, inr (inr refl), whole (codes "RIPEMD") e))))
 
 pub strip_tag-tag : (variant : Variant) (tag rest : List ℕ) → IsTag variant tag → strip_tag (tag ++ rest) ≡ Some (variant, rest)
 unfolding strip_tag

@@ -159,16 +159,16 @@ grouped options events es fs shown rest split same = rw (split, ← same, flat_m
 
 -- ---- lists
 
--- what was read of a list is its front
-front : (list bytes rest : List ℕ) (left : Option (List ℕ)) → Consumes (Some list) left (bytes ++ rest) → bytes ≡ take (length bytes) list
-front list bytes rest None read = absurd read
-front list bytes rest (Some more) read =
-    sym (take-append_seam bytes (rest ++ more)) ∙ ap (λ (l : List ℕ). take (length bytes) l) (sym (read ∙ append_assoc bytes rest more))
-
--- and some of the list stands behind it
+-- some of a list stands behind what was read of it
 behind_front : (list bytes rest : List ℕ) (left : Option (List ℕ)) → Consumes (Some list) left (bytes ++ rest) → (more : List ℕ) × (list ≡ bytes ++ more)
 behind_front list bytes rest None read = absurd read
 behind_front list bytes rest (Some more) read = (rest ++ more, read ∙ append_assoc bytes rest more)
+
+-- which is its front
+front : (list bytes rest : List ℕ) (left : Option (List ℕ)) → Consumes (Some list) left (bytes ++ rest) → bytes ≡ take (length bytes) list
+front list bytes rest left read =
+    let (more, is) = behind_front list bytes rest left read in
+    sym (take-append_seam bytes more) ∙ ap (take (length bytes)) (sym is)
 
 -- all of it was read
 pub all_read : (list bytes rest : List ℕ) (left : Option (List ℕ)) → Consumes (Some list) left (bytes ++ rest) → rest ≡ [] → IsAtEnd left → list ≡ bytes

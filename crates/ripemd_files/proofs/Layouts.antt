@@ -33,13 +33,6 @@ is_wanted_length-of : (only : Option Variant) (variant : Variant) (count : ℕ) 
 is_wanted_length-of None variant count same twice = refl
 is_wanted_length-of (Some one) variant count same twice = eq-eqb count (2 * size_of one) (twice ∙ ap (λ (v : Variant). 2 * size_of v) (sym same))
 
--- digits of the right number are those of a digest
-digest_of : (variant : Variant) (digits : List ℕ) → length digits ≡ 2 * size_of variant → list_all is_hex_digit digits ≡ true
-    → (digest : List ℕ) × IsDigest variant digits digest
-digest_of variant digits twice are =
-    let decoded = decode_of-digits digits (omega arith) (AllPass-from_list_all is_hex_digit digits are) in
-    (decoded.0, record { twice = twice; bytes = decoded.1 })
-
 -- ---- what is found is there
 
 -- a body that is untagged has the layout
@@ -55,19 +48,20 @@ has_layout only layout line = go (untagged_at layout (strip_mark (skip_blanks li
         let indent = skip_blanks-sound line in
         let parts = and_parts (is_wanted_length only (length found.digits)) (list_all is_hex_digit found.digits) has in
         let (form, variant) = untagged_at-sound layout marked.1 found is in
-        let digest = digest_of found.variant found.digits (variant_of-count _ _ variant) parts.1 in
+        let twice = variant_of-count _ _ variant in
+        let (digest, decoded) = decode_of-digits found.digits (omega (arith, twice)) (AllPass-from_list_all is_hex_digit found.digits parts.1) in
         record {
           indent = indent.0;
           marked = marked.0;
           body = marked.1;
           variant = found.variant;
           digits = found.digits;
-          digest = digest.0;
+          digest = digest;
           text = found.text;
           is_indent = indent.1;
           whole = indent.2 ∙ ap (λ (back : List ℕ). indent.0 ++ back) (strip_mark-sound (skip_blanks line));
           form = form;
-          is_digest = digest.1;
+          is_digest = record { twice = twice; bytes = decoded };
           counted = wanted_of only found.variant (length found.digits) parts.0 variant;
         }
 
@@ -82,9 +76,9 @@ layout_of-found only layout line e =
 body_found : (only : Option Variant) (layout : Layout) (line : List ℕ) → (h : HasLayout only layout line)
     → (strip_mark (skip_blanks line)).1 ≡ h.body
 body_found only layout line h =
-    let first = starts-form layout h.body h.variant h.digits h.digest h.text (inl h.form) h.is_digest in
-    ap (λ (l : List ℕ). (strip_mark (skip_blanks l)).1) (h.whole ∙ ap (λ (body : List ℕ). h.indent ++ (mark_of h.marked ++ body)) first.2)
-    ∙ ap (λ (p : Bool × List ℕ). p.1) (marked-front h.indent h.marked first.0 first.1 h.is_indent first.3 first.4) ∙ sym first.2
+    let starts = starts-form layout h.body h.variant h.digits h.digest h.text (inl h.form) h.is_digest in
+    ap (λ (l : List ℕ). (strip_mark (skip_blanks l)).1) h.whole
+    ∙ ap (λ (p : Bool × List ℕ). p.1) (marked-front h.indent h.marked h.body h.is_indent starts)
 
 -- it has no tag
 no_tag : (only : Option Variant) (layout : Layout) (line : List ℕ) → (h : HasLayout only layout line)

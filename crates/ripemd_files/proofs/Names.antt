@@ -4,14 +4,9 @@ use Rattle.std.specs.Prelude.{option_map, option_and_then, MatchBool}
 use Rattle.std.specs.List.{list_any}
 use Rattle.std.proofs.lemmas.Bool.{ne_eqb}
 use Rattle.std.proofs.lemmas.Bool.Decides.{eqb_tells, nat_tests}
-use Rattle.std.proofs.lemmas.Option.{same_Some}
+use Rattle.std.proofs.lemmas.Option.{same_Some, option_and_then_some}
 use Rattle.ripemd_files.specs.Lines.{escape_of, escaped, Spells}
 use Rattle.ripemd_files.specs.Reading.{meant_by, unescaped, name_at, without_zero}
-
--- the value of a step that did not fail
-pub bind_some : {A B : Type 0} (o : Option A) (f : A → Option B) (y : B) → option_and_then f o ≡ Some y → (x : A) × (o ≡ Some x) × (f x ≡ Some y)
-bind_some (Some x) f y e = (x, refl, e)
-bind_some None f y e = absurd cc
 
 -- the value of a step that was changed
 pub map_some : {A B : Type 0} (o : Option A) (f : A → B) (y : B) → option_map f o ≡ Some y → (x : A) × (o ≡ Some x) × (f x ≡ y)
@@ -41,10 +36,10 @@ spells_from false (x ∷ rest) name e =
           subst (λ (n : List ℕ). Spells (x ∷ rest) n) tail.2 (rest, inr (other.1, refl), spells_from false rest tail.0 tail.1)
     ]
 spells_from true (x ∷ rest) name e =
-    let head = bind_some (meant_by x) (λ byte. option_map (λ n. byte ∷ n) (unescaped false rest)) name e in
-    let tail = map_some (unescaped false rest) (λ n. head.0 ∷ n) name head.2 in
+    option_and_then_some (λ byte. option_map (λ n. byte ∷ n) (unescaped false rest)) (meant_by x) name e (λ byte meant e.
+    let tail = map_some (unescaped false rest) (λ n. byte ∷ n) name e in
     subst (λ (n : List ℕ). Spells (92 ∷ x ∷ rest) n) tail.2
-    (rest, inl (sym (ap (λ (front : List ℕ). front ++ rest) (escape_of-meant x head.0 head.1))), spells_from false rest tail.0 tail.1)
+    (rest, inl (sym (ap (λ (front : List ℕ). front ++ rest) (escape_of-meant x byte meant))), spells_from false rest tail.0 tail.1))
 
 unescaped-escape : (byte : ℕ) (rest : List ℕ) → unescaped false (escape_of byte ++ rest) ≡ option_map (λ name. byte ∷ name) (unescaped false rest)
 unfolding unescaped
@@ -75,9 +70,9 @@ pub name_at-said : (marked : Bool) (text name : List ℕ) → name_at marked tex
     → MatchBool marked (Spells text name) (text ≡ name) × (list_any (λ byte. eqb byte 0) name ≡ false)
 unfolding name_at
 name_at-said true text name e =
-    let spelled = bind_some (unescaped false text) without_zero name e in
-    let said = no_zero_of spelled.0 name spelled.2 in
-    (spells_from false text name (spelled.1 ∙ ap (λ (n : List ℕ). Some n) said.1), said.0)
+    option_and_then_some without_zero (unescaped false text) name e (λ spelled is e.
+    let said = no_zero_of spelled name e in
+    (spells_from false text name (is ∙ ap (λ (n : List ℕ). Some n) said.1), said.0))
 name_at-said false text name e = let said = no_zero_of text name e in (said.1, said.0)
 
 pub name_at-spelled : (marked : Bool) (text name : List ℕ) → MatchBool marked (Spells text name) (text ≡ name)
