@@ -111,6 +111,9 @@ lacks_where test other fails (x ∷ text) all =
     let parts = and_parts (other x) (list_all other text) all in
     rw (fails x parts.0, lacks_where test other fails text parts.1) refl
 
+pub lacks_append : (test : ℕ → Bool) (a b : List ℕ) → list_any test a ≡ false → list_any test b ≡ false → list_any test (a ++ b) ≡ false
+lacks_append test a b h k = list_any-append test a b ∙ rw (h, k) refl
+
 -- digits, one after the other
 abbrev pub AreDigits : List ℕ → Type 0
 AreDigits digits = list_all is_hex_digit digits ≡ true
@@ -137,8 +140,6 @@ split_close-none (x ∷ text) h =
     let parts = or_parts (eqb x 41) (closes text) h in
     rw (split_close-none text parts.1, parts.0) refl
 
-closes-append : (a b : List ℕ) → closes a ≡ false → closes b ≡ false → closes (a ++ b) ≡ false
-closes-append a b h k = list_any-append (λ x. eqb x 41) a b ∙ rw (h, k) refl
 
 -- the last parenthesis stands in front of what has none
 pub split_close-front : (text rest : List ℕ) → closes rest ≡ false → split_close (text ++ (41 ∷ rest)) ≡ parts_of text rest
@@ -150,8 +151,8 @@ split_close-front (x ∷ text) rest h = rw (split_close-front text rest h) refl
 closes-behind : (before after digits : List ℕ) → IsBlank before → IsBlank after → AreDigits digits
     → closes (before ++ (61 ∷ (after ++ digits))) ≡ false
 closes-behind before after digits is_before is_after are =
-    closes-append before (61 ∷ (after ++ digits)) (blanks before is_before)
-    (closes-append after digits (blanks after is_after) (lacks_where _ is_hex_digit (λ x is. differs x 41 is refl) digits are))
+    lacks_append _ before (61 ∷ (after ++ digits)) (blanks before is_before)
+    (lacks_append _ after digits (blanks after is_after) (lacks_where _ is_hex_digit (λ x is. differs x 41 is refl) digits are))
   where
     blanks : (text : List ℕ) → IsBlank text → closes text ≡ false
     blanks text are = lacks_where _ is_blank (λ x is. grind (arith, nat_tests)) text are
@@ -204,16 +205,9 @@ strip_tag-none x rest other = rw other refl
 
 -- ---- digests
 
-ok_of : {A E : Type 0} (r : Result A E) (x : A) → result_ok r ≡ Some x → r ≡ Ok x
-ok_of (Ok y) x e = ap Ok (same_Some y x e)
-ok_of (Err d) x e = absurd cc
-
 pub digest_at-sound : (variant : Variant) (digits digest : List ℕ) → digest_at variant digits ≡ Some digest → IsDigest variant digits digest
 unfolding digest_at
-digest_at-sound variant digits digest e = elim (cases_Bool (eqb (length digits) (2 * size_of variant))) [
-  | inl is ↦ record { twice = eqb-true _ _ is; bytes = ok_of (decode_of digits) digest (rw is at e) }
-  | inr is ↦ absurd (cc (rw is at e))
-]
+digest_at-sound variant digits digest e = grind (arith, nat_tests)
 
 pub digest_at-digest : (variant : Variant) (digits digest : List ℕ) → IsDigest variant digits digest → digest_at variant digits ≡ Some digest
 unfolding digest_at
@@ -266,10 +260,7 @@ text_at-separator : (layout : Layout) (separator text : List ℕ) → IsSeparato
 text_at-separator layout separator [] is named = absurd (named refl)
 text_at-separator Standard separator (first ∷ others) is named =
     let found : text_at Standard (is.1 ∷ first ∷ others) ≡ Some (first ∷ others) =
-    elim is.3 [
-      | inl e ↦ rw e refl
-      | inr e ↦ rw e refl
-    ] in
+    elim is.3 [ | inl e ↦ rw e refl | inr e ↦ rw e refl ] in
     (is.0, is.1 ∷ first ∷ others, is.2, ap (λ (front : List ℕ). front ++ (first ∷ others)) is.4, found)
 text_at-separator Reversed separator (first ∷ others) is named =
     (is.0, first ∷ others, is.1, ap (λ (front : List ℕ). front ++ (first ∷ others)) is.2, refl)
@@ -336,11 +327,7 @@ skip_space-space space rest (inr e) = rw e refl
 -- the digits of a digest, with the first apart
 pub starts : (variant : Variant) (digits digest : List ℕ) → IsDigest variant digits digest
     → (x : ℕ) × (others : List ℕ) × (digits ≡ x ∷ others) × (is_hex_digit x ≡ true)
-starts variant [] digest is = absurd (go variant is.twice)
-  where
-    go : (variant : Variant) → 0 ≡ 2 * size_of variant → ⊥
-    go R128 e = omega (arith, e)
-    go _ e = omega (arith, e)
+starts variant [] digest is = absurd (grind (arith, is.twice))
 starts variant (x ∷ others) digest is =
     let parts = and_parts (is_hex_digit x) (list_all is_hex_digit others) (digits_of variant (x ∷ others) digest is) in
     (x, others, refl, parts.0)

@@ -13,15 +13,12 @@ use Rattle.ripemd_files.specs.declared.line.Form.TheVariants.{Text, Binary, Tagg
 use Rattle.ripemd_files.specs.declared.line.Layout.{Layout}
 use Rattle.ripemd_files.specs.declared.line.Ending.TheVariants.{Newline, Zero}
 use Rattle.ripemd_files.specs.Lines.{is_special, is_blank, is_end, IsBlank, escape_of, escaped, mark_of, tag_of, text_of, body_of, line_of, IsLine, RoundTrips}
-use Rattle.ripemd_files.proofs.Bodies.{AreDigits, lacks_where, digits_of, starts-form}
+use Rattle.ripemd_files.proofs.Bodies.{AreDigits, lacks_append, lacks_where, digits_of, starts-form}
 use Rattle.ripemd_files.proofs.Written.{IsDigest-written}
 
 -- no byte of a text passes a test
 abbrev Lacks : (ℕ → Bool) → List ℕ → Type 0
 Lacks test text = list_any test text ≡ false
-
-Lacks-append : (test : ℕ → Bool) (a b : List ℕ) → Lacks test a → Lacks test b → Lacks test (a ++ b)
-Lacks-append test a b h k = list_any-append test a b ∙ rw (h, k) refl
 
 -- beside the name a line has bytes from the space on
 abbrev visible : ℕ → Bool
@@ -42,14 +39,14 @@ module _ (test : ℕ → Bool) (foreign : (x : ℕ) → visible x ≡ true → t
       of_digits = lacks_where test visible foreign digits (visible_digits digits are)
 
       of : (form : Form) → Lacks test (body_of form variant digits text)
-      of Text = Lacks-append test digits (codes "  " ++ text) of_digits (Lacks-append test (codes "  ") text (lacks_where test visible foreign (codes "  ") refl) lacks)
-      of Binary = Lacks-append test digits (codes " *" ++ text) of_digits (Lacks-append test (codes " *") text (lacks_where test visible foreign (codes " *") refl) lacks)
+      of Text = lacks_append test digits (codes "  " ++ text) of_digits (lacks_append test (codes "  ") text (lacks_where test visible foreign (codes "  ") refl) lacks)
+      of Binary = lacks_append test digits (codes " *" ++ text) of_digits (lacks_append test (codes " *") text (lacks_where test visible foreign (codes " *") refl) lacks)
       of Tagged =
-          Lacks-append test (tag_of variant) (codes " (" ++ (text ++ (codes ") = " ++ digits)))
+          lacks_append test (tag_of variant) (codes " (" ++ (text ++ (codes ") = " ++ digits)))
           (lacks_where test visible foreign (tag_of variant) (elim variant as (λ v. list_all visible (tag_of v) ≡ true) [ | R128 ↦ refl | _ ↦ refl ]))
-          (Lacks-append test (codes " (") (text ++ (codes ") = " ++ digits)) (lacks_where test visible foreign (codes " (") refl)
-          (Lacks-append test text (codes ") = " ++ digits) lacks
-          (Lacks-append test (codes ") = ") digits (lacks_where test visible foreign (codes ") = ") refl) of_digits)))
+          (lacks_append test (codes " (") (text ++ (codes ") = " ++ digits)) (lacks_where test visible foreign (codes " (") refl)
+          (lacks_append test text (codes ") = " ++ digits) lacks
+          (lacks_append test (codes ") = ") digits (lacks_where test visible foreign (codes ") = ") refl) of_digits)))
 
 abbrev is_zero : ℕ → Bool
 is_zero byte = eqb byte 0
@@ -72,7 +69,7 @@ Lacks-escaped : (name : List ℕ) → Lacks is_zero name → Lacks is_end (escap
 Lacks-escaped [] zero = refl
 Lacks-escaped (x ∷ name) zero =
     let z = or_parts (eqb x 0) (list_any is_zero name) zero in
-    Lacks-append is_end (escape_of x) (escaped name) (Lacks-escape x z.0) (Lacks-escaped name z.1)
+    lacks_append is_end (escape_of x) (escaped name) (Lacks-escape x z.0) (Lacks-escaped name z.1)
 
 Lacks-text : (marked : Bool) (name : List ℕ) → list_any is_special name ≡ marked → Lacks is_zero name → Lacks is_end (text_of marked name)
 Lacks-text true name is zero = Lacks-escaped name zero
@@ -86,12 +83,8 @@ no_end layout form variant digest name h =
     let marked = list_any is_special name in
     let are = digits_of variant (encode_lower digest) digest (IsDigest-written layout form variant digest name h) in
     let text = Lacks-text marked name refl h.no_zero in
-    Lacks-append is_end (mark_of marked) (body_of form variant (encode_lower digest) (text_of marked name)) (mark marked)
+    lacks_append is_end (mark_of marked) (body_of form variant (encode_lower digest) (text_of marked name)) (elim marked as (λ m. Lacks is_end (mark_of m)) [ | true ↦ refl | false ↦ refl ])
     (Lacks-body is_end (λ x is. grind (arith, nat_tests)) form variant (encode_lower digest) (text_of marked name) are text)
-  where
-    mark : (marked : Bool) → Lacks is_end (mark_of marked)
-    mark true = refl
-    mark false = refl
 
 pub no_zero : (layout : Layout) (form : Form) (variant : Variant) (digest name : List ℕ) → RoundTrips layout form variant digest name
     → Lacks is_zero (line_of Zero form variant digest name)

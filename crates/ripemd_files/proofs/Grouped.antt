@@ -90,13 +90,10 @@ module _ {File : Type 0} (place : Place File) (ignore_missing : Bool) (kinds : R
         | inl same ↦ earlier (rw same at zipped)
         | inr (line, grown, good) ↦ elim (cases_lt (length lines) count) [
           | inr within ↦ earlier (rw (grown, take-append-le count lines (line ∷ []) within) at zipped)
-          | inl past ↦ all good (rw (take_all count others (omega (arith, past, length_grown line grown))) at zipped)
+          | inl past ↦ all good (rw (take_all count others (omega (arith, past, ap length grown, length-append lines (line ∷ [])))) at zipped)
         ]
       ]
         where
-          length_grown : (line : Line) → others ≡ lines ++ line ∷ [] → length others ≡ length lines + 1
-          length_grown line grown = ap length grown ∙ length-append lines (line ∷ [])
-
           earlier : AllZip (IsEventOf place ignore_missing) (take count lines) events
               → ReportsFirst place ignore_missing kinds before (lines_of (so_far.bytes ++ tail)) events
           earlier of_those = rw all_lines (first_of_more before (lines_of so_far.bytes) (text ∷ []) events (so_far.partly count events of_those))

@@ -56,10 +56,6 @@ form-written layout Tagged variant digits marked name named =
       whole = refl;
     }
 
-spelled : (marked : Bool) (name : List ℕ) → MatchBool marked (Spells (text_of marked name) name) (text_of marked name ≡ name)
-spelled true name = Spells-escaped name
-spelled false name = refl
-
 pub IsLine-line_of : (layout : Layout) (ending : Ending) (form : Form) (variant : Variant) (digest name : List ℕ) → RoundTrips layout form variant digest name
     → IsLine layout (line_of ending form variant digest name) variant digest name
 IsLine-line_of layout ending form variant digest name can =
@@ -75,6 +71,6 @@ IsLine-line_of layout ending form variant digest name can =
       whole = refl;
       form = form-written layout form variant (encode_lower digest) marked name can.readable;
       is_digest = IsDigest-written layout form variant digest name can;
-      spelled = spelled marked name;
+      spelled = elim marked as (λ m. MatchBool m (Spells (text_of m name) name) (text_of m name ≡ name)) [ | true ↦ Spells-escaped name | false ↦ refl ];
       no_zero = can.no_zero;
     }
