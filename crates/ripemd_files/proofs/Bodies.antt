@@ -198,11 +198,6 @@ strip_tag-tag _ tag rest (inl e) = rw e refl
 strip_tag-tag _ tag rest (inr (inl e)) = rw e refl
 strip_tag-tag _ tag rest (inr (inr e)) = rw e refl
 
--- no tag begins with another letter
-pub strip_tag-none : (x : ℕ) (rest : List ℕ) → eqb x 82 ≡ false → strip_tag (x ∷ rest) ≡ None
-unfolding strip_tag
-strip_tag-none x rest other = rw other refl
-
 -- ---- digests
 
 pub digest_at-sound : (variant : Variant) (digits digest : List ℕ) → digest_at variant digits ≡ Some digest → IsDigest variant digits digest
@@ -228,18 +223,6 @@ text_at-sound Reversed blank (first ∷ others) text is e =
     let same : first ∷ others ≡ text = same_Some _ _ e in
     (blank ∷ [], (blank, is, refl), λ none. cc (same, none), ap (λ (t : List ℕ). blank ∷ t) same)
 
-untagged_of : (layout : Layout) (body digits rest text : List ℕ) → split_blank body ≡ parts_of digits rest → text_at layout rest ≡ Some text
-    → IsUntagged layout body digits text
-untagged_of layout body digits rest text split at =
-    let parts = split_blank-sound body digits rest split in
-    let named = text_at-sound layout parts.0 rest text parts.1 at in
-    record {
-      separator = named.0;
-      is_separator = named.1;
-      named = named.2;
-      whole = parts.2 ∙ ap (λ (back : List ℕ). digits ++ back) named.3;
-    }
-
 pub untagged_at-sound : (layout : Layout) (body : List ℕ) (found : Found) → untagged_at layout body ≡ Some found
     → IsUntagged layout body found.digits found.text × (variant_of (length found.digits) ≡ Some found.variant)
 unfolding untagged_at
@@ -247,8 +230,11 @@ untagged_at-sound layout body found e =
     option_and_then_some _ (split_blank body) found e (λ parts split e2.
     option_and_then_some _ (variant_of (length parts.0)) found e2 (λ variant is e3.
     option_and_then_some _ (text_at layout parts.1) found e3 (λ text named e4.
-    subst (λ (f : Found). IsUntagged layout body f.digits f.text × (variant_of (length f.digits) ≡ Some f.variant)) (same_Some _ _ e4)
-    (untagged_of layout body parts.0 parts.1 text split named, is))))
+    let (blank, is_blank, whole) = split_blank-sound body parts.0 parts.1 split in
+    let (separator, is_separator, some, spaced) = text_at-sound layout blank parts.1 text is_blank named in
+    let form : IsUntagged layout body parts.0 text =
+    record { separator = separator; is_separator = is_separator; named = some; whole = whole ∙ ap (λ (back : List ℕ). parts.0 ++ back) spaced } in
+    subst (λ (f : Found). IsUntagged layout body f.digits f.text × (variant_of (length f.digits) ≡ Some f.variant)) (same_Some _ _ e4) (form, is))))
 
 pub variant_of-size : (variant : Variant) (count : ℕ) → count ≡ 2 * size_of variant → variant_of count ≡ Some variant
 variant_of-size R128 count e = rw e refl
@@ -351,6 +337,14 @@ tagged_at-form variant space text before after digits digest is_space is_before 
     let skipped = skip_blanks-digits after variant digits digest is_after is in
     rw (opened, split, equals, skipped) refl
 
+-- a body that begins with digits has no tag
+pub no_tag : (layout : Layout) (body : List ℕ) (variant : Variant) (digits digest text : List ℕ) → IsUntagged layout body digits text
+    → IsDigest variant digits digest → strip_tag body ≡ None
+unfolding strip_tag
+no_tag layout body variant digits digest text form is =
+    let first = starts variant digits digest is in
+    rw (form.whole, first.2, differs first.0 82 first.3 refl) refl
+
 -- ---- either
 
 pub found_at-sound : (layout : Layout) (body : List ℕ) (f : Found) → found_at layout body ≡ Some f
@@ -367,10 +361,7 @@ pub found_at-form : (layout : Layout) (body : List ℕ) (variant : Variant) (dig
     → IsUntagged layout body digits text ⊎ IsTagged body variant digits text → IsDigest variant digits digest → found_at layout body ≡ found variant digits text
 unfolding found_at
 found_at-form layout body variant digits digest text (inl form) is =
-    let first = starts variant digits digest is in
-    let whole : body ≡ first.0 ∷ (first.1 ++ (form.separator ++ text)) = form.whole ∙ ap (λ (front : List ℕ). front ++ (form.separator ++ text)) first.2 in
-    let none : strip_tag body ≡ None = ap strip_tag whole ∙ strip_tag-none first.0 (first.1 ++ (form.separator ++ text)) (differs first.0 82 first.3 refl) in
-    rw none (untagged_at-form layout body variant digits digest text form is)
+    rw (no_tag layout body variant digits digest text form is) (untagged_at-form layout body variant digits digest text form is)
 found_at-form layout body variant digits digest text (inr form) is =
     let tag = ap strip_tag form.whole ∙ strip_tag-tag variant form.tag _ form.is_tag in
     rw tag (tagged_at-form variant form.space text form.before form.after digits digest form.is_space form.is_before form.is_after is)

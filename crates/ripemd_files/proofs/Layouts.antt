@@ -14,7 +14,7 @@ use Rattle.ripemd_files.specs.declared.line.Layout.TheVariants.{Standard, Revers
 use Rattle.ripemd_files.specs.Lines.{size_of, IsDigest, mark_of}
 use Rattle.ripemd_files.specs.Reading.{Found, skip_blanks, split_blank, strip_mark, strip_tag, variant_of, text_at, untagged_at}
 use Rattle.ripemd_files.specs.Layouts.{has_digits, is_wanted_length, layout_at, layout_of, HasLayout}
-use Rattle.ripemd_files.proofs.Bodies.{differs, skip_blanks-sound, digits_of, starts, starts-form, strip_tag-none, untagged_at-sound, untagged_at-form, variant_of-size}
+use Rattle.ripemd_files.proofs.Bodies.{no_tag, skip_blanks-sound, digits_of, starts-form, untagged_at-sound, untagged_at-form, variant_of-size}
 use Rattle.ripemd_files.proofs.Sayings.{marked-front, strip_mark-sound}
 
 -- ---- the number of digits
@@ -68,47 +68,35 @@ has_layout only layout line = go (untagged_at layout (strip_mark (skip_blanks li
 pub layout_of-found : (only : Option Variant) (layout : Layout) (line : List ℕ) → layout_of only line ≡ Some layout → HasLayout only layout line
 unfolding layout_at
 layout_of-found only layout line e =
-    let body = (strip_mark (skip_blanks line)).1 in
     grind (arith, has_layout only Standard line, has_layout only Reversed line)
 
 -- ---- what is there is found
 
-body_found : (only : Option Variant) (layout : Layout) (line : List ℕ) → (h : HasLayout only layout line)
-    → (strip_mark (skip_blanks line)).1 ≡ h.body
-body_found only layout line h =
-    let starts = starts-form layout h.body h.variant h.digits h.digest h.text (inl h.form) h.is_digest in
-    ap (λ (l : List ℕ). (strip_mark (skip_blanks l)).1) h.whole
-    ∙ ap (λ (p : Bool × List ℕ). p.1) (marked-front h.indent h.marked h.body h.is_indent starts)
+module _ {only : Option Variant} {layout : Layout} {line : List ℕ} (h : HasLayout only layout line) where
+  body_found : (strip_mark (skip_blanks line)).1 ≡ h.body
+  body_found =
+      let starts = starts-form layout h.body h.variant h.digits h.digest h.text (inl h.form) h.is_digest in
+      ap (λ (l : List ℕ). (strip_mark (skip_blanks l)).1) h.whole
+      ∙ ap (λ (p : Bool × List ℕ). p.1) (marked-front h.indent h.marked h.body h.is_indent starts)
 
--- it has no tag
-no_tag : (only : Option Variant) (layout : Layout) (line : List ℕ) → (h : HasLayout only layout line)
-    → strip_tag (strip_mark (skip_blanks line)).1 ≡ None
-no_tag only layout line h =
-    let first = starts h.variant h.digits h.digest h.is_digest in
-    let behind = h.form.separator ++ h.text in
-    let whole : h.body ≡ first.0 ∷ (first.1 ++ behind) = h.form.whole ∙ ap (λ (front : List ℕ). front ++ behind) first.2 in
-    ap strip_tag (body_found only layout line h ∙ whole) ∙ strip_tag-none first.0 (first.1 ++ behind) (differs first.0 82 first.3 refl)
+  no_tag_found : strip_tag (strip_mark (skip_blanks line)).1 ≡ None
+  no_tag_found = ap strip_tag body_found ∙ no_tag layout h.body h.variant h.digits h.digest h.text h.form h.is_digest
 
-digits_found : (only : Option Variant) (layout : Layout) (line : List ℕ) → HasLayout only layout line
-    → has_digits only (untagged_at layout (strip_mark (skip_blanks line)).1) ≡ true
-digits_found only layout line h =
-    rw (
-      body_found only layout line h,
-      untagged_at-form layout h.body h.variant h.digits h.digest h.text h.form h.is_digest,
-      is_wanted_length-of only h.variant (length h.digits) h.counted h.is_digest.twice,
-      digits_of h.variant h.digits h.digest h.is_digest,
-    ) refl
+  digits_found : has_digits only (untagged_at layout (strip_mark (skip_blanks line)).1) ≡ true
+  digits_found =
+      rw (
+        body_found,
+        untagged_at-form layout h.body h.variant h.digits h.digest h.text h.form h.is_digest,
+        is_wanted_length-of only h.variant (length h.digits) h.counted h.is_digest.twice,
+        digits_of h.variant h.digits h.digest h.is_digest,
+      ) refl
 
 pub layout_of-standard : (only : Option Variant) (line : List ℕ) → HasLayout only Standard line → layout_of only line ≡ Some Standard
 unfolding layout_at
-layout_of-standard only line h = rw (no_tag only Standard line h, digits_found only Standard line h) refl
+layout_of-standard only line h = rw (no_tag_found h, digits_found h) refl
 
 pub layout_of-reversed : (only : Option Variant) (line : List ℕ) → HasLayout only Reversed line → ¬ HasLayout only Standard line
     → layout_of only line ≡ Some Reversed
 unfolding layout_at
 layout_of-reversed only line h other =
-    rw (
-      no_tag only Reversed line h,
-      false_from_ne_true _ (λ is. other (has_layout only Standard line is)),
-      digits_found only Reversed line h,
-    ) refl
+    rw (no_tag_found h, false_from_ne_true _ (λ is. other (has_layout only Standard line is)), digits_found h) refl
