@@ -1,5 +1,5 @@
 -- What a check finds of the files of some lines.
-use Rattle.std.proofs.Common.{◌≡◌, ◌≢◌, ◌⊎◌, ℕ, zero, suc, ◌+◌, ◌<◌, ◌≤◌, ◌-◌, ◌^◌, List, [], ◌∷◌, ◌++◌, flat_map, length, take, drop, get_or, Option, Bool, true, false, refl, subst, sym, ap, ◌∙◌, inl, inr, arith, append_assoc}
+use Rattle.std.proofs.Common.{◌≡◌, ◌≢◌, ◌⊎◌, ℕ, zero, suc, ◌+◌, ◌<◌, ◌≤◌, ◌-◌, ◌^◌, List, [], ◌∷◌, ◌++◌, flat_map, length, take, drop, get_or, Option, Bool, true, refl, subst, sym, ap, ◌∙◌, inl, inr, arith, append_assoc}
 use Rattle.std.specs.Prelude.{IsTrue}
 use Rattle.std.specs.List.{AllZip, list_any}
 use Rattle.std.specs.Io.KnownBytes.{Consumes}
@@ -25,10 +25,10 @@ use Rattle.ripemd_files.specs.declared.verdict.Verdict.{Verdict}
 use Rattle.ripemd_files.specs.declared.verdict.Options.{Options}
 use Rattle.ripemd_files.specs.declared.verdict.Tally.{Tally}
 use Rattle.ripemd_files.specs.Files.{OfFirst, Place, ComesTo, parameters_of}
-use Rattle.ripemd_files.specs.Said.{Explains, Item, Pends, Stops, Tells, Told, about_list, written}
+use Rattle.ripemd_files.specs.Said.{Explains, Item, Pends, Stops, Tells, Told, written}
 use Rattle.ripemd_files.specs.Splitting.{IsEnded, IsWhole, ListState, lines_of}
-use Rattle.ripemd_files.specs.Checking.{Event, Events, IsEventOf, IsNamed, IsOutcomeOf, IsTally, checked, closing_remarks, counted, has_verdict, is_difference, is_match, is_misformatted, is_success, is_unreadable, items_of_event, verdict_of}
-use Rattle.ripemd_files.specs.Groups.{ChecksFirst, ChecksLines, ChecksSoFar, EndsAs, ExplainsReading, ReadsGroup, ReportsFirst, ReportsFrom, StopsReading, goes_on, misformatted_events}
+use Rattle.ripemd_files.specs.Checking.{Event, Events, IsEventOf, IsNamed, IsOutcomeOf, IsTally, checked, counted, has_verdict, is_difference, is_match, is_misformatted, is_unreadable, items_of_event, verdict_of}
+use Rattle.ripemd_files.specs.Groups.{ChecksFirst, ChecksLines, ChecksSoFar, EndsAs, ExplainsReading, ReadsGroup, ReportsFirst, StopsReading, goes_on, misformatted_events}
 use Rattle.ripemd_files.specs.Lists.{ChecksList, IsReport, Reaches, Stage, StopsList, among, ended, failed, last_remarks, succeeds}
 use Rattle.ripemd_files.proofs.Cutting.{cut, ended_since, whole_more}
 use Rattle.ripemd_files.proofs.Grouped.{first_of_all}

@@ -1,5 +1,5 @@
 -- Where all is known of a folder, one thing is right.
-use Rattle.std.proofs.Common.{◌≡◌, ◌≢◌, ◌⊎◌, ℕ, zero, suc, ◌+◌, ◌<◌, ◌++◌, List, [], ◌∷◌, length, take, map, flat_map, Option, Some, None, Bool, true, false, All, refl, sym, ap, subst, ◌∙◌, arith, inl, inr, append_assoc, drop}
+use Rattle.std.proofs.Common.{◌≡◌, ◌≢◌, ◌⊎◌, ℕ, ◌+◌, ◌<◌, ◌++◌, List, [], ◌∷◌, length, take, map, flat_map, Option, Some, None, Bool, true, false, All, refl, sym, ap, subst, ◌∙◌, arith, inl, inr, append_assoc, drop}
 use Rattle.ripemd_files.specs.Lines.{line_of, end_of}
 use Rattle.std.specs.Prelude.{Result, Ok, MatchBool, unwrap_or, Err}
 use Rattle.std.specs.List.{list_all}

@@ -1,13 +1,12 @@
 -- What stands in no line: an end, in a line that is written, and the sign of a comment at the front of any line.
-use Rattle.std.proofs.Common.{◌≡◌, ◌≢◌, ℕ, Bool, true, false, ◌||◌, List, [], ◌∷◌, ◌++◌, refl, sym, ap, ◌∙◌, eqb, leb, arith, inl, inr}
+use Rattle.std.proofs.Common.{◌≡◌, ◌≢◌, ℕ, Bool, true, false, List, [], ◌∷◌, ◌++◌, refl, sym, ap, ◌∙◌, eqb, leb, arith}
 use Rattle.std.specs.Prelude.{codes}
 use Rattle.std.specs.List.{list_any, list_all}
-use Rattle.std.proofs.lemmas.Bool.{and_parts, le-leb, eq-eqb, ne_eqb, or_parts}
+use Rattle.std.proofs.lemmas.Bool.{and_parts, le-leb, eq-eqb, or_parts}
 use Rattle.std.proofs.lemmas.Bool.Decides.{nat_tests}
-use Rattle.std.proofs.lemmas.List.Folds.{list_any-append}
 use Rattle.hex.specs.Hex.{encode_lower, is_hex_digit}
 use Rattle.ripemd_files.specs.declared.line.Variant.{Variant}
-use Rattle.ripemd_files.specs.declared.line.Variant.TheVariants.{R128, R160, R256, R320}
+use Rattle.ripemd_files.specs.declared.line.Variant.TheVariants.{R128}
 use Rattle.ripemd_files.specs.declared.line.Form.{Form}
 use Rattle.ripemd_files.specs.declared.line.Form.TheVariants.{Text, Binary, Tagged}
 use Rattle.ripemd_files.specs.declared.line.Layout.{Layout}

@@ -1,5 +1,5 @@
 -- What comes of the lines of a list, one after another.
-use Rattle.std.proofs.Common.{rules, ◌≡◌, ◌≢◌, ℕ, ◌+◌, List, [], ◌∷◌, ◌++◌, codes, Option, Some, None, unwrap_or, Bool, true, false, IsTrue, MatchBool, refl, sym, inl, inr}
+use Rattle.std.proofs.Common.{◌≡◌, ◌≢◌, ℕ, ◌+◌, List, [], ◌∷◌, ◌++◌, codes, Option, Some, None, unwrap_or, Bool, IsTrue, refl, sym, inl, inr}
 use Rattle.std.specs.Prelude.{IsFalse, option_map}
 use Rattle.std.proofs.lemmas.List.{append-nil}
 use Rattle.ripemd_files.specs.declared.line.Variant.{Variant}

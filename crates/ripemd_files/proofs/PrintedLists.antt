@@ -1,12 +1,12 @@
 -- Lists that were printed, and are checked.
-use Rattle.std.proofs.Common.{◌≡◌, ℕ, ◌+◌, ◌<◌, ◌-◌, ◌^◌, ◌==◌, ◌&&◌, ◌||◌, Bool, true, false, List, [], ◌∷◌, ◌++◌, codes, length, map, flat_map, Option, Some, None, unwrap_or, All, inl, inr, refl, sym, ap, ◌∙◌, cond, arith, append_assoc}
+use Rattle.std.proofs.Common.{◌≡◌, ℕ, ◌+◌, ◌<◌, ◌-◌, ◌==◌, ◌&&◌, ◌||◌, Bool, true, false, List, [], ◌∷◌, ◌++◌, codes, length, map, Option, Some, None, unwrap_or, All, inl, inr, refl, sym, ap, ◌∙◌, cond, arith, append_assoc}
 use Rattle.std.proofs.lemmas.Bool.Decides.{nat_tests}
-use Rattle.std.specs.Prelude.{IfSome, not, Result, Ok, MatchBool, count_by, min, Err}
-use Rattle.std.specs.List.{list_all, list_any}
+use Rattle.std.specs.Prelude.{IfSome, not, Result, Ok, count_by, Err}
+use Rattle.std.specs.List.{list_any}
 use Rattle.std.specs.declared.io.Error.{Error}
 use Rattle.std.proofs.lemmas.Bool.{ne_eqb, or_parts, MatchBool-at_false}
 use Rattle.std.proofs.lemmas.Slice.Eq.{bytes_eq-Decides}
-use Rattle.std.proofs.lemmas.List.{append-nil, map-append}
+use Rattle.std.proofs.lemmas.List.{map-append}
 use Rattle.std.proofs.lemmas.List.Elements.{All-head, All-tail}
 use Rattle.std.proofs.lemmas.List.Sums.{sum_by-cons}
 use Rattle.ripemd.specs.Standard.Hashing.{ripemd}
@@ -15,27 +15,24 @@ use Rattle.ripemd_files.specs.declared.line.Layout.{Layout}
 use Rattle.ripemd_files.specs.declared.line.Layout.TheVariants.{Standard}
 use Rattle.ripemd_files.specs.declared.line.Variant.{Variant}
 use Rattle.ripemd_files.specs.declared.list.Rules.{Rules}
-use Rattle.ripemd_files.specs.declared.outcome.Outcome.{Outcome}
-use Rattle.ripemd_files.specs.declared.outcome.Outcome.TheVariants.{Digest, Refused, Broken}
 use Rattle.ripemd_files.specs.declared.verdict.Options.{Options}
-use Rattle.ripemd_files.specs.declared.verdict.Verdict.TheVariants.{Differs, Matches}
+use Rattle.ripemd_files.specs.declared.verdict.Verdict.TheVariants.{Matches}
 use Rattle.ripemd_files.specs.declared.line.Ending.TheVariants.{Newline}
 use Rattle.ripemd_files.specs.declared.printing.Style.{Style}
-use Rattle.ripemd_files.specs.Lines.{IsLine, end_of, is_end, line_of}
-use Rattle.ripemd_files.specs.Layouts.{HasLayout, layout_at, layout_of}
+use Rattle.ripemd_files.specs.Lines.{IsLine, is_end}
+use Rattle.ripemd_files.specs.Layouts.{layout_at, layout_of}
 use Rattle.ripemd_files.specs.Reading.{first_of_two, strip_tag}
-use Rattle.ripemd_files.specs.Files.{ComesTo, Place, parameters_of}
+use Rattle.ripemd_files.specs.Files.{Place, parameters_of}
 use Rattle.ripemd_files.specs.Splitting.{lines_of}
-use Rattle.ripemd_files.specs.Checking.{Event, IsTally, checked, counted, has_verdict, is_difference, is_match, is_misformatted, is_unreadable, misformatted, verdict_of, verdict_of_digest}
-use Rattle.ripemd_files.specs.Lists.{IsEventOn, IsWanted, Reaches, Reports, ended, is_passed_over, layout_after}
-use Rattle.ripemd_files.specs.Determined.{IsKnown, Print, Report, Start, list_before}
-use Rattle.ripemd_files.specs.Printing.{Reading, items_on, was_read}
+use Rattle.ripemd_files.specs.Checking.{Event, IsTally, checked, counted, has_verdict, is_difference, is_match, is_misformatted, is_unreadable, misformatted}
+use Rattle.ripemd_files.specs.Lists.{IsEventOn, IsWanted, Reports, ended, is_passed_over, layout_after}
+use Rattle.ripemd_files.specs.Determined.{IsKnown, Print, Report, Start}
 use Rattle.ripemd_files.specs.Said.{Item, byte, written}
 use Rattle.ripemd_files.specs.Printed.{IsPrinted, Printed, printed_line, printed_text, verdict_now}
 use Rattle.ripemd_files.proofs.Agreeing.{came_to, is_line, is_verdict, printed_is_taken, round_trips, same_line, whole}
 use Rattle.ripemd_files.proofs.Bodies.{strip_tag-tag}
 use Rattle.ripemd_files.proofs.Cutting.{lines_first}
-use Rattle.ripemd_files.proofs.Determined.{all_read, given_all, grown, not_broken, lines_to_end, prints_by, items, are_given, verdict_at, verdict_by}
+use Rattle.ripemd_files.proofs.Determined.{grown, lines_to_end, prints_by, items, are_given, verdict_at, verdict_by}
 use Rattle.ripemd_files.proofs.Ends.{no_end, starts_line}
 use Rattle.ripemd_files.proofs.Layouts.{layout_of-standard}
 use Rattle.ripemd_files.proofs.Sayings.{marked_body}

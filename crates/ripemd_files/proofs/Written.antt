@@ -10,7 +10,7 @@ use Rattle.ripemd_files.specs.declared.line.Form.TheVariants.{Text, Binary, Tagg
 use Rattle.ripemd_files.specs.declared.line.Ending.{Ending}
 use Rattle.ripemd_files.specs.declared.line.Layout.{Layout}
 use Rattle.ripemd_files.specs.declared.line.Layout.TheVariants.{Standard, Reversed}
-use Rattle.ripemd_files.specs.Lines.{tag_of, escape_of, escaped, Spells, text_of, body_of, line_of, is_marked, IsDigest, IsUntagged, IsTagged, IsLine, IsReadable, RoundTrips}
+use Rattle.ripemd_files.specs.Lines.{tag_of, Spells, text_of, body_of, line_of, is_marked, IsDigest, IsUntagged, IsTagged, IsLine, IsReadable, RoundTrips}
 use Rattle.ripemd_files.proofs.Names.{Spells-escaped}
 
 pub IsDigest-written : (layout : Layout) (form : Form) (variant : Variant) (digest name : List ℕ) → RoundTrips layout form variant digest name
