@@ -183,7 +183,8 @@ unfolding strip_tag
 strip_tag-sound bytes variant rest e =
     option_and_then_some strip_bits _ (variant, rest) e (λ after word is.
     let bits = strip_bits-sound after variant rest is in
-    let whole = λ (front : List ℕ) (e : strip front bytes ≡ Some after). strip-sound front bytes after e ∙ ap (λ (back : List ℕ). front ++ back) bits in
+    let whole = λ (front : List ℕ) (e : strip front bytes ≡ Some after).
+    strip-sound front bytes after e ∙ ap (λ (back : List ℕ). front ++ back) bits in
     first_of (strip (codes "RMD") bytes) _ after word (λ e. (codes "RMD" ++ bits_of variant, inl refl, whole (codes "RMD") e)) (λ e.
     first_of (strip (codes "RIPEMD-") bytes) _ after e (λ e. (codes "RIPEMD-" ++ bits_of variant, inr (inl refl), whole (codes "RIPEMD-") e)) (λ e.
     (codes "RIPEMD" ++ bits_of variant, inr (inr refl), whole (codes "RIPEMD") e))))
@@ -372,7 +373,8 @@ pub starts-form : (layout : Layout) (body : List ℕ) (variant : Variant) (digit
     → IsUntagged layout body digits text ⊎ IsTagged body variant digits text → IsDigest variant digits digest → (x : ℕ) × (rest : List ℕ) × (body ≡ x ∷ rest) × (is_blank x ≡ false) × (eqb x 92 ≡ false) × (eqb x 35 ≡ false)
 starts-form layout body variant digits digest text (inl form) is =
     let first = starts variant digits digest is in
-    (first.0, first.1 ++ (form.separator ++ text), form.whole ∙ ap (λ (front : List ℕ). front ++ (form.separator ++ text)) first.2, no_blank first.0 first.3, differs first.0 92 first.3 refl, differs first.0 35 first.3 refl)
+    (first.0, first.1 ++ (form.separator ++ text), form.whole ∙ ap (λ (front : List ℕ). front ++ (form.separator ++ text)) first.2,
+    no_blank first.0 first.3, differs first.0 92 first.3 refl, differs first.0 35 first.3 refl)
 starts-form layout body variant digits digest text (inr form) is =
     let back = form.space ++ (codes "(" ++ (text ++ (codes ")" ++ (form.before ++ (codes "=" ++ (form.after ++ digits)))))) in
     let whole = λ (front : List ℕ) (e : form.tag ≡ front). form.whole ∙ ap (λ (front : List ℕ). front ++ back) e in

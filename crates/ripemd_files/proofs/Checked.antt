@@ -204,10 +204,11 @@ stage_of nexts.Ended = ended
 stage_of nexts.Failed = failed
 
 -- a list, after the groups before
-module _ {File : Type 0} {place : Place File} {options : Options} {kinds : Rules} {first now : Cursor} {old read : ListState} {a b : Told} {tally : Tally}
-    (so_far : ChecksSoFar place options kinds first now old read a b tally) (begins : first.number ≡ 1) where
+module _ {File : Type 0} {place : Place File} {options : Options} {kinds : Rules} {first now : Cursor} {old read : ListState} {a b : Told}
+    {tally : Tally} (so_far : ChecksSoFar place options kinds first now old read a b tally) (begins : first.number ≡ 1) where
   -- more of the list was read, and these events come of the first of its lines
-  abbrev report_on : (next : ListState) (bytes rest : List ℕ) (events : List Event) (stage : Stage) (tally : Tally) → Consumes read.left next.left (bytes ++ rest)
+  abbrev report_on : (next : ListState) (bytes rest : List ℕ) (events : List Event) (stage : Stage) (tally : Tally)
+      → Consumes read.left next.left (bytes ++ rest)
       → IsWhole bytes ⊎ ((rest ≡ []) × IsEnded read.left next.left)
       → (reports : ReportsFirst place options.ignore_missing kinds now (lines_of bytes) events) → Reaches stage old next reports.back rest
       → IsTally (so_far.events ++ events) tally
@@ -326,7 +327,8 @@ module _ {File : Type 0} {place : Place File} {options : Options} {kinds : Rules
             record {
               bytes = so_far.bytes ++ bytes;
               events = so_far.events ++ found;
-              consumed = rw (over.0, append-nil) at (Consumes-trans old.left read.left next.left so_far.bytes (bytes ++ reads.rest) so_far.consumed reads.reads.consumed);
+              consumed = rw (over.0, append-nil) at
+                  (Consumes-trans old.left read.left next.left so_far.bytes (bytes ++ reads.rest) so_far.consumed reads.reads.consumed);
               works = over.1 ∙ so_far.works;
               whole = whole_more so_far.bytes bytes so_far.whole (reads.reads.whole going);
               numbered = omega (arith, so_far.numbered, reads.reads.numbered going, ap length (cut so_far.bytes bytes so_far.whole), length-append (lines_of so_far.bytes) (lines_of bytes));
@@ -343,7 +345,8 @@ module _ {File : Type 0} {place : Place File} {options : Options} {kinds : Rules
             → IsReport place options kinds first.layout after.layout old next (stage_of n)
             (flat_map (items_of_event options) (so_far.events ++ found) ++ last_remarks (stage_of n) options next_tally) next_tally
         report_at n is =
-            report_on next reads.reads.bytes reads.rest found (stage_of n) next_tally reads.reads.consumed ends reported (at n (rw is at reads.ended)) counted_all
+            report_on next reads.reads.bytes reads.rest found (stage_of n) next_tally reads.reads.consumed ends reported
+            (at n (rw is at reads.ended)) counted_all
           where
             at : (n : Next) → EndsAs n read next reads.reads.bytes reads.rest → Reaches (stage_of n) old next [] reads.rest
             at nexts.More over = tt
@@ -380,4 +383,5 @@ pub stops_at_once : {File : Type 0} (place : Place File) (options : Options) (ki
 stops_at_once place options kinds layout list told =
     let cursor : Cursor = record { layout = layout; number = 1 } in
     let (tally, counts) = some_tally [] in
-    stops_reading_list (checks_begin place options kinds cursor list told tally counts) refl list (record { bytes = []; consumed = Consumes-nil list.left; why = tt })
+    stops_reading_list (checks_begin place options kinds cursor list told tally counts) refl list
+    (record { bytes = []; consumed = Consumes-nil list.left; why = tt })

@@ -201,13 +201,14 @@ module _ (start : Start) {stage : Stage} {left : ListState} {lines : List (List 
       ap lines_of (all_read start.list read.bytes read.rest left.left read.consumed reached.1 reached.2) ∙ all_of (λ same. cc)
 
 -- which are the same if all of the list was read, or as much of it
-same_far : (start : Start) {stage other : Stage} {left right : ListState} {lines more : List (List ℕ)} (a : WasRead stage (list_before start) left lines)
-    (b : WasRead other (list_before start) right more) → stage ≡ other → stage ≢ among → other ≢ among
+same_far : (start : Start) {stage other : Stage} {left right : ListState} {lines more : List (List ℕ)}
+    (a : WasRead stage (list_before start) left lines) (b : WasRead other (list_before start) right more) → stage ≡ other → stage ≢ among → other ≢ among
     → stage ≡ ended ⊎ (length a.bytes ≡ length b.bytes) → lines ≡ more
 same_far start a b same over too (inl is) = sym (lines_to_end start a is) ∙ lines_to_end start b (sym same ∙ is)
 same_far start a b same over too (inr far) =
     sym (all_of start a over)
-    ∙ ap lines_of (front start.list a.bytes a.rest _ a.consumed ∙ ap (λ (n : ℕ). take n start.list) far ∙ sym (front start.list b.bytes b.rest _ b.consumed))
+    ∙ ap lines_of (front start.list a.bytes a.rest _ a.consumed ∙ ap (λ (n : ℕ). take n start.list) far
+    ∙ sym (front start.list b.bytes b.rest _ b.consumed))
     ∙ all_of start b too
 
 module _ {File : Type 0} (place : Place File) (contents : List ℕ → Result (List ℕ) Error) (known : IsKnown place contents)
@@ -217,8 +218,8 @@ module _ {File : Type 0} (place : Place File) (contents : List ℕ → Result (L
       (a : IsReport place options rules first last (list_before start) left stage xs t)
       (b : IsReport place options rules first other_last (list_before start) right other ys u)
       → stage ≡ other → a.lines ≡ b.lines → (last ≡ other_last) × (t ≡ u) × (xs ≡ ys)
-  same_lines {t = t} {u = u} a b both same =
-      let come = one_list place contents known options.ignore_missing rules first 1 a.lines a.events b.events _ _ a.reports (rw same b.reports) in
+  same_lines {last = last} {other_last = other_last} {t = t} {u = u} a b both same =
+      let come = one_list place contents known options.ignore_missing rules first 1 a.lines a.events b.events last other_last a.reports (rw same b.reports) in
       let tally : t ≡ u = one_tally b.events t u (subst (λ es. IsTally es t) come.0 a.counts) b.counts in
       (come.1, tally, cc (a.said, b.said, come.0, tally, both))
 
@@ -266,7 +267,8 @@ module _ {File : Type 0} (place : Place File) (contents : List ℕ → Result (L
           let same = (one_list place contents known options.ignore_missing rules first 1 report.lines es report.events mid end.stops.last come report.reports).0 in
           let rest = last_remarks ended options one.checks.tally in
           front_of (flat_map (items_of_event options) fs ++ rest)
-          (a.said ∙ grouped options a.events es fs report.events rest split same ∙ ap (λ l. l ++ (flat_map (items_of_event options) fs ++ rest)) (sym report.said))
+          (a.said ∙ grouped options a.events es fs report.events rest split same
+          ∙ ap (λ l. l ++ (flat_map (items_of_event options) fs ++ rest)) (sym report.said))
       at ended is =
           let report = b ended is in
           let said = same_lines a report refl (sym (lines_to_end start a.read refl) ∙ lines_to_end start report.read refl) in

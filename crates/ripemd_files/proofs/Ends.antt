@@ -31,15 +31,20 @@ visible_digits (x ∷ digits) are =
 
 -- which a test of ends refuses
 module _ (test : ℕ → Bool) (foreign : (x : ℕ) → visible x ≡ true → test x ≡ false) where
-  Lacks-body : (form : Form) (variant : Variant) (digits text : List ℕ) → AreDigits digits → Lacks test text → Lacks test (body_of form variant digits text)
+  Lacks-body : (form : Form) (variant : Variant) (digits text : List ℕ) → AreDigits digits → Lacks test text
+      → Lacks test (body_of form variant digits text)
   Lacks-body form variant digits text are lacks = of form
     where
       of_digits : Lacks test digits
       of_digits = lacks_where test visible foreign digits (visible_digits digits are)
 
       of : (form : Form) → Lacks test (body_of form variant digits text)
-      of Text = lacks_append test digits (codes "  " ++ text) of_digits (lacks_append test (codes "  ") text (lacks_where test visible foreign (codes "  ") refl) lacks)
-      of Binary = lacks_append test digits (codes " *" ++ text) of_digits (lacks_append test (codes " *") text (lacks_where test visible foreign (codes " *") refl) lacks)
+      of Text =
+          lacks_append test digits (codes "  " ++ text) of_digits
+          (lacks_append test (codes "  ") text (lacks_where test visible foreign (codes "  ") refl) lacks)
+      of Binary =
+          lacks_append test digits (codes " *" ++ text) of_digits
+          (lacks_append test (codes " *") text (lacks_where test visible foreign (codes " *") refl) lacks)
       of Tagged =
           lacks_append test (tag_of variant) (codes " (" ++ (text ++ (codes ") = " ++ digits)))
           (lacks_where test visible foreign (tag_of variant) (elim variant as (λ v. list_all visible (tag_of v) ≡ true) [ | R128 ↦ refl | _ ↦ refl ]))
@@ -82,7 +87,8 @@ no_end layout form variant digest name h =
     let marked = list_any is_special name in
     let are = digits_of variant (encode_lower digest) digest (IsDigest-written layout form variant digest name h) in
     let text = Lacks-text marked name refl h.no_zero in
-    lacks_append is_end (mark_of marked) (body_of form variant (encode_lower digest) (text_of marked name)) (elim marked as (λ m. Lacks is_end (mark_of m)) [ | true ↦ refl | false ↦ refl ])
+    lacks_append is_end (mark_of marked) (body_of form variant (encode_lower digest) (text_of marked name))
+    (elim marked as (λ m. Lacks is_end (mark_of m)) [ | true ↦ refl | false ↦ refl ])
     (Lacks-body is_end (λ x is. grind (arith, nat_tests)) form variant (encode_lower digest) (text_of marked name) are text)
 
 pub no_zero : (layout : Layout) (form : Form) (variant : Variant) (digest name : List ℕ) → RoundTrips layout form variant digest name

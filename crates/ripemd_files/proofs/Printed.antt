@@ -79,7 +79,8 @@ module _ {File N : Type 0} (place : Place File) (style : Style) (view : N → Li
         let short : k < length names = omega (arith, as_many) in
         let comes : ComesTo place (ripemd (parameters_of style.variant)) (view name) outcome =
         rw (get_or-map view names k name (view name) short, ← is_name, ← is_outcome) at
-        (all_zip_at (ComesTo place (ripemd (parameters_of style.variant))) (map view names) outcomes k (view name) outcome read (rw length-map short)) in
+        (all_zip_at (ComesTo place (ripemd (parameters_of style.variant))) (map view names) outcomes k (view name) outcome read
+        (rw length-map short)) in
         rw (take_more names k name short, ← is_name, map-append)
         (more_files place style _ _ before.items (items_on style (view name) outcome) all (was_read outcome) before.prints (one_file place style (view name) outcome comes))
 

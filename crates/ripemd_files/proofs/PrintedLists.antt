@@ -124,11 +124,13 @@ module _ {File : Type 0} (place : Place File) (contents : List ℕ → Result (L
         let same = same_line rules layout form variant f.message f.name (there layout is) place ignore_missing number found verdict on in
         let came = came_to rules layout form variant f.message f.name (there layout is) place ignore_missing number found verdict on in
         let told = is_verdict rules layout form variant f.message f.name (there layout is) place ignore_missing number found verdict on in
-        let given = verdict_at place contents known ignore_missing (ripemd (parameters_of variant)) f.name (ripemd (parameters_of variant) f.message) on.2 came in
+        let given = verdict_at place contents known ignore_missing (ripemd (parameters_of variant)) f.name
+        (ripemd (parameters_of variant) f.message) on.2 came in
         ap (λ n. checked n verdict) same.2 ∙ ap (λ v. checked f.name v) (told ∙ given ∙ now (contents f.name))
       where
         now : (r : Result (List ℕ) Error)
-            → verdict_by ignore_missing (ripemd (parameters_of variant)) (ripemd (parameters_of variant) f.message) r ≡ verdict_now ignore_missing variant f.message r
+            → verdict_by ignore_missing (ripemd (parameters_of variant)) (ripemd (parameters_of variant) f.message) r
+            ≡ verdict_now ignore_missing variant f.message r
         now (Ok given) = refl
         now (Err error) = refl
 
@@ -213,7 +215,8 @@ module _ {File : Type 0} (place : Place File) (contents : List ℕ → Result (L
   print_all (f ∷ files) gave =
       let more = print_all files (All-tail Gave f files gave) in
       rw (All-head Gave f files gave, newline) (
-        rw more.0 (sym (map-append byte (printed_line style.form style.variant f.message f.name ++ codes "\n") (printed_text style.form style.variant files))),
+        rw more.0
+        (sym (map-append byte (printed_line style.form style.variant f.message f.name ++ codes "\n") (printed_text style.form style.variant files))),
         more.1,
       )
 

@@ -11,13 +11,15 @@ groups-init g c = record {
 
 pub returns-in_err-group-clause-err : goal.returns-in_err-group-clause-err
 returns-in_err-group-clause-err g c =
-    search (rules, stops_reading_list c.groups.invariant.so_far c.requires.start (g.R.ReadList.state c.read_group.new.reader) c.in_err-group.ensures.err)
+    search (rules, stops_reading_list c.groups.invariant.so_far c.requires.start (g.R.ReadList.state c.read_group.new.reader)
+    c.in_err-group.ensures.err)
 
 pub returns-in_err-check_lines-clause-err : goal.returns-in_err-check_lines-clause-err
 returns-in_err-check_lines-clause-err g c =
     search (
       rules,
-      stops_lines c.groups.invariant.so_far c.requires.start c.in_ok-group.ensures.ok (rw c.as_slice.ensures.value at c.in_err-check_lines.ensures.err),
+      stops_lines c.groups.invariant.so_far c.requires.start c.in_ok-group.ensures.ok
+          (rw c.as_slice.ensures.value at c.in_err-check_lines.ensures.err),
     )
 
 pub returns-in_err-check_misformatted-clause-err : goal.returns-in_err-check_misformatted-clause-err
@@ -30,7 +32,8 @@ returns-in_err-check_misformatted-clause-err g c =
 
 pub groups-preserved : goal.groups-preserved
 groups-preserved g c = record {
-  so_far = checks_on c.groups.invariant.so_far c.requires.start c.in_ok-group.ensures.ok (rw c.as_slice.ensures.value at c.in_ok-check_lines.ensures.ok)
+  so_far = checks_on c.groups.invariant.so_far c.requires.start c.in_ok-group.ensures.ok
+      (rw c.as_slice.ensures.value at c.in_ok-check_lines.ensures.ok)
       c.in_ok-check_misformatted.ensures.told c.in_ok-check_misformatted.ensures.counts c.in-More.is;
   bounded = c.in_ok-group.ensures.ok.bounded (search (rules, ap goes_on c.in-More.is));
 }
@@ -52,7 +55,8 @@ returns-in_err-success-in-Ended-clause-err g c =
 pub returns-in-Failed-clause-ok : goal.returns-in-Failed-clause-ok
 returns-in-Failed-clause-ok g c =
     checks_over c.groups.invariant.so_far c.requires.start c.in_ok-group.ensures.ok (rw c.as_slice.ensures.value at c.in_ok-check_lines.ensures.ok)
-    c.in_ok-check_misformatted.ensures.told c.in_ok-check_misformatted.ensures.counts c.in-Failed.is (λ same. cc) c.in_ok-remark-in-Failed.ensures.told refl
+    c.in_ok-check_misformatted.ensures.told c.in_ok-check_misformatted.ensures.counts c.in-Failed.is (λ same. cc)
+    c.in_ok-remark-in-Failed.ensures.told refl
 
 pub returns-in_err-remark-in-Failed-clause-err : goal.returns-in_err-remark-in-Failed-clause-err
 returns-in_err-remark-in-Failed-clause-err g c =
