@@ -1,17 +1,16 @@
 -- The forms of a line: what is read of a body has one of them, and what has one of them is read.
-use Rattle.std.proofs.Common.{◌≡◌, ◌≢◌, ◌⊎◌, ℕ, ◌*◌, Bool, true, false, cond, ◌||◌, List, [], ◌∷◌, ◌++◌, length, take, drop, Option, Some, None, Result, Ok, Err, refl, sym, ap, subst, ◌∙◌, inl, inr, eqb, arith}
+use Rattle.std.proofs.Common.{◌≡◌, ◌≢◌, ◌⊎◌, ℕ, ◌*◌, Bool, true, false, ◌||◌, List, [], ◌∷◌, ◌++◌, length, take, drop, Option, Some, None, refl, sym, ap, subst, ◌∙◌, inl, inr, eqb, arith}
 use Rattle.std.specs.Prelude.{option_map, codes, IsTrue}
 use Rattle.std.specs.List.{list_any, list_all}
 use Rattle.std.specs.Str.{bytes_eq}
-use Rattle.std.specs.Result.{result_ok}
-use Rattle.std.proofs.lemmas.Bool.{and_parts, ne_eqb, eqb-true, eq-eqb}
-use Rattle.std.proofs.lemmas.Bool.Decides.{eqb_tells}
+use Rattle.std.proofs.lemmas.Bool.{and_parts, cases_Bool, or_parts, ne_eqb, eqb-true, eq-eqb}
+use Rattle.std.proofs.lemmas.Bool.Decides.{eqb_tells, nat_tests}
 use Rattle.std.proofs.lemmas.List.{take-append-drop}
 use Rattle.std.proofs.lemmas.List.Folds.{list_any-append}
 use Rattle.std.proofs.lemmas.List.Sums.{list_all-from_AllPass}
 use Rattle.std.proofs.lemmas.Slice.Eq.{bytes_eq-Decides}
 use Rattle.std.proofs.lemmas.Option.{cond_some, same_Some, some_pair_parts, option_and_then_some}
-use Rattle.hex.specs.Hex.{decode_of, is_hex_digit}
+use Rattle.hex.specs.Hex.{is_hex_digit}
 use Rattle.hex.proofs.HexLemmas.{decode_of-ok}
 use Rattle.ripemd_files.specs.declared.line.Variant.{Variant}
 use Rattle.ripemd_files.specs.declared.line.Variant.TheVariants.{R128, R160, R256, R320}
@@ -19,7 +18,7 @@ use Rattle.ripemd_files.specs.declared.line.Layout.{Layout}
 use Rattle.ripemd_files.specs.declared.line.Layout.TheVariants.{Standard, Reversed}
 use Rattle.ripemd_files.specs.Lines.{size_of, bits_of, tag_of, IsTag, is_blank, IsBlank, IsDigest, IsSeparator, IsUntagged, IsTagged}
 use Rattle.ripemd_files.specs.Reading.{first_of_two, strip, skip_blanks, split_blank, split_close, variant_of, strip_bits, strip_tag, Found, text_at, untagged_at, skip_space, tagged_at, either_at, found_at, digest_at}
-use Rattle.ripemd_files.proofs.Names.{bind_some, map_some}
+use Rattle.ripemd_files.proofs.Names.{map_some}
 
 -- ---- prefixes
 
@@ -36,12 +35,10 @@ unfolding skip_blanks
 skip_blanks-sound [] = ([], refl, refl)
 skip_blanks-sound (x ∷ rest) =
     let tail = skip_blanks-sound rest in
-    go (is_blank x) refl tail
-  where
-    go : (blank : Bool) → is_blank x ≡ blank → (blanks : List ℕ) × IsBlank blanks × (rest ≡ blanks ++ skip_blanks rest)
-        → (blanks : List ℕ) × IsBlank blanks × (x ∷ rest ≡ blanks ++ cond blank (skip_blanks rest) (x ∷ rest))
-    go true is tail = (x ∷ tail.0, rw is tail.1, ap (λ (t : List ℕ). x ∷ t) tail.2)
-    go false is tail = ([], refl, refl)
+    elim (cases_Bool (is_blank x)) [
+      | inl is ↦ (x ∷ tail.0, rw is tail.1, rw is (ap (λ (t : List ℕ). x ∷ t) tail.2))
+      | inr is ↦ ([], refl, rw is refl)
+    ]
 
 -- blanks are skipped up to a byte that is none
 pub skip_blanks-front : (blanks : List ℕ) (x : ℕ) (rest : List ℕ) → IsBlank blanks → is_blank x ≡ false
@@ -58,63 +55,63 @@ skip_blanks-front (b ∷ blanks) x rest h other =
 abbrev parts_of : List ℕ → List ℕ → Option (List ℕ × List ℕ)
 parts_of before rest = Some (before, rest)
 
+-- of parts behind a byte, it stands before the first
+behind_byte : (x : ℕ) (found : Option (List ℕ × List ℕ)) (before rest : List ℕ)
+    → option_map (λ parts. (x ∷ parts.0, parts.1)) found ≡ parts_of before rest
+    → (front : List ℕ) × (found ≡ parts_of front rest) × (before ≡ x ∷ front)
+behind_byte x None before rest e = absurd cc
+behind_byte x (Some parts) before rest e =
+    let same = some_pair_parts (x ∷ parts.0) before parts.1 rest e in
+    (parts.0, ap (parts_of parts.0) same.1, sym same.0)
+
+first_of : {A P : Type 0} (a b : Option A) (y : A) → first_of_two a b ≡ Some y → (a ≡ Some y → P) → (b ≡ Some y → P) → P
+first_of (Some x) b y e here there = here e
+first_of None b y e here there = there e
+
 pub split_blank-sound : (bytes before rest : List ℕ) → split_blank bytes ≡ parts_of before rest
     → (blank : ℕ) × IsTrue (is_blank blank) × (bytes ≡ before ++ (blank ∷ rest))
 unfolding split_blank
 split_blank-sound [] before rest e = absurd cc
-split_blank-sound (x ∷ bytes) before rest e = go (split_blank-sound bytes) (is_blank x) refl e
-  where
-    go : ((before rest : List ℕ) → split_blank bytes ≡ parts_of before rest → (blank : ℕ) × IsTrue (is_blank blank) × (bytes ≡ before ++ (blank ∷ rest)))
-        → (blank : Bool) → is_blank x ≡ blank
-        → cond blank (parts_of [] bytes) (option_map (λ parts. (x ∷ parts.0, parts.1)) (split_blank bytes)) ≡ parts_of before rest
-        → (blank : ℕ) × IsTrue (is_blank blank) × (x ∷ bytes ≡ before ++ (blank ∷ rest))
-    go sound true is e = let parts = some_pair_parts [] before bytes rest e in (x, is, rw (← parts.0, ← parts.1) refl)
-    go sound false is e =
-        let tail = map_some (split_blank bytes) (λ parts. (x ∷ parts.0, parts.1)) (before, rest) e in
-        let parts = some_pair_parts (x ∷ tail.0.0) before tail.0.1 rest (ap (λ (p : List ℕ × List ℕ). parts_of p.0 p.1) tail.2) in
-        let found = sound tail.0.0 tail.0.1 tail.1 in (
-          found.0,
-          found.1,
-          ap (λ (t : List ℕ). x ∷ t) found.2 ∙ ap (λ (front : List ℕ). front ++ (found.0 ∷ tail.0.1)) parts.0
-              ∙ ap (λ (back : List ℕ). before ++ (found.0 ∷ back)) parts.1,
-        )
+split_blank-sound (x ∷ bytes) before rest e =
+    elim (cases_Bool (is_blank x)) [
+      | inl is ↦ let parts = some_pair_parts [] before bytes rest (rw is at e) in (x, is, rw (← parts.0, ← parts.1) refl)
+      | inr is ↦
+          let (front, splits, same) = behind_byte x (split_blank bytes) before rest (rw is at e) in
+          let (blank, is_blank, whole) = split_blank-sound bytes front rest splits in
+          (blank, is_blank, ap (λ (t : List ℕ). x ∷ t) whole ∙ ap (λ (front : List ℕ). front ++ (blank ∷ rest)) (sym same))
+    ]
 
 pub split_close-sound : (bytes before rest : List ℕ) → split_close bytes ≡ parts_of before rest → bytes ≡ before ++ (41 ∷ rest)
 unfolding split_close
 split_close-sound [] before rest e = absurd cc
-split_close-sound (x ∷ bytes) before rest e = go (split_close-sound bytes) (split_close bytes) refl e
-  where
-    go : ((before rest : List ℕ) → split_close bytes ≡ parts_of before rest → bytes ≡ before ++ (41 ∷ rest))
-        → (found : Option (List ℕ × List ℕ)) → split_close bytes ≡ found
-        → first_of_two (option_map (λ parts. (x ∷ parts.0, parts.1)) found) (cond (eqb x 41) (parts_of [] bytes) None) ≡ parts_of before rest
-        → x ∷ bytes ≡ before ++ (41 ∷ rest)
-    go sound (Some found) is e =
-        let parts = some_pair_parts (x ∷ found.0) before found.1 rest e in
-        rw (← parts.0, ← parts.1) (ap (λ (t : List ℕ). x ∷ t) (sound found.0 found.1 is))
-    go sound None is e =
-        let here = cond_some (eqb x 41) ([], bytes) (before, rest) e in
-        let parts = some_pair_parts [] before bytes rest (ap (λ (p : List ℕ × List ℕ). parts_of p.0 p.1) here.1) in
-        rw (← parts.0, ← parts.1, eqb-true x 41 here.0) refl
+split_close-sound (x ∷ bytes) before rest e =
+    first_of (option_map (λ parts. (x ∷ parts.0, parts.1)) (split_close bytes)) _ (before, rest) e
+    (λ e.
+    let (front, splits, same) = behind_byte x (split_close bytes) before rest e in
+    rw same (ap (λ (t : List ℕ). x ∷ t) (split_close-sound bytes front rest splits)))
+    (λ e.
+    let here = cond_some (eqb x 41) ([], bytes) (before, rest) e in
+    let parts = some_pair_parts [] before bytes rest (ap Some here.1) in
+    rw (← parts.0, ← parts.1, eqb-true x 41 here.0) refl)
 
--- a byte that is a digit is no blank, no parenthesis, no backslash, no R and no #
-pub record IsPlain (x : ℕ) : Type 0 where
-  pub no_blank : is_blank x ≡ false
-  pub no_close : eqb x 41 ≡ false
-  pub no_mark : eqb x 92 ≡ false
-  pub no_tag : eqb x 82 ≡ false
-  pub no_comment : eqb x 35 ≡ false
-
+-- a byte that is a digit is no other byte
 pub differs : (x y : ℕ) → is_hex_digit x ≡ true → is_hex_digit y ≡ false → eqb x y ≡ false
 differs x y is other = ne_eqb x y (λ same. cc (sym other ∙ ap is_hex_digit (sym same) ∙ is))
 
-plain_digit : (x : ℕ) → is_hex_digit x ≡ true → IsPlain x
-plain_digit x is = record {
-  no_blank = rw (differs x 32 is refl, differs x 9 is refl) refl;
-  no_close = differs x 41 is refl;
-  no_mark = differs x 92 is refl;
-  no_tag = differs x 82 is refl;
-  no_comment = differs x 35 is refl;
-}
+-- and no blank
+no_blank : (x : ℕ) → is_hex_digit x ≡ true → is_blank x ≡ false
+no_blank x is = rw (differs x 32 is refl, differs x 9 is refl) refl
+
+-- where each byte passes one test, and those fail another, none passes that
+pub lacks_where : (test other : ℕ → Bool) → ((x : ℕ) → other x ≡ true → test x ≡ false) → (text : List ℕ) → list_all other text ≡ true
+    → list_any test text ≡ false
+lacks_where test other fails [] all = refl
+lacks_where test other fails (x ∷ text) all =
+    let parts = and_parts (other x) (list_all other text) all in
+    rw (fails x parts.0, lacks_where test other fails text parts.1) refl
+
+pub lacks_append : (test : ℕ → Bool) (a b : List ℕ) → list_any test a ≡ false → list_any test b ≡ false → list_any test (a ++ b) ≡ false
+lacks_append test a b h k = list_any-append test a b ∙ rw (h, k) refl
 
 -- digits, one after the other
 abbrev pub AreDigits : List ℕ → Type 0
@@ -129,7 +126,7 @@ unfolding split_blank
 split_blank-front [] blank rest h is = rw is refl
 split_blank-front (x ∷ digits) blank rest h is =
     let parts = and_parts (is_hex_digit x) (list_all is_hex_digit digits) h in
-    rw ((plain_digit x parts.0).no_blank, split_blank-front digits blank rest parts.1 is) refl
+    rw (no_blank x parts.0, split_blank-front digits blank rest parts.1 is) refl
 
 -- whether a parenthesis closes in a text
 abbrev closes : List ℕ → Bool
@@ -138,28 +135,10 @@ closes text = list_any (λ x. eqb x 41) text
 split_close-none : (text : List ℕ) → closes text ≡ false → split_close text ≡ None
 unfolding split_close
 split_close-none [] h = refl
-split_close-none (x ∷ text) h = go (split_close-none text) (eqb x 41) refl h
-  where
-    go : (closes text ≡ false → split_close text ≡ None) → (here : Bool) → eqb x 41 ≡ here → (here || closes text) ≡ false
-        → first_of_two (option_map (λ parts. (x ∷ parts.0, parts.1)) (split_close text)) (cond here (parts_of [] text) None) ≡ None
-    go none true is h = absurd cc
-    go none false is h = rw (none h) refl
+split_close-none (x ∷ text) h =
+    let parts = or_parts (eqb x 41) (closes text) h in
+    rw (split_close-none text parts.1, parts.0) refl
 
-closes-append : (a b : List ℕ) → closes a ≡ false → closes b ≡ false → closes (a ++ b) ≡ false
-closes-append a b h k = list_any-append (λ x. eqb x 41) a b ∙ rw (h, k) refl
-
-closes-blanks : (blanks : List ℕ) → IsBlank blanks → closes blanks ≡ false
-closes-blanks [] h = refl
-closes-blanks (x ∷ blanks) h =
-    let parts = and_parts (is_blank x) (list_all is_blank blanks) h in
-    let other : eqb x 41 ≡ false = ne_eqb x 41 (λ same. let bad : false ≡ true = ap is_blank (sym same) ∙ parts.0 in cc) in
-    rw (other, closes-blanks blanks parts.1) refl
-
-closes-digits : (digits : List ℕ) → AreDigits digits → closes digits ≡ false
-closes-digits [] h = refl
-closes-digits (x ∷ digits) h =
-    let parts = and_parts (is_hex_digit x) (list_all is_hex_digit digits) h in
-    rw ((plain_digit x parts.0).no_close, closes-digits digits parts.1) refl
 
 -- the last parenthesis stands in front of what has none
 pub split_close-front : (text rest : List ℕ) → closes rest ≡ false → split_close (text ++ (41 ∷ rest)) ≡ parts_of text rest
@@ -171,18 +150,17 @@ split_close-front (x ∷ text) rest h = rw (split_close-front text rest h) refl
 closes-behind : (before after digits : List ℕ) → IsBlank before → IsBlank after → AreDigits digits
     → closes (before ++ (61 ∷ (after ++ digits))) ≡ false
 closes-behind before after digits is_before is_after are =
-    closes-append before (61 ∷ (after ++ digits)) (closes-blanks before is_before)
-    (closes-append after digits (closes-blanks after is_after) (closes-digits digits are))
+    lacks_append _ before (61 ∷ (after ++ digits)) (blanks before is_before)
+    (lacks_append _ after digits (blanks after is_after) (lacks_where _ is_hex_digit (λ x is. differs x 41 is refl) digits are))
+  where
+    blanks : (text : List ℕ) → IsBlank text → closes text ≡ false
+    blanks text are = lacks_where _ is_blank (λ x is. grind (arith, nat_tests)) text are
 
 -- ---- tags
 
 -- a variant, and what stands behind it
 abbrev named : Variant → List ℕ → Option (Variant × List ℕ)
 named variant rest = Some (variant, rest)
-
-first_some : {A : Type 0} (a b : Option A) (y : A) → first_of_two a b ≡ Some y → (a ≡ Some y) ⊎ (b ≡ Some y)
-first_some (Some x) b y e = inl e
-first_some None b y e = inr e
 
 bits_sound : (v variant : Variant) (bytes rest : List ℕ) → option_map (λ rest. (v, rest)) (strip (bits_of v) bytes) ≡ named variant rest
     → bytes ≡ bits_of variant ++ rest
@@ -194,65 +172,37 @@ bits_sound v variant bytes rest e =
 
 strip_bits-sound : (bytes : List ℕ) (variant : Variant) (rest : List ℕ) → strip_bits bytes ≡ named variant rest → bytes ≡ bits_of variant ++ rest
 strip_bits-sound bytes variant rest e =
-    elim (first_some (option_map (λ rest. (R128, rest)) (strip (codes "128") bytes)) _ (variant, rest) e) [
-      | inl here ↦ bits_sound R128 variant bytes rest here
-      | inr e ↦ elim (first_some (option_map (λ rest. (R160, rest)) (strip (codes "160") bytes)) _ (variant, rest) e) [
-        | inl here ↦ bits_sound R160 variant bytes rest here
-        | inr e ↦ elim (first_some (option_map (λ rest. (R256, rest)) (strip (codes "256") bytes)) _ (variant, rest) e) [
-          | inl here ↦ bits_sound R256 variant bytes rest here
-          | inr here ↦ bits_sound R320 variant bytes rest here
-        ]
-      ]
-    ]
+    first_of (option_map (λ rest. (R128, rest)) (strip (codes "128") bytes)) _ (variant, rest) e (bits_sound R128 variant bytes rest) (λ e.
+    first_of (option_map (λ rest. (R160, rest)) (strip (codes "160") bytes)) _ (variant, rest) e (bits_sound R160 variant bytes rest) (λ e.
+    first_of (option_map (λ rest. (R256, rest)) (strip (codes "256") bytes)) _ (variant, rest) e (bits_sound R256 variant bytes rest)
+    (bits_sound R320 variant bytes rest)))
 
 pub strip_tag-sound : (bytes : List ℕ) (variant : Variant) (rest : List ℕ) → strip_tag bytes ≡ named variant rest
     → (tag : List ℕ) × IsTag variant tag × (bytes ≡ tag ++ rest)
 unfolding strip_tag
 strip_tag-sound bytes variant rest e =
-    let word = bind_some (first_of_two (strip (codes "RMD") bytes) (first_of_two (strip (codes "RIPEMD-") bytes) (strip (codes "RIPEMD") bytes))) strip_bits (variant, rest) e in
-    let bits = strip_bits-sound word.0 variant rest word.2 in
-    elim (first_some (strip (codes "RMD") bytes) _ word.0 word.1) [
-      | inl here ↦ (codes "RMD" ++ bits_of variant, inl refl, strip-sound (codes "RMD") bytes word.0 here ∙ ap (λ (back : List ℕ). codes "RMD" ++ back) bits)
-      | inr e ↦ elim (first_some (strip (codes "RIPEMD-") bytes) _ word.0 e) [
-        | inl here ↦ (codes "RIPEMD-" ++ bits_of variant, inr (inl refl), strip-sound (codes "RIPEMD-") bytes word.0 here ∙ ap (λ (back : List ℕ). codes "RIPEMD-" ++ back) bits)
-        | inr here ↦ (codes "RIPEMD" ++ bits_of variant, inr (inr refl), strip-sound (codes "RIPEMD") bytes word.0 here ∙ ap (λ (back : List ℕ). codes "RIPEMD" ++ back) bits)
-      ]
-    ]
+    option_and_then_some strip_bits _ (variant, rest) e (λ after word is.
+    let bits = strip_bits-sound after variant rest is in
+    let whole = λ (front : List ℕ) (e : strip front bytes ≡ Some after).
+    strip-sound front bytes after e ∙ ap (λ (back : List ℕ). front ++ back) bits in
+    first_of (strip (codes "RMD") bytes) _ after word (λ e. (codes "RMD" ++ bits_of variant, inl refl, whole (codes "RMD") e)) (λ e.
+    first_of (strip (codes "RIPEMD-") bytes) _ after e (λ e. (codes "RIPEMD-" ++ bits_of variant, inr (inl refl), whole (codes "RIPEMD-") e)) (λ e.
+    (codes "RIPEMD" ++ bits_of variant, inr (inr refl), whole (codes "RIPEMD") e))))
 
 pub strip_tag-tag : (variant : Variant) (tag rest : List ℕ) → IsTag variant tag → strip_tag (tag ++ rest) ≡ Some (variant, rest)
 unfolding strip_tag
 strip_tag-tag R128 tag rest (inl e) = rw e refl
 strip_tag-tag R128 tag rest (inr (inl e)) = rw e refl
 strip_tag-tag R128 tag rest (inr (inr e)) = rw e refl
-strip_tag-tag R160 tag rest (inl e) = rw e refl
-strip_tag-tag R160 tag rest (inr (inl e)) = rw e refl
-strip_tag-tag R160 tag rest (inr (inr e)) = rw e refl
-strip_tag-tag R256 tag rest (inl e) = rw e refl
-strip_tag-tag R256 tag rest (inr (inl e)) = rw e refl
-strip_tag-tag R256 tag rest (inr (inr e)) = rw e refl
-strip_tag-tag R320 tag rest (inl e) = rw e refl
-strip_tag-tag R320 tag rest (inr (inl e)) = rw e refl
-strip_tag-tag R320 tag rest (inr (inr e)) = rw e refl
-
--- no tag begins with another letter
-pub strip_tag-none : (x : ℕ) (rest : List ℕ) → eqb x 82 ≡ false → strip_tag (x ∷ rest) ≡ None
-unfolding strip_tag
-strip_tag-none x rest other = rw other refl
+strip_tag-tag _ tag rest (inl e) = rw e refl
+strip_tag-tag _ tag rest (inr (inl e)) = rw e refl
+strip_tag-tag _ tag rest (inr (inr e)) = rw e refl
 
 -- ---- digests
 
-ok_of : {A E : Type 0} (r : Result A E) (x : A) → result_ok r ≡ Some x → r ≡ Ok x
-ok_of (Ok y) x e = ap Ok (same_Some y x e)
-ok_of (Err d) x e = absurd cc
-
 pub digest_at-sound : (variant : Variant) (digits digest : List ℕ) → digest_at variant digits ≡ Some digest → IsDigest variant digits digest
 unfolding digest_at
-digest_at-sound variant digits digest e = go (eqb (length digits) (2 * size_of variant)) refl e
-  where
-    go : (twice : Bool) → eqb (length digits) (2 * size_of variant) ≡ twice → cond twice (result_ok (decode_of digits)) None ≡ Some digest
-        → IsDigest variant digits digest
-    go true is e = record { twice = eqb-true _ _ is; bytes = ok_of (decode_of digits) digest e }
-    go false is e = absurd cc
+digest_at-sound variant digits digest e = grind (arith, nat_tests)
 
 pub digest_at-digest : (variant : Variant) (digits digest : List ℕ) → IsDigest variant digits digest → digest_at variant digits ≡ Some digest
 unfolding digest_at
@@ -260,53 +210,35 @@ digest_at-digest variant digits digest h = rw (eq-eqb _ _ h.twice, h.bytes) refl
 
 -- ---- the untagged form
 
-no_nil : {A : Type 0} (x : A) (xs : List A) → x ∷ xs ≢ []
-no_nil x xs e = cc
-
 text_at-sound : (layout : Layout) (blank : ℕ) (rest text : List ℕ) → IsTrue (is_blank blank) → text_at layout rest ≡ Some text
     → (separator : List ℕ) × IsSeparator layout separator × (text ≢ []) × (blank ∷ rest ≡ separator ++ text)
 text_at-sound Standard blank [] text is e = absurd cc
 text_at-sound Standard blank (kind ∷ []) text is e = absurd cc
-text_at-sound Standard blank (kind ∷ first ∷ others) text is e =
-    elim (eqb_tells kind 32) [
-      | inl here ↦
-          let same : first ∷ others ≡ text = same_Some _ _ (rw here.0 at e) in
-          (blank ∷ kind ∷ [], (blank, kind, is, inl here.1, refl), rw (← same) (no_nil first others), ap (λ (t : List ℕ). blank ∷ kind ∷ t) same)
-      | inr other ↦
-          let found = cond_some (eqb kind 42) (first ∷ others) text (rw other.0 at e) in
-          (blank ∷ kind ∷ [], (blank, kind, is, inr (eqb-true kind 42 found.0), refl), rw (← found.1) (no_nil first others), ap (λ (t : List ℕ). blank ∷ kind ∷ t) found.1)
-    ]
 text_at-sound Reversed blank [] text is e = absurd cc
+text_at-sound Standard blank (kind ∷ first ∷ others) text is e =
+    let found = cond_some (eqb kind 32 || eqb kind 42) (first ∷ others) text e in
+    let separates : (kind ≡ 32) ⊎ (kind ≡ 42) = grind (arith, nat_tests) in
+    (blank ∷ kind ∷ [], (blank, kind, is, separates, refl), λ none. cc (found.1, none), ap (λ (t : List ℕ). blank ∷ kind ∷ t) found.1)
 text_at-sound Reversed blank (first ∷ others) text is e =
     let same : first ∷ others ≡ text = same_Some _ _ e in
-    (blank ∷ [], (blank, is, refl), rw (← same) (no_nil first others), ap (λ (t : List ℕ). blank ∷ t) same)
-
-untagged_of : (layout : Layout) (body digits rest text : List ℕ) → split_blank body ≡ parts_of digits rest → text_at layout rest ≡ Some text
-    → IsUntagged layout body digits text
-untagged_of layout body digits rest text split at =
-    let parts = split_blank-sound body digits rest split in
-    let named = text_at-sound layout parts.0 rest text parts.1 at in
-    record {
-      separator = named.0;
-      is_separator = named.1;
-      named = named.2;
-      whole = parts.2 ∙ ap (λ (back : List ℕ). digits ++ back) named.3;
-    }
+    (blank ∷ [], (blank, is, refl), λ none. cc (same, none), ap (λ (t : List ℕ). blank ∷ t) same)
 
 pub untagged_at-sound : (layout : Layout) (body : List ℕ) (found : Found) → untagged_at layout body ≡ Some found
-    → IsUntagged layout body found.digits found.text
+    → IsUntagged layout body found.digits found.text × (variant_of (length found.digits) ≡ Some found.variant)
 unfolding untagged_at
 untagged_at-sound layout body found e =
     option_and_then_some _ (split_blank body) found e (λ parts split e2.
-    option_and_then_some _ (variant_of (length parts.0)) found e2 (λ variant _ e3.
+    option_and_then_some _ (variant_of (length parts.0)) found e2 (λ variant is e3.
     option_and_then_some _ (text_at layout parts.1) found e3 (λ text named e4.
-    subst (λ (f : Found). IsUntagged layout body f.digits f.text) (same_Some _ _ e4) (untagged_of layout body parts.0 parts.1 text split named))))
+    let (blank, is_blank, whole) = split_blank-sound body parts.0 parts.1 split in
+    let (separator, is_separator, some, spaced) = text_at-sound layout blank parts.1 text is_blank named in
+    let form : IsUntagged layout body parts.0 text =
+    record { separator = separator; is_separator = is_separator; named = some; whole = whole ∙ ap (λ (back : List ℕ). parts.0 ++ back) spaced } in
+    subst (λ (f : Found). IsUntagged layout body f.digits f.text × (variant_of (length f.digits) ≡ Some f.variant)) (same_Some _ _ e4) (form, is))))
 
 pub variant_of-size : (variant : Variant) (count : ℕ) → count ≡ 2 * size_of variant → variant_of count ≡ Some variant
 variant_of-size R128 count e = rw e refl
-variant_of-size R160 count e = rw e refl
-variant_of-size R256 count e = rw e refl
-variant_of-size R320 count e = rw e refl
+variant_of-size _ count e = rw e refl
 
 -- behind the blank of a separator the text is found
 text_at-separator : (layout : Layout) (separator text : List ℕ) → IsSeparator layout separator → text ≢ []
@@ -314,10 +246,7 @@ text_at-separator : (layout : Layout) (separator text : List ℕ) → IsSeparato
 text_at-separator layout separator [] is named = absurd (named refl)
 text_at-separator Standard separator (first ∷ others) is named =
     let found : text_at Standard (is.1 ∷ first ∷ others) ≡ Some (first ∷ others) =
-    elim is.3 [
-      | inl e ↦ rw e refl
-      | inr e ↦ rw e refl
-    ] in
+    elim is.3 [ | inl e ↦ rw e refl | inr e ↦ rw e refl ] in
     (is.0, is.1 ∷ first ∷ others, is.2, ap (λ (front : List ℕ). front ++ (first ∷ others)) is.4, found)
 text_at-separator Reversed separator (first ∷ others) is named =
     (is.0, first ∷ others, is.1, ap (λ (front : List ℕ). front ++ (first ∷ others)) is.2, refl)
@@ -355,12 +284,6 @@ tagged_of body tag rest inner text behind digits variant is_tag whole opens spli
     let before = skip_blanks-sound behind in
     let equal = strip-sound (codes "=") (skip_blanks behind) digits equals in
     let after = skip_blanks-sound digits in
-    let at_equal : skip_blanks behind ≡ codes "=" ++ (after.0 ++ skip_blanks digits) = equal ∙ ap (λ (back : List ℕ). codes "=" ++ back) after.2 in
-    let at_close : behind ≡ before.0 ++ (codes "=" ++ (after.0 ++ skip_blanks digits)) = before.2 ∙ ap (λ (back : List ℕ). before.0 ++ back) at_equal in
-    let at_text : inner ≡ text ++ (codes ")" ++ (before.0 ++ (codes "=" ++ (after.0 ++ skip_blanks digits)))) =
-    closed ∙ ap (λ (back : List ℕ). text ++ (codes ")" ++ back)) at_close in
-    let at_open : skip_space rest ≡ codes "(" ++ (text ++ (codes ")" ++ (before.0 ++ (codes "=" ++ (after.0 ++ skip_blanks digits))))) =
-    opened ∙ ap (λ (back : List ℕ). codes "(" ++ back) at_text in
     record {
       tag = tag;
       space = space.0;
@@ -370,7 +293,7 @@ tagged_of body tag rest inner text behind digits variant is_tag whole opens spli
       is_space = space.1;
       is_before = before.1;
       is_after = after.1;
-      whole = whole ∙ ap (λ (back : List ℕ). tag ++ back) (space.2 ∙ ap (λ (back : List ℕ). space.0 ++ back) at_open);
+      whole = rw (← after.2, ← equal, ← before.2, ← closed, ← opened, ← space.2, ← whole) refl;
     }
 
 pub tagged_at-sound : (body tag rest : List ℕ) (variant : Variant) (found : Found) → IsTag variant tag → body ≡ tag ++ rest
@@ -389,23 +312,17 @@ skip_space-space space rest (inr e) = rw e refl
 
 -- the digits of a digest, with the first apart
 pub starts : (variant : Variant) (digits digest : List ℕ) → IsDigest variant digits digest
-    → (x : ℕ) × (others : List ℕ) × (digits ≡ x ∷ others) × IsPlain x
-starts variant [] digest is = absurd (go variant is.twice)
-  where
-    go : (variant : Variant) → 0 ≡ 2 * size_of variant → ⊥
-    go R128 e = omega (arith, e)
-    go R160 e = omega (arith, e)
-    go R256 e = omega (arith, e)
-    go R320 e = omega (arith, e)
+    → (x : ℕ) × (others : List ℕ) × (digits ≡ x ∷ others) × (is_hex_digit x ≡ true)
+starts variant [] digest is = absurd (grind (arith, is.twice))
 starts variant (x ∷ others) digest is =
     let parts = and_parts (is_hex_digit x) (list_all is_hex_digit others) (digits_of variant (x ∷ others) digest is) in
-    (x, others, refl, plain_digit x parts.0)
+    (x, others, refl, parts.0)
 
 skip_blanks-digits : (blanks : List ℕ) (variant : Variant) (digits digest : List ℕ) → IsBlank blanks → IsDigest variant digits digest
     → skip_blanks (blanks ++ digits) ≡ digits
 skip_blanks-digits blanks variant digits digest blank is =
     let first = starts variant digits digest is in
-    rw first.2 (skip_blanks-front blanks first.0 first.1 blank first.3.no_blank)
+    rw first.2 (skip_blanks-front blanks first.0 first.1 blank (no_blank first.0 first.3))
 
 pub tagged_at-form : (variant : Variant) (space text before after digits digest : List ℕ) → (space ≡ []) ⊎ (space ≡ codes " ")
     → IsBlank before → IsBlank after → IsDigest variant digits digest
@@ -420,6 +337,14 @@ tagged_at-form variant space text before after digits digest is_space is_before 
     let skipped = skip_blanks-digits after variant digits digest is_after is in
     rw (opened, split, equals, skipped) refl
 
+-- a body that begins with digits has no tag
+pub no_tag : (layout : Layout) (body : List ℕ) (variant : Variant) (digits digest text : List ℕ) → IsUntagged layout body digits text
+    → IsDigest variant digits digest → strip_tag body ≡ None
+unfolding strip_tag
+no_tag layout body variant digits digest text form is =
+    let first = starts variant digits digest is in
+    rw (form.whole, first.2, differs first.0 82 first.3 refl) refl
+
 -- ---- either
 
 pub found_at-sound : (layout : Layout) (body : List ℕ) (f : Found) → found_at layout body ≡ Some f
@@ -430,16 +355,13 @@ found_at-sound layout body f e = go (strip_tag body) refl e
     go : (tag : Option (Variant × List ℕ)) → strip_tag body ≡ tag → either_at layout tag body ≡ Some f
         → IsUntagged layout body f.digits f.text ⊎ IsTagged body f.variant f.digits f.text
     go (Some tag) is e = let parts = strip_tag-sound body tag.0 tag.1 is in inr (tagged_at-sound body parts.0 tag.1 tag.0 f parts.1 parts.2 e)
-    go None is e = inl (untagged_at-sound layout body f e)
+    go None is e = inl (untagged_at-sound layout body f e).0
 
 pub found_at-form : (layout : Layout) (body : List ℕ) (variant : Variant) (digits digest text : List ℕ)
     → IsUntagged layout body digits text ⊎ IsTagged body variant digits text → IsDigest variant digits digest → found_at layout body ≡ found variant digits text
 unfolding found_at
 found_at-form layout body variant digits digest text (inl form) is =
-    let first = starts variant digits digest is in
-    let whole : body ≡ first.0 ∷ (first.1 ++ (form.separator ++ text)) = form.whole ∙ ap (λ (front : List ℕ). front ++ (form.separator ++ text)) first.2 in
-    let none : strip_tag body ≡ None = ap strip_tag whole ∙ strip_tag-none first.0 (first.1 ++ (form.separator ++ text)) first.3.no_tag in
-    rw none (untagged_at-form layout body variant digits digest text form is)
+    rw (no_tag layout body variant digits digest text form is) (untagged_at-form layout body variant digits digest text form is)
 found_at-form layout body variant digits digest text (inr form) is =
     let tag = ap strip_tag form.whole ∙ strip_tag-tag variant form.tag _ form.is_tag in
     rw tag (tagged_at-form variant form.space text form.before form.after digits digest form.is_space form.is_before form.is_after is)
@@ -451,7 +373,8 @@ pub starts-form : (layout : Layout) (body : List ℕ) (variant : Variant) (digit
     → IsUntagged layout body digits text ⊎ IsTagged body variant digits text → IsDigest variant digits digest → (x : ℕ) × (rest : List ℕ) × (body ≡ x ∷ rest) × (is_blank x ≡ false) × (eqb x 92 ≡ false) × (eqb x 35 ≡ false)
 starts-form layout body variant digits digest text (inl form) is =
     let first = starts variant digits digest is in
-    (first.0, first.1 ++ (form.separator ++ text), form.whole ∙ ap (λ (front : List ℕ). front ++ (form.separator ++ text)) first.2, first.3.no_blank, first.3.no_mark, first.3.no_comment)
+    (first.0, first.1 ++ (form.separator ++ text), form.whole ∙ ap (λ (front : List ℕ). front ++ (form.separator ++ text)) first.2,
+    no_blank first.0 first.3, differs first.0 92 first.3 refl, differs first.0 35 first.3 refl)
 starts-form layout body variant digits digest text (inr form) is =
     let back = form.space ++ (codes "(" ++ (text ++ (codes ")" ++ (form.before ++ (codes "=" ++ (form.after ++ digits)))))) in
     let whole = λ (front : List ℕ) (e : form.tag ≡ front). form.whole ∙ ap (λ (front : List ℕ). front ++ back) e in

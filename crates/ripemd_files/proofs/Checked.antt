@@ -1,5 +1,5 @@
 -- What a check finds of the files of some lines.
-use Rattle.std.proofs.Common.{◌≡◌, ◌≢◌, ◌⊎◌, ℕ, zero, suc, ◌+◌, ◌<◌, ◌≤◌, ◌-◌, ◌^◌, List, [], ◌∷◌, ◌++◌, flat_map, length, take, drop, get_or, Option, Bool, true, false, refl, subst, sym, ap, ◌∙◌, inl, inr, arith, append_assoc}
+use Rattle.std.proofs.Common.{◌≡◌, ◌≢◌, ◌⊎◌, ℕ, zero, suc, ◌+◌, ◌<◌, ◌≤◌, ◌-◌, ◌^◌, List, [], ◌∷◌, ◌++◌, flat_map, length, take, drop, get_or, Option, Bool, true, refl, subst, sym, ap, ◌∙◌, inl, inr, arith, append_assoc}
 use Rattle.std.specs.Prelude.{IsTrue}
 use Rattle.std.specs.List.{AllZip, list_any}
 use Rattle.std.specs.Io.KnownBytes.{Consumes}
@@ -25,11 +25,11 @@ use Rattle.ripemd_files.specs.declared.verdict.Verdict.{Verdict}
 use Rattle.ripemd_files.specs.declared.verdict.Options.{Options}
 use Rattle.ripemd_files.specs.declared.verdict.Tally.{Tally}
 use Rattle.ripemd_files.specs.Files.{OfFirst, Place, ComesTo, parameters_of}
-use Rattle.ripemd_files.specs.Said.{Explains, Item, Pends, Stops, Tells, Told, about_list, written}
+use Rattle.ripemd_files.specs.Said.{Explains, Item, Pends, Stops, Tells, Told, written}
 use Rattle.ripemd_files.specs.Splitting.{IsEnded, IsWhole, ListState, lines_of}
-use Rattle.ripemd_files.specs.Checking.{Event, Events, IsEventOf, IsNamed, IsOutcomeOf, IsTally, checked, closing_remarks, counted, has_verdict, is_difference, is_match, is_misformatted, is_success, is_unreadable, items_of_event, verdict_of}
-use Rattle.ripemd_files.specs.Groups.{ChecksFirst, ChecksLines, ChecksSoFar, EndsAs, ExplainsReading, ReadsGroup, ReportsFirst, ReportsFrom, StopsReading, goes_on, misformatted_events}
-use Rattle.ripemd_files.specs.Lists.{ChecksList, IsReport, Reaches, Stage, StopsList, among, ended, failed, last_remarks}
+use Rattle.ripemd_files.specs.Checking.{Event, Events, IsEventOf, IsNamed, IsOutcomeOf, IsTally, checked, counted, has_verdict, is_difference, is_match, is_misformatted, is_unreadable, items_of_event, verdict_of}
+use Rattle.ripemd_files.specs.Groups.{ChecksFirst, ChecksLines, ChecksSoFar, EndsAs, ExplainsReading, ReadsGroup, ReportsFirst, StopsReading, goes_on, misformatted_events}
+use Rattle.ripemd_files.specs.Lists.{ChecksList, IsReport, Reaches, Stage, StopsList, among, ended, failed, last_remarks, succeeds}
 use Rattle.ripemd_files.proofs.Cutting.{cut, ended_since, whole_more}
 use Rattle.ripemd_files.proofs.Grouped.{first_of_all}
 use Rattle.ripemd_files.proofs.Telling.{no_memory, pends_done, pends_more, pends_none, pends_stops, pends_undone, stops_after, stops_for, stops_now, tells_more, tells_none}
@@ -104,8 +104,7 @@ module _ {File : Type 0} (place : Place File) (options : Options) (lines : List 
     each_next =
         let short : k < length lines = omega (arith, as_many_lines) in
         let comes : IsOutcomeOf place line outcome =
-        subst (λ x. IsOutcomeOf place x outcome) (sym is_line)
-        (subst (λ x. IsOutcomeOf place (get_or lines k line) x) (sym is_outcome) (all_zip_at _ lines outcomes k line outcome read short)) in
+        rw (← is_line, ← is_outcome) at (all_zip_at (IsOutcomeOf place) lines outcomes k line outcome read short) in
         all_zip_next _ lines before.events k line event short (sym is_line) before.are.each
         (outcome, comes, ap (checked line.name.items) is_verdict)
 
@@ -198,10 +197,45 @@ checks_begin place options kinds cursor list told tally counted = record {
   told = λ behind more last report. report;
 }
 
+-- how far a check came that goes on so
+abbrev pub stage_of : Next → Stage
+stage_of nexts.More = among
+stage_of nexts.Ended = ended
+stage_of nexts.Failed = failed
+
 -- a list, after the groups before
-module _ {File : Type 0} (place : Place File) (options : Options) (kinds : Rules) (first now : Cursor) (old read : ListState) (a b : Told) (tally : Tally)
-    (so_far : ChecksSoFar place options kinds first now old read a b tally) (begins : first.number ≡ 1) where
-  -- some of the list was read, and the first of its lines were told
+module _ {File : Type 0} {place : Place File} {options : Options} {kinds : Rules} {first now : Cursor} {old read : ListState} {a b : Told}
+    {tally : Tally} (so_far : ChecksSoFar place options kinds first now old read a b tally) (begins : first.number ≡ 1) where
+  -- more of the list was read, and these events come of the first of its lines
+  abbrev report_on : (next : ListState) (bytes rest : List ℕ) (events : List Event) (stage : Stage) (tally : Tally)
+      → Consumes read.left next.left (bytes ++ rest)
+      → IsWhole bytes ⊎ ((rest ≡ []) × IsEnded read.left next.left)
+      → (reports : ReportsFirst place options.ignore_missing kinds now (lines_of bytes) events) → Reaches stage old next reports.back rest
+      → IsTally (so_far.events ++ events) tally
+      → IsReport place options kinds first.layout reports.last old next stage
+      (flat_map (items_of_event options) (so_far.events ++ events) ++ last_remarks stage options tally) tally
+  report_on next bytes rest events stage tally consumed ends reports reached counts = record {
+    lines = lines_of so_far.bytes ++ reports.first;
+    events = so_far.events ++ events;
+    read = record {
+      bytes = so_far.bytes ++ bytes;
+      rest = rest;
+      behind = reports.back;
+      consumed = rw append_assoc (Consumes-trans old.left read.left next.left so_far.bytes (bytes ++ rest) so_far.consumed consumed);
+      cut = elim ends [
+        | inl entire ↦ inl (whole_more so_far.bytes bytes so_far.whole entire)
+        | inr over ↦ inr (over.0, ended_since old.left read.left next.left so_far.bytes so_far.consumed over.1)
+      ];
+      split = cut so_far.bytes bytes so_far.whole ∙ ap (λ l. lines_of so_far.bytes ++ l) reports.split
+          ∙ sym (append_assoc (lines_of so_far.bytes) reports.first reports.back);
+      reached = reached;
+    };
+    reports = rw begins at (so_far.told reports.first events reports.last reports.reports);
+    counts = counts;
+    said = refl;
+  }
+
+  -- and these were told
   stopped : (next : ListState) (c : Told) (bytes rest : List ℕ) (events : List Event) (fault : Fault) → Consumes read.left next.left (bytes ++ rest)
       → IsWhole bytes ⊎ ((rest ≡ []) × IsEnded read.left next.left)
       → ReportsFirst place options.ignore_missing kinds now (lines_of bytes) events
@@ -214,36 +248,15 @@ module _ {File : Type 0} (place : Place File) (options : Options) (kinds : Rules
         items = flat_map (items_of_event options) (so_far.events ++ events) ++ [];
         tally = tally;
         last = reports.last;
-        report = record {
-          lines = lines_of so_far.bytes ++ reports.first;
-          events = so_far.events ++ events;
-          read = record {
-            bytes = so_far.bytes ++ bytes;
-            rest = rest;
-            behind = reports.back;
-            consumed = rw append_assoc (Consumes-trans old.left read.left next.left so_far.bytes (bytes ++ rest) so_far.consumed consumed);
-            cut = cut_on ends;
-            split = cut so_far.bytes bytes so_far.whole ∙ ap (λ l. lines_of so_far.bytes ++ l) reports.split
-                ∙ sym (append_assoc (lines_of so_far.bytes) reports.first reports.back);
-            reached = tt;
-          };
-          reports = rw begins at (so_far.told reports.first events reports.last reports.reports);
-          counts = counts;
-          said = refl;
-        };
+        report = report_on next bytes rest events among tally consumed ends reports tt counts;
         stops = rw (append-nil, flat_map-append) (stops_after _ a b c _ _ fault so_far.tells stops);
       }
-    where
-      cut_on : IsWhole bytes ⊎ ((rest ≡ []) × IsEnded read.left next.left)
-          → IsWhole (so_far.bytes ++ bytes) ⊎ ((rest ≡ []) × IsEnded old.left next.left)
-      cut_on (inl entire) = inl (whole_more so_far.bytes bytes so_far.whole entire)
-      cut_on (inr (none, over)) = inr (none, ended_since old.left read.left next.left so_far.bytes so_far.consumed over)
 
   -- reading its next lines ended the run
-  pub stops_reading_list : (next : ListState) (fault : Fault) → StopsReading read.left next.left now.number fault
+  pub stops_reading_list : (next : ListState) {fault : Fault} → StopsReading read.left next.left now.number fault
       → StopsList place options kinds first.layout old next a b fault
   unfolding lines_of
-  stops_reading_list next fault stops =
+  stops_reading_list next {fault} stops =
       stopped next b [] stops.bytes [] fault stops.consumed (inl (inl refl))
       (record { first = []; back = []; split = refl; last = now.layout; reports = (refl, refl) })
       (stops_now _ b b [] fault (tells_none b) (λ works. explains fault stops.why))
@@ -258,7 +271,7 @@ module _ {File : Type 0} (place : Place File) (options : Options) (kinds : Rules
       )
 
   -- a group was read
-  module _ (next : ListState) (after : Cursor) (group : Group) (reads : ReadsGroup place options.ignore_missing kinds read next now after group) where
+  module _ {next : ListState} {after : Cursor} {group : Group} (reads : ReadsGroup place options.ignore_missing kinds read next now after group) where
     ends : IsWhole reads.reads.bytes ⊎ ((reads.rest ≡ []) × IsEnded read.left next.left)
     ends = at group.next reads.reads.whole reads.ended
       where
@@ -269,148 +282,98 @@ module _ {File : Type 0} (place : Place File) (options : Options) (kinds : Rules
         at nexts.Failed entire over = inl over.0
 
     -- and of the first of its lines was told
-    pub stops_lines : (c : Told) (fault : Fault) → ChecksFirst place options group.lines.items b c fault
+    pub stops_lines : {c : Told} {fault : Fault} → ChecksFirst place options group.lines.items b c fault
         → StopsList place options kinds first.layout old next a c fault
-    stops_lines c fault checks =
+    stops_lines {c} {fault} checks =
         stopped next c reads.reads.bytes reads.rest checks.events fault reads.reads.consumed ends
         (reads.reads.partly checks.count checks.events checks.each) (stops_for _ b c _ fault checks.stops)
 
     -- or of all
-    module _ (c : Told) (counted : Tally) (checks : ChecksLines place options group.lines.items b c tally counted) where
+    module _ {c : Told} {counted : Tally} (checks : ChecksLines place options group.lines.items b c tally counted) where
       abbrev found : List Event
       found = checks.events ++ misformatted_events group.misformatted
 
+      -- what comes of all of its lines
+      abbrev reported : ReportsFirst place options.ignore_missing kinds now (lines_of reads.reads.bytes) found
+      reported =
+          first_of_all place options.ignore_missing kinds now (lines_of reads.reads.bytes) found after.layout
+          (rw (append-nil, append-nil) at (reads.reads.told checks.events checks.are.each [] [] after.layout (refl, refl)))
+
       -- and the one that says nothing ended the run
-      pub stops_misformatted : (d : Told) (fault : Fault)
+      pub stops_misformatted : {d : Told} {fault : Fault}
           → Stops ⊥ c d (flat_map (items_of_event options) (misformatted_events group.misformatted)) fault
           → StopsList place options kinds first.layout old next a d fault
-      stops_misformatted d fault stops =
-          stopped next d reads.reads.bytes reads.rest found fault reads.reads.consumed ends
-          (first_of_all place options.ignore_missing kinds now (lines_of reads.reads.bytes) found after.layout
-          (rw (append-nil, append-nil) at (reads.reads.told checks.events checks.are.each [] [] after.layout (refl, refl))))
+      stops_misformatted {d} {fault} stops =
+          stopped next d reads.reads.bytes reads.rest found fault reads.reads.consumed ends reported
           (rw flat_map-append (stops_after _ b c d _ _ fault checks.tells (stops_for _ c d _ fault stops)))
 
       -- or was told and counted, too
-      module _ (d : Told) (next_tally : Tally) (bad : Tells c d (flat_map (items_of_event options) (misformatted_events group.misformatted)))
+      module _ {d : Told} {next_tally : Tally} (bad : Tells c d (flat_map (items_of_event options) (misformatted_events group.misformatted)))
           (counts : (earlier : List Event) → IsTally earlier counted → IsTally (earlier ++ misformatted_events group.misformatted) next_tally) where
-        abbrev all : List Event
-        all = so_far.events ++ found
-
-        told_on : Tells a d (flat_map (items_of_event options) all)
+        told_on : Tells a d (flat_map (items_of_event options) (so_far.events ++ found))
         told_on =
             rw (flat_map-append (items_of_event options) so_far.events, flat_map-append (items_of_event options) checks.events)
             (tells_more a b d _ _ so_far.tells (tells_more b c d _ _ checks.tells bad))
 
-        counted_all : IsTally all next_tally
+        counted_all : IsTally (so_far.events ++ found) next_tally
         counted_all = rw (← append_assoc) (counts (so_far.events ++ checks.events) (checks.are.counts so_far.events so_far.counts))
-
-        -- what comes of the lines so far, and of those behind them
-        told_all_lines : (behind : List (List ℕ)) (more : List Event) (last : Option Layout)
-            → ReportsFrom place options.ignore_missing kinds after behind more last
-            → ReportsFrom place options.ignore_missing kinds first (lines_of (so_far.bytes ++ reads.reads.bytes) ++ behind) (all ++ more) last
-        told_all_lines behind more last report =
-            rw (cut so_far.bytes reads.reads.bytes so_far.whole, append_assoc, append_assoc, append_assoc)
-            (so_far.told (lines_of reads.reads.bytes ++ behind) (checks.events ++ (misformatted_events group.misformatted ++ more)) last
-            (reads.reads.told checks.events checks.are.each behind more last report))
-
-        consumed_all : Consumes old.left next.left ((so_far.bytes ++ reads.reads.bytes) ++ reads.rest)
-        consumed_all =
-            rw append_assoc (Consumes-trans old.left read.left next.left so_far.bytes (reads.reads.bytes ++ reads.rest) so_far.consumed reads.reads.consumed)
 
         -- the list goes on
         pub checks_on : group.next ≡ nexts.More → ChecksSoFar place options kinds first after old next a d next_tally
         checks_on on =
-            let over : EndsAs nexts.More read next reads.reads.bytes reads.rest = rw on at reads.ended in
+            let bytes = reads.reads.bytes in
+            let over : EndsAs nexts.More read next bytes reads.rest = rw on at reads.ended in
             let going : IsTrue (goes_on group.next) = ap goes_on on in
             record {
-              bytes = so_far.bytes ++ reads.reads.bytes;
-              events = all;
-              consumed = rw (over.0, append-nil) at consumed_all;
+              bytes = so_far.bytes ++ bytes;
+              events = so_far.events ++ found;
+              consumed = rw (over.0, append-nil) at
+                  (Consumes-trans old.left read.left next.left so_far.bytes (bytes ++ reads.rest) so_far.consumed reads.reads.consumed);
               works = over.1 ∙ so_far.works;
-              whole = whole_more so_far.bytes reads.reads.bytes so_far.whole (reads.reads.whole going);
-              numbered = omega (arith, so_far.numbered, reads.reads.numbered going, ap length (cut so_far.bytes reads.reads.bytes so_far.whole), length-append (lines_of so_far.bytes) (lines_of reads.reads.bytes));
+              whole = whole_more so_far.bytes bytes so_far.whole (reads.reads.whole going);
+              numbered = omega (arith, so_far.numbered, reads.reads.numbered going, ap length (cut so_far.bytes bytes so_far.whole), length-append (lines_of so_far.bytes) (lines_of bytes));
               counts = counted_all;
               tells = told_on;
-              told = told_all_lines;
+              told = λ behind more last report.
+                  rw (cut so_far.bytes bytes so_far.whole, append_assoc, append_assoc, append_assoc)
+                  (so_far.told (lines_of bytes ++ behind) (checks.events ++ (misformatted_events group.misformatted ++ more)) last
+                  (reads.reads.told checks.events checks.are.each behind more last report));
             }
 
         -- or is over
-        report_at : (stage : Stage) → Reaches stage old next [] reads.rest
-            → IsReport place options kinds first.layout after.layout old next stage
-            (flat_map (items_of_event options) all ++ last_remarks stage options next_tally) next_tally
-        report_at stage reached = record {
-          lines = lines_of (so_far.bytes ++ reads.reads.bytes);
-          events = all;
-          read = record {
-            bytes = so_far.bytes ++ reads.reads.bytes;
-            rest = reads.rest;
-            behind = [];
-            consumed = consumed_all;
-            cut = elim ends [
-              | inl entire ↦ inl (whole_more so_far.bytes reads.reads.bytes so_far.whole entire)
-              | inr (none, over) ↦ inr (none, ended_since old.left read.left next.left so_far.bytes so_far.consumed over)
-            ];
-            split = sym (append-nil _);
-            reached = reached;
-          };
-          reports = rw (begins, append-nil, append-nil) at (told_all_lines [] [] after.layout (refl, refl));
-          counts = counted_all;
-          said = refl;
-        }
+        report_at : (n : Next) → group.next ≡ n
+            → IsReport place options kinds first.layout after.layout old next (stage_of n)
+            (flat_map (items_of_event options) (so_far.events ++ found) ++ last_remarks (stage_of n) options next_tally) next_tally
+        report_at n is =
+            report_on next reads.reads.bytes reads.rest found (stage_of n) next_tally reads.reads.consumed ends reported
+            (at n (rw is at reads.ended)) counted_all
+          where
+            at : (n : Next) → EndsAs n read next reads.reads.bytes reads.rest → Reaches (stage_of n) old next [] reads.rest
+            at nexts.More over = tt
+            at nexts.Ended over = (refl, over.0, ended_since old.left read.left next.left so_far.bytes so_far.consumed over.1, over.2 ∙ so_far.works)
+            at nexts.Failed over = (refl, over.1, over.2)
 
-        is_ended : group.next ≡ nexts.Ended → Reaches ended old next [] reads.rest
-        is_ended is =
-            let at_end : EndsAs nexts.Ended read next reads.reads.bytes reads.rest = rw is at reads.ended in
-            (refl, at_end.0, ended_since old.left read.left next.left so_far.bytes so_far.consumed at_end.1, at_end.2 ∙ so_far.works)
-
-        is_failed : group.next ≡ nexts.Failed → Reaches failed old next [] reads.rest
-        is_failed is =
-            let at_end : EndsAs nexts.Failed read next reads.reads.bytes reads.rest = rw is at reads.ended in
-            (refl, at_end.1, at_end.2)
-
-        pub checks_ended : (e : Told) (success : Bool) → group.next ≡ nexts.Ended → Tells d e (closing_remarks options next_tally)
-            → success ≡ is_success options next_tally → ChecksList place options kinds first.layout after.layout old next a e success
-        checks_ended e success is said answer = record {
-          stage = ended;
-          items = flat_map (items_of_event options) all ++ closing_remarks options next_tally;
+        pub checks_over : {n : Next} {e : Told} {success : Bool} → group.next ≡ n → stage_of n ≢ among
+            → Tells d e (last_remarks (stage_of n) options next_tally) → success ≡ succeeds (stage_of n) options next_tally
+            → ChecksList place options kinds first.layout after.layout old next a e success
+        checks_over {n} {e} is over said answer = record {
+          stage = stage_of n;
+          items = flat_map (items_of_event options) (so_far.events ++ found) ++ last_remarks (stage_of n) options next_tally;
           tally = next_tally;
-          report = report_at ended (is_ended is);
-          is_over = λ same. cc;
+          report = report_at n is;
+          is_over = over;
           tells = tells_more a d e _ _ told_on said;
           answer = answer;
         }
 
-        pub stops_ended : (e : Told) (fault : Fault) → group.next ≡ nexts.Ended → Stops ⊥ d e (closing_remarks options next_tally) fault
+        pub stops_over : {n : Next} {e : Told} {fault : Fault} → group.next ≡ n → Stops ⊥ d e (last_remarks (stage_of n) options next_tally) fault
             → StopsList place options kinds first.layout old next a e fault
-        stops_ended e fault is stops = record {
-          stage = ended;
-          items = flat_map (items_of_event options) all ++ closing_remarks options next_tally;
+        stops_over {n} {e} {fault} is stops = record {
+          stage = stage_of n;
+          items = flat_map (items_of_event options) (so_far.events ++ found) ++ last_remarks (stage_of n) options next_tally;
           tally = next_tally;
           last = after.layout;
-          report = report_at ended (is_ended is);
-          stops = stops_for _ a e _ fault (stops_after ⊥ a d e _ _ fault told_on stops);
-        }
-
-        pub checks_failed : (e : Told) → group.next ≡ nexts.Failed → Tells d e (about_list complaints.Unreadable ∷ [])
-            → ChecksList place options kinds first.layout after.layout old next a e false
-        checks_failed e is said = record {
-          stage = failed;
-          items = flat_map (items_of_event options) all ++ about_list complaints.Unreadable ∷ [];
-          tally = next_tally;
-          report = report_at failed (is_failed is);
-          is_over = λ same. cc;
-          tells = tells_more a d e _ _ told_on said;
-          answer = refl;
-        }
-
-        pub stops_failed : (e : Told) (fault : Fault) → group.next ≡ nexts.Failed → Stops ⊥ d e (about_list complaints.Unreadable ∷ []) fault
-            → StopsList place options kinds first.layout old next a e fault
-        stops_failed e fault is stops = record {
-          stage = failed;
-          items = flat_map (items_of_event options) all ++ about_list complaints.Unreadable ∷ [];
-          tally = next_tally;
-          last = after.layout;
-          report = report_at failed (is_failed is);
+          report = report_at n is;
           stops = stops_for _ a e _ fault (stops_after ⊥ a d e _ _ fault told_on stops);
         }
 
@@ -420,5 +383,5 @@ pub stops_at_once : {File : Type 0} (place : Place File) (options : Options) (ki
 stops_at_once place options kinds layout list told =
     let cursor : Cursor = record { layout = layout; number = 1 } in
     let (tally, counts) = some_tally [] in
-    stops_reading_list place options kinds cursor cursor list list told told tally (checks_begin place options kinds cursor list told tally counts) refl
-    list NoMemory (record { bytes = []; consumed = Consumes-nil list.left; why = tt })
+    stops_reading_list (checks_begin place options kinds cursor list told tally counts) refl list
+    (record { bytes = []; consumed = Consumes-nil list.left; why = tt })

@@ -1,11 +1,12 @@
 -- Where all is known of a folder, one thing is right.
-use Rattle.std.proofs.Common.{◌≡◌, ◌≢◌, ◌⊎◌, ℕ, zero, suc, ◌+◌, ◌<◌, ◌++◌, List, [], ◌∷◌, length, take, map, flat_map, Option, Some, None, Bool, true, false, All, refl, sym, ap, subst, ◌∙◌, arith, inl, inr, append_assoc}
-use Rattle.std.specs.Prelude.{Result, Ok, MatchBool, unwrap_or}
+use Rattle.std.proofs.Common.{◌≡◌, ◌≢◌, ◌⊎◌, ℕ, ◌+◌, ◌<◌, ◌++◌, List, [], ◌∷◌, length, take, map, flat_map, Option, Some, None, Bool, true, false, All, refl, sym, ap, subst, ◌∙◌, arith, inl, inr, append_assoc, drop}
+use Rattle.ripemd_files.specs.Lines.{line_of, end_of}
+use Rattle.std.specs.Prelude.{Result, Ok, MatchBool, unwrap_or, Err}
 use Rattle.std.specs.List.{list_all}
 use Rattle.std.specs.Io.KnownBytes.{Consumes, IsAtEnd}
 use Rattle.std.specs.declared.io.Error.{Error}
-use Rattle.std.proofs.lemmas.List.{append-nil, length-append}
-use Rattle.std.proofs.lemmas.List.Elements.{All-tail}
+use Rattle.std.proofs.lemmas.List.{append-nil, length-append, take-append-drop}
+use Rattle.std.proofs.lemmas.List.Elements.{All-tail, All-head}
 use Rattle.std.proofs.lemmas.Grind.{flat_map-append}
 use Rattle.std.proofs.Math.Seq.{take-append_seam}
 use Rattle.ripemd.specs.Standard.Hashing.{ripemd}
@@ -21,9 +22,9 @@ use Rattle.ripemd_files.specs.declared.verdict.Verdict.{Verdict}
 use Rattle.ripemd_files.specs.Checking.{Event, IsTally, checked, items_of_event, misformatted, verdict_of, verdict_of_digest}
 use Rattle.ripemd_files.specs.Determined.{EarlyEnd, EarlyPrint, IsFront, IsKnown, Print, Report, Start, list_before}
 use Rattle.ripemd_files.specs.Lists.{IsEventOn, IsReport, Reaches, Reports, Stage, WasRead, among, body_of_line, ended, failed, is_passed_over, last_remarks, layout_after}
-use Rattle.ripemd_files.specs.Printing.{Reading, items_on, was_read}
+use Rattle.ripemd_files.specs.Printing.{Reading, items_on, was_read, Prints}
 use Rattle.ripemd_files.specs.Files.{Breaks, ComesTo, Gives, Place, parameters_of}
-use Rattle.ripemd_files.specs.Said.{Adds, Item}
+use Rattle.ripemd_files.specs.Said.{Adds, Item, AddsFirst, unreadable, written}
 use Rattle.ripemd_files.specs.Splitting.{ListState, lines_of}
 use Rattle.ripemd_files.proofs.Cutting.{cut}
 use Rattle.ripemd_files.proofs.Sayings.{one_line}
@@ -40,11 +41,19 @@ taken_some : (bytes message : List ℕ) (left : Option (List ℕ)) → Consumes 
 taken_some bytes message None taken = absurd taken
 taken_some bytes message (Some rest) taken = omega (arith, ap (λ (l : List ℕ). length l) taken, length-append message rest)
 
--- two outcomes are the same, but for the place of a digest in memory
-abbrev Same : Outcome → Outcome → Type 0
-Same (Digest d) (Digest e) = d.items ≡ e.items
-Same (Refused e) (Refused f) = e ≡ f
-Same _ _ = ⊥
+-- the verdict on a file, and what is printed of it, by what its name gives
+abbrev pub verdict_by : Bool → (List ℕ → List ℕ) → List ℕ → Result (List ℕ) Error → Verdict
+verdict_by ignore_missing hash wanted (Ok given) = verdict_of_digest (hash given) wanted
+verdict_by ignore_missing hash wanted (Err error) = verdict_of ignore_missing wanted (Refused error)
+
+abbrev pub items_by : Style → List ℕ → Result (List ℕ) Error → List Item
+items_by style name (Ok given) =
+    written (line_of style.ending style.form style.variant (ripemd (parameters_of style.variant) given) name ++ end_of style.ending)
+items_by style name (Err error) = unreadable name error ∷ []
+
+abbrev pub is_given : Result (List ℕ) Error → Bool
+is_given (Ok given) = true
+is_given (Err error) = false
 
 module _ {File : Type 0} (place : Place File) (contents : List ℕ → Result (List ℕ) Error) (known : IsKnown place contents) where
   pub given_all : (name message : List ℕ) → Gives (place.opens name) place.left message → contents name ≡ Ok message
@@ -62,31 +71,20 @@ module _ {File : Type 0} (place : Place File) (contents : List ℕ → Result (L
         | inr long ↦ omega (arith, short, long.0, taken_some bytes breaks.bytes (place.left breaks.now) taken)
       ]
 
-  -- reading a file comes to one thing
-  pub one_outcome : (hash : List ℕ → List ℕ) (name : List ℕ) (one other : Outcome) → ComesTo place hash name one
-      → ComesTo place hash name other → Same one other
-  one_outcome hash name (Digest d) (Digest e) (m, gives, is) (n, gave, was) =
-      let same : m ≡ n = cc (sym (given_all name m gives) ∙ given_all name n gave) in
-      is ∙ ap hash same ∙ sym was
-  one_outcome hash name (Digest d) (Refused f) (m, gives, is) b = cc (sym (given_all name m gives) ∙ known.refused name f b)
-  one_outcome hash name (Digest d) (Broken f) a b = not_broken name f b
-  one_outcome hash name (Refused e) (Digest d) a (n, gave, was) = cc (sym (given_all name n gave) ∙ known.refused name e a)
-  one_outcome hash name (Refused e) (Refused f) a b = cc (sym (known.refused name e a) ∙ known.refused name f b)
-  one_outcome hash name (Refused e) (Broken f) a b = not_broken name f b
-  one_outcome hash name (Broken e) other a b = absurd (not_broken name e a)
+  pub verdict_at : (ignore_missing : Bool) (hash : List ℕ → List ℕ) (name wanted : List ℕ) (outcome : Outcome) → ComesTo place hash name outcome
+      → verdict_of ignore_missing wanted outcome ≡ verdict_by ignore_missing hash wanted (contents name)
+  verdict_at ignore_missing hash name wanted (Digest d) (m, gives, is) =
+      rw (given_all name m gives) (ap (λ bytes. verdict_of_digest bytes wanted) is)
+  verdict_at ignore_missing hash name wanted (Refused e) comes = rw (known.refused name e comes) refl
+  verdict_at ignore_missing hash name wanted (Broken e) comes = absurd (not_broken name e comes)
+
+  items_at : (style : Style) (name : List ℕ) (outcome : Outcome) → ComesTo place (ripemd (parameters_of style.variant)) name outcome
+      → (items_on style name outcome ≡ items_by style name (contents name)) × (was_read outcome ≡ is_given (contents name))
+  items_at style name (Digest d) (m, gives, is) = rw (given_all name m gives, is) (refl, refl)
+  items_at style name (Refused e) comes = rw (known.refused name e comes) (refl, refl)
+  items_at style name (Broken e) comes = absurd (not_broken name e comes)
 
 -- ---- lines of a list
-
--- the same outcomes have the same verdict
-one_verdict : (ignore_missing : Bool) (digest : List ℕ) (one other : Outcome) → Same one other
-    → verdict_of ignore_missing digest one ≡ verdict_of ignore_missing digest other
-one_verdict ignore_missing digest (Digest d) (Digest e) same = ap (λ (items : List ℕ). verdict_of_digest items digest) same
-one_verdict ignore_missing digest (Digest d) (Refused f) same = absurd same
-one_verdict ignore_missing digest (Digest d) (Broken f) same = absurd same
-one_verdict ignore_missing digest (Refused e) (Digest d) same = absurd same
-one_verdict ignore_missing digest (Refused e) (Refused f) same = ap (λ (e : Error). verdict_of ignore_missing digest (Refused e)) same
-one_verdict ignore_missing digest (Refused e) (Broken f) same = absurd same
-one_verdict ignore_missing digest (Broken e) other same = absurd same
 
 -- no event, or one that is determined
 one_or_none : (none : Bool) (Is : Event → Type 0) (xs ys : List Event) → ((e f : Event) → Is e → Is f → e ≡ f)
@@ -104,11 +102,11 @@ module _ {File : Type 0} (place : Place File) (contents : List ℕ → Result (L
   one_event layout number text (checked name verdict) (misformatted n) a b = absurd (b.1 a.0 a.1 name a.3)
   one_event layout number text (checked name verdict) (checked other_name other_verdict) a b =
       let one = one_line (unwrap_or layout Standard) (body_of_line text) a.0 b.0 a.1 b.1 name other_name a.3.is_line b.3.is_line in
-      let comes : ComesTo place (ripemd (parameters_of a.0)) name b.2 = rw (one.2, one.0) b.4 in
-      let same : verdict ≡ other_verdict =
-      a.5 ∙ one_verdict ignore_missing a.1 a.2 b.2 (one_outcome place contents known _ name a.2 b.2 a.4 comes)
-      ∙ ap (λ (d : List ℕ). verdict_of ignore_missing d b.2) one.1 ∙ sym b.5 in
-      ap (λ (n : List ℕ). checked n verdict) one.2 ∙ ap (λ (v : Verdict). checked other_name v) same
+      cc (
+        one.0, one.1, one.2,
+        a.5 ∙ verdict_at place contents known ignore_missing _ name a.1 a.2 a.4,
+        b.5 ∙ verdict_at place contents known ignore_missing _ other_name b.1 b.2 b.4,
+      )
 
   -- one list of events comes of the lines of a list
   one_list : (layout : Option Layout) (number : ℕ) (lines : List (List ℕ)) (es fs : List Event) (last other : Option Layout)
@@ -142,18 +140,35 @@ pub grown : (old more : List Item) (new : Option (List Item)) → Adds (Some old
 grown old more None a = absurd a
 grown old more (Some xs) a = ap Some a
 
+-- of more items the first of some were told
+front_told : (before items more all : List Item) (early late : Option (List Item)) → AddsFirst (Some before) early items → Adds (Some before) late all
+    → all ≡ items ++ more → IsFront before early late
+front_told before items more all early late told adds is = record {
+  first = told.first;
+  rest = told.rest ++ more;
+  is_early = grown before told.first early told.adds;
+  is_late = grown before all late adds
+      ∙ ap (λ (l : List Item). Some (before ++ l)) (is ∙ ap (λ (l : List Item). l ++ more) told.split ∙ append_assoc told.first told.rest more);
+}
+
+-- what is told of events, and then the rest, after the first of them
+grouped : (options : Options) (events es fs shown : List Event) (rest : List Item) → events ≡ es ++ fs → es ≡ shown
+    → flat_map (items_of_event options) events ++ rest
+    ≡ (flat_map (items_of_event options) shown ++ []) ++ (flat_map (items_of_event options) fs ++ rest)
+grouped options events es fs shown rest split same = rw (split, ← same, flat_map-append, append-nil, append_assoc) refl
+
 -- ---- lists
 
--- what was read of a list is its front
-front : (list bytes rest : List ℕ) (left : Option (List ℕ)) → Consumes (Some list) left (bytes ++ rest) → bytes ≡ take (length bytes) list
-front list bytes rest None read = absurd read
-front list bytes rest (Some more) read =
-    sym (take-append_seam bytes (rest ++ more)) ∙ ap (λ (l : List ℕ). take (length bytes) l) (sym (read ∙ append_assoc bytes rest more))
-
--- and some of the list stands behind it
+-- some of a list stands behind what was read of it
 behind_front : (list bytes rest : List ℕ) (left : Option (List ℕ)) → Consumes (Some list) left (bytes ++ rest) → (more : List ℕ) × (list ≡ bytes ++ more)
 behind_front list bytes rest None read = absurd read
 behind_front list bytes rest (Some more) read = (rest ++ more, read ∙ append_assoc bytes rest more)
+
+-- which is its front
+front : (list bytes rest : List ℕ) (left : Option (List ℕ)) → Consumes (Some list) left (bytes ++ rest) → bytes ≡ take (length bytes) list
+front list bytes rest left read =
+    let (more, is) = behind_front list bytes rest left read in
+    sym (take-append_seam bytes more) ∙ ap (take (length bytes)) (sym is)
 
 -- all of it was read
 pub all_read : (list bytes rest : List ℕ) (left : Option (List ℕ)) → Consumes (Some list) left (bytes ++ rest) → rest ≡ [] → IsAtEnd left → list ≡ bytes
@@ -170,42 +185,43 @@ first_lines stage start left lines read = elim read.cut [
       (read.behind, ap lines_of (all_read start.list read.bytes read.rest left.left read.consumed none end) ∙ read.split)
 ]
 
+-- or all that were read
+module _ (start : Start) {stage : Stage} {left : ListState} {lines : List (List ℕ)} (read : WasRead stage (list_before start) left lines) where
+  all_of : stage ≢ among → lines_of read.bytes ≡ lines
+  all_of over = read.split ∙ ap (λ l. lines ++ l) (none stage over read.reached) ∙ append-nil lines
+    where
+      none : (stage : Stage) → stage ≢ among → Reaches stage (list_before start) left read.behind read.rest → read.behind ≡ []
+      none among over reached = absurd (over refl)
+      none ended over reached = reached.0
+      none failed over reached = reached.0
+
+  pub lines_to_end : stage ≡ ended → lines_of start.list ≡ lines
+  lines_to_end is =
+      let reached : Reaches ended (list_before start) left read.behind read.rest = rw is at read.reached in
+      ap lines_of (all_read start.list read.bytes read.rest left.left read.consumed reached.1 reached.2) ∙ all_of (λ same. cc)
+
+-- which are the same if all of the list was read, or as much of it
+same_far : (start : Start) {stage other : Stage} {left right : ListState} {lines more : List (List ℕ)}
+    (a : WasRead stage (list_before start) left lines) (b : WasRead other (list_before start) right more) → stage ≡ other → stage ≢ among → other ≢ among
+    → stage ≡ ended ⊎ (length a.bytes ≡ length b.bytes) → lines ≡ more
+same_far start a b same over too (inl is) = sym (lines_to_end start a is) ∙ lines_to_end start b (sym same ∙ is)
+same_far start a b same over too (inr far) =
+    sym (all_of start a over)
+    ∙ ap lines_of (front start.list a.bytes a.rest _ a.consumed ∙ ap (λ (n : ℕ). take n start.list) far
+    ∙ sym (front start.list b.bytes b.rest _ b.consumed))
+    ∙ all_of start b too
+
 module _ {File : Type 0} (place : Place File) (contents : List ℕ → Result (List ℕ) Error) (known : IsKnown place contents)
     (options : Options) (rules : Rules) (first : Option Layout) (start : Start) where
   -- of the same lines one thing is said
-  module _ (stage : Stage) (left other_left : ListState) (last other_last : Option Layout) (xs ys : List Item) (t u : Tally)
+  same_lines : {stage other : Stage} {left right : ListState} {last other_last : Option Layout} {xs ys : List Item} {t u : Tally}
       (a : IsReport place options rules first last (list_before start) left stage xs t)
-      (b : IsReport place options rules first other_last (list_before start) other_left stage ys u) where
-    same_lines : a.lines ≡ b.lines → (last ≡ other_last) × (t ≡ u) × (xs ≡ ys)
-    same_lines same =
-        let come = one_list place contents known options.ignore_missing rules first 1 a.lines a.events b.events last other_last a.reports (rw same b.reports) in
-        let tally : t ≡ u = one_tally b.events t u (subst (λ es. IsTally es t) come.0 a.counts) b.counts in
-        (come.1, tally, cc (a.said, b.said, come.0, tally))
-
-    -- which are the same if all of the list was read, or as much of it
-    same_far : stage ≢ among → stage ≡ ended ⊎ (length a.read.bytes ≡ length b.read.bytes) → a.lines ≡ b.lines
-    same_far over far =
-        let here = all_lines stage over a.read.behind a.read.rest left a.read.reached in
-        let there = all_lines stage over b.read.behind b.read.rest other_left b.read.reached in
-        sym (append-nil a.lines) ∙ ap (λ l. a.lines ++ l) (sym here) ∙ sym a.read.split ∙ ap lines_of (same_bytes far)
-        ∙ b.read.split ∙ ap (λ l. b.lines ++ l) there ∙ append-nil b.lines
-      where
-        all_lines : (stage : Stage) → stage ≢ among → (behind : List (List ℕ)) (rest : List ℕ) (left : ListState)
-            → Reaches stage (list_before start) left behind rest → behind ≡ []
-        all_lines among over behind rest left reached = absurd (over refl)
-        all_lines ended over behind rest left reached = reached.0
-        all_lines failed over behind rest left reached = reached.0
-
-        same_bytes : stage ≡ ended ⊎ (length a.read.bytes ≡ length b.read.bytes) → a.read.bytes ≡ b.read.bytes
-        same_bytes (inl is) =
-            let here : Reaches ended (list_before start) left a.read.behind a.read.rest = rw is at a.read.reached in
-            let there : Reaches ended (list_before start) other_left b.read.behind b.read.rest = rw is at b.read.reached in
-            sym (all_read start.list a.read.bytes a.read.rest left.left a.read.consumed here.1 here.2)
-            ∙ all_read start.list b.read.bytes b.read.rest other_left.left b.read.consumed there.1 there.2
-        same_bytes (inr far) =
-            front start.list a.read.bytes a.read.rest left.left a.read.consumed
-            ∙ ap (λ (n : ℕ). take n start.list) far
-            ∙ sym (front start.list b.read.bytes b.read.rest other_left.left b.read.consumed)
+      (b : IsReport place options rules first other_last (list_before start) right other ys u)
+      → stage ≡ other → a.lines ≡ b.lines → (last ≡ other_last) × (t ≡ u) × (xs ≡ ys)
+  same_lines {last = last} {other_last = other_last} {t = t} {u = u} a b both same =
+      let come = one_list place contents known options.ignore_missing rules first 1 a.lines a.events b.events last other_last a.reports (rw same b.reports) in
+      let tally : t ≡ u = one_tally b.events t u (subst (λ es. IsTally es t) come.0 a.counts) b.counts in
+      (come.1, tally, cc (a.said, b.said, come.0, tally, both))
 
   pub one_report : (one other : Report place options rules first start) → one.checks.stage ≡ other.checks.stage
       → one.checks.stage ≡ ended ⊎ (length one.checks.report.read.bytes ≡ length other.checks.report.read.bytes)
@@ -213,14 +229,7 @@ module _ {File : Type 0} (place : Place File) (contents : List ℕ → Result (L
   one_report one other same far =
       let a = one.checks in
       let b = other.checks in
-      let said =
-      subst (λ stage. (r : IsReport place options rules first other.last (list_before start) other.left stage b.items b.tally)
-      → a.stage ≡ ended ⊎ (length a.report.read.bytes ≡ length r.read.bytes) → (one.last ≡ other.last) × (a.tally ≡ b.tally) × (a.items ≡ b.items))
-      same
-      (λ r far.
-      same_lines a.stage one.left other.left one.last other.last a.items b.items a.tally b.tally a.report r
-      (same_far a.stage one.left other.left one.last other.last a.items b.items a.tally b.tally a.report r a.is_over far))
-      b.report far in
+      let said = same_lines a.report b.report same (same_far start a.report.read b.report.read same a.is_over b.is_over far) in
       (said.0, one_growth start.items a.items b.items one.told.items other.told.items said.2 a.tells.adds b.tells.adds, cc (a.answer, b.answer, same, said.1))
 
   -- what comes of the front of some lines
@@ -244,125 +253,73 @@ module _ {File : Type 0} (place : Place File) (contents : List ℕ → Result (L
           → IsReport place options rules first end.stops.last (list_before start) end.left stage end.stops.items end.stops.tally
       b stage is = rw is at end.stops.report
 
-      front_of : (items more : List Item) → items ≡ end.stops.items ++ more → one.checks.items ≡ items → IsFront start.items end.told.items one.told.items
-      front_of items more is same =
-          let told = end.stops.stops.told in
-          record {
-            first = told.first;
-            rest = told.rest ++ more;
-            is_early = grown start.items told.first end.told.items told.adds;
-            is_late = grown start.items one.checks.items one.told.items one.checks.tells.adds
-                ∙ ap (λ (l : List Item). Some (start.items ++ l)) (same ∙ is ∙ ap (λ (l : List Item). l ++ more) told.split ∙ append_assoc told.first told.rest more);
-          }
-
-      all_lines : lines_of start.list ≡ a.lines
-      all_lines =
-          ap lines_of (all_read start.list a.read.bytes a.read.rest one.left.left a.read.consumed a.read.reached.1 a.read.reached.2)
-          ∙ a.read.split ∙ ap (λ l. a.lines ++ l) a.read.reached.0 ∙ append-nil a.lines
+      front_of : (more : List Item) → one.checks.items ≡ end.stops.items ++ more → IsFront start.items end.told.items one.told.items
+      front_of more is =
+          front_told start.items end.stops.items more one.checks.items end.told.items one.told.items end.stops.stops.told one.checks.tells.adds is
 
       at : (stage : Stage) → end.stops.stage ≡ stage → IsFront start.items end.told.items one.told.items
       at among is =
           let report = b among is in
           let (more, lines) = first_lines among start end.left report.lines report.read in
-          let reports : Reports place options.ignore_missing rules first 1 (report.lines ++ more) a.events one.last = rw (← lines, all_lines) a.reports in
+          let reports : Reports place options.ignore_missing rules first 1 (report.lines ++ more) a.events one.last =
+          rw (← lines, lines_to_end start a.read refl) a.reports in
           let (es, fs, mid, split, come) = reports_front first 1 report.lines more a.events one.last reports in
           let same = (one_list place contents known options.ignore_missing rules first 1 report.lines es report.events mid end.stops.last come report.reports).0 in
-          front_of one.checks.items (flat_map (items_of_event options) fs ++ last_remarks ended options one.checks.tally)
-          (
-          a.said
-          ∙ ap (λ l. flat_map (items_of_event options) l ++ last_remarks ended options one.checks.tally) split
-          ∙ ap (λ l. l ++ last_remarks ended options one.checks.tally) (flat_map-append (items_of_event options) es fs)
-          ∙ append_assoc (flat_map (items_of_event options) es) (flat_map (items_of_event options) fs) (last_remarks ended options one.checks.tally)
-          ∙ ap (λ l. l ++ (flat_map (items_of_event options) fs ++ last_remarks ended options one.checks.tally))
-          (ap (flat_map (items_of_event options)) same ∙ sym (append-nil (flat_map (items_of_event options) report.events)) ∙ sym report.said)
-          )
-          refl
+          let rest = last_remarks ended options one.checks.tally in
+          front_of (flat_map (items_of_event options) fs ++ rest)
+          (a.said ∙ grouped options a.events es fs report.events rest split same
+          ∙ ap (λ l. l ++ (flat_map (items_of_event options) fs ++ rest)) (sym report.said))
       at ended is =
           let report = b ended is in
-          let lines = same_far ended one.left end.left one.last end.stops.last one.checks.items end.stops.items one.checks.tally end.stops.tally a report (λ e. cc) (inl refl) in
-          let said = same_lines ended one.left end.left one.last end.stops.last one.checks.items end.stops.items one.checks.tally end.stops.tally a report lines in
-          front_of end.stops.items [] (sym (append-nil end.stops.items)) said.2
+          let said = same_lines a report refl (sym (lines_to_end start a.read refl) ∙ lines_to_end start report.read refl) in
+          front_of [] (said.2 ∙ sym (append-nil end.stops.items))
       at failed is = absurd (works is)
 
 -- ---- files that are printed
-
-one_reading : (style : Style) (name : List ℕ) (one other : Outcome) → Same one other
-    → (items_on style name one ≡ items_on style name other) × (was_read one ≡ was_read other)
-one_reading style name (Digest d) (Digest e) same = (rw same refl, refl)
-one_reading style name (Digest d) (Refused f) same = absurd same
-one_reading style name (Digest d) (Broken f) same = absurd same
-one_reading style name (Refused e) (Digest d) same = absurd same
-one_reading style name (Refused e) (Refused f) same = (rw same refl, refl)
-one_reading style name (Refused e) (Broken f) same = absurd same
-one_reading style name (Broken e) other same = absurd same
 
 module _ {File : Type 0} (place : Place File) (contents : List ℕ → Result (List ℕ) Error) (known : IsKnown place contents) (style : Style) where
   abbrev IsRead : Reading → Type 0
   IsRead r = ComesTo place (ripemd (parameters_of style.variant)) r.name r.outcome
 
-  abbrev items : List Reading → List Item
-  items = flat_map (λ (r : Reading). items_on style r.name r.outcome)
+  abbrev pub items : List (List ℕ) → List Item
+  items = flat_map (λ (name : List ℕ). items_by style name (contents name))
 
-  abbrev all_were_read : List Reading → Bool
-  all_were_read = list_all (λ (r : Reading). was_read r.outcome)
+  abbrev pub are_given : List (List ℕ) → Bool
+  are_given = list_all (λ (name : List ℕ). is_given (contents name))
 
-  abbrev names : List Reading → List (List ℕ)
-  names = map (λ (r : Reading). r.name)
+  of_readings : (rs : List Reading) → All IsRead rs
+      → (flat_map (λ (r : Reading). items_on style r.name r.outcome) rs ≡ items (map (λ (r : Reading). r.name) rs))
+      × (list_all (λ (r : Reading). was_read r.outcome) rs ≡ are_given (map (λ (r : Reading). r.name) rs))
+  of_readings [] read = (refl, refl)
+  of_readings (r ∷ rs) read =
+      let here = items_at place contents known style r.name r.outcome (All-head IsRead r rs read) in
+      let more = of_readings rs (All-tail IsRead r rs read) in
+      (rw (here.0, more.0) refl, rw (here.1, more.1) refl)
 
-  one_print_of : (rs ss : List Reading) → names rs ≡ names ss → All IsRead rs → All IsRead ss
-      → (items rs ≡ items ss) × (all_were_read rs ≡ all_were_read ss)
-  one_print_of [] [] named a b = (refl, refl)
-  one_print_of [] (s ∷ ss) named a b = cc named
-  one_print_of (r ∷ rs) [] named a b = cc named
-  one_print_of (r ∷ rs) (s ∷ ss) named a b =
-      let name : r.name ≡ s.name = cc named in
-      let others : names rs ≡ names ss = cc named in
-      let comes : ComesTo place (ripemd (parameters_of style.variant)) r.name s.outcome = rw name (b 0 s (omega arith)) in
-      let same = one_reading style r.name r.outcome s.outcome (one_outcome place contents known _ r.name r.outcome s.outcome (a 0 r (omega arith)) comes) in
-      let more = one_print_of rs ss others (All-tail IsRead r rs a) (All-tail IsRead s ss b) in
-      (rw (same.0, name, more.0) refl, rw (same.1, more.1) refl)
+  -- what is printed of files is by what their names give
+  pub prints_by : (names : List (List ℕ)) (told : List Item) (all : Bool) → Prints place style names told all
+      → (told ≡ items names) × (all ≡ are_given names)
+  prints_by names told all prints =
+      let come = of_readings prints.readings prints.each in
+      (prints.said ∙ come.0 ∙ ap items prints.named, prints.answer ∙ come.1 ∙ ap are_given prints.named)
 
   pub one_print : (files : List (List ℕ)) (before : List Item) (failure : Option Error)
       (one other : Print place style files (record { items = Some before; failure = failure }))
       → (one.told.items ≡ other.told.items) × (one.all ≡ other.all)
   one_print files before failure one other =
-      let a = one.prints in
-      let b = other.prints in
-      let come = one_print_of a.prints.readings b.prints.readings (a.prints.named ∙ sym b.prints.named) a.prints.each b.prints.each in (
-        one_growth before a.items b.items one.told.items other.told.items (a.prints.said ∙ come.0 ∙ sym b.prints.said) a.tells.adds b.tells.adds,
-        a.prints.answer ∙ come.1 ∙ sym b.prints.answer,
-      )
-
-  front_of_print : (count : ℕ) (rs ss : List Reading) → names rs ≡ take count (names ss) → All IsRead rs → All IsRead ss
-      → (more : List Item) × (items ss ≡ items rs ++ more)
-  front_of_print zero [] ss named a b = (items ss, refl)
-  front_of_print zero (r ∷ rs) ss named a b = absurd cc
-  front_of_print (suc count) [] [] named a b = ([], refl)
-  front_of_print (suc count) (r ∷ rs) [] named a b = absurd cc
-  front_of_print (suc count) [] (s ∷ ss) named a b = absurd cc
-  front_of_print (suc count) (r ∷ rs) (s ∷ ss) named a b =
-      let name : r.name ≡ s.name = cc named in
-      let others : names rs ≡ take count (names ss) = cc named in
-      let comes : ComesTo place (ripemd (parameters_of style.variant)) r.name s.outcome = rw name (b 0 s (omega arith)) in
-      let same = (one_reading style r.name r.outcome s.outcome (one_outcome place contents known _ r.name r.outcome s.outcome (a 0 r (omega arith)) comes)).0 in
-      let (more, is) = front_of_print count rs ss others (All-tail IsRead r rs a) (All-tail IsRead s ss b) in (
-        more,
-        ap (λ n. items_on style n s.outcome ++ items ss) (sym name) ∙ ap (λ l. l ++ items ss) (sym same) ∙ ap (λ l. items_on style r.name r.outcome ++ l) is
-            ∙ sym (append_assoc (items_on style r.name r.outcome) (items rs) more),
-      )
+      let a = prints_by files one.prints.items one.all one.prints.prints in
+      let b = prints_by files other.prints.items other.all other.prints.prints in
+      (one_growth before _ _ _ _ (a.0 ∙ sym b.0) one.prints.tells.adds other.prints.tells.adds, a.1 ∙ sym b.1)
 
   pub early_print : (files : List (List ℕ)) (before : List Item) (failure : Option Error)
       (one : Print place style files (record { items = Some before; failure = failure }))
       (end : EarlyPrint place style files (record { items = Some before; failure = failure })) → IsFront before end.told.items one.told.items
   early_print files before failure one end =
-      let a = one.prints in
       let b = end.prints in
-      let told = b.stops.told in
-      let (more, is) = front_of_print b.count b.prints.readings a.prints.readings (b.prints.named ∙ ap (take b.count) (sym a.prints.named)) b.prints.each a.prints.each in
-      record {
-        first = told.first;
-        rest = told.rest ++ more;
-        is_early = grown before told.first end.told.items told.adds;
-        is_late = grown before a.items one.told.items a.tells.adds
-            ∙ ap (λ (l : List Item). Some (before ++ l)) (a.prints.said ∙ is ∙ ap (λ l. l ++ more) (sym b.prints.said ∙ told.split) ∙ append_assoc told.first told.rest more);
-      }
+      let back = drop b.count files in
+      front_told before b.items (items back) one.prints.items end.told.items one.told.items b.stops.told one.prints.tells.adds
+      (
+      (prints_by files one.prints.items one.all one.prints.prints).0 ∙ ap items (sym (take-append-drop b.count files))
+      ∙ flat_map-append (λ (name : List ℕ). items_by style name (contents name)) (take b.count files) back
+      ∙ ap (λ l. l ++ items back) (sym (prints_by (take b.count files) b.items b.all b.prints).0)
+      )

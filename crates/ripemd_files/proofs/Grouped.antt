@@ -31,7 +31,7 @@ module _ {File : Type 0} (place : Place File) (ignore_missing : Bool) (kinds : R
   }
 
   -- what comes of all of them
-  pub first_of_all : (cursor : Cursor) (lines : List (List ℕ)) (events : List Event) (last : Option Layout)
+  abbrev pub first_of_all : (cursor : Cursor) (lines : List (List ℕ)) (events : List Event) (last : Option Layout)
       → ReportsFrom place ignore_missing kinds cursor lines events last → ReportsFirst place ignore_missing kinds cursor lines events
   first_of_all cursor lines events last reports =
       record { first = lines; back = []; split = sym (append-nil lines); last = last; reports = reports }
@@ -57,9 +57,8 @@ module _ {File : Type 0} (place : Place File) (ignore_missing : Bool) (kinds : R
       none : (count : ℕ) (events : List Event) → AllZip (IsEventOf place ignore_missing) (take count []) events
           → ReportsFirst place ignore_missing kinds cursor [] events
       none zero [] zipped = first_of_all cursor [] [] cursor.layout (refl, refl)
-      none zero (e ∷ es) zipped = absurd zipped
       none (suc n) [] zipped = first_of_all cursor [] [] cursor.layout (refl, refl)
-      none (suc n) (e ∷ es) zipped = absurd zipped
+      none _ _ zipped = absurd zipped
 
   module _ (old now next : Option (List ℕ)) (before cursor : Cursor) (lines : List Line)
       (so_far : ReadsLines place ignore_missing kinds old now before cursor lines [] true []) where
@@ -91,13 +90,10 @@ module _ {File : Type 0} (place : Place File) (ignore_missing : Bool) (kinds : R
         | inl same ↦ earlier (rw same at zipped)
         | inr (line, grown, good) ↦ elim (cases_lt (length lines) count) [
           | inr within ↦ earlier (rw (grown, take-append-le count lines (line ∷ []) within) at zipped)
-          | inl past ↦ all good (rw (take_all count others (omega (arith, past, length_grown line grown))) at zipped)
+          | inl past ↦ all good (rw (take_all count others (omega (arith, past, ap length grown, length-append lines (line ∷ [])))) at zipped)
         ]
       ]
         where
-          length_grown : (line : Line) → others ≡ lines ++ line ∷ [] → length others ≡ length lines + 1
-          length_grown line grown = ap length grown ∙ length-append lines (line ∷ [])
-
           earlier : AllZip (IsEventOf place ignore_missing) (take count lines) events
               → ReportsFirst place ignore_missing kinds before (lines_of (so_far.bytes ++ tail)) events
           earlier of_those = rw all_lines (first_of_more before (lines_of so_far.bytes) (text ∷ []) events (so_far.partly count events of_those))

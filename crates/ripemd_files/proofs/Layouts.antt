@@ -1,48 +1,26 @@
 -- The layout that is found is the one that a line has.
-use Rattle.std.proofs.Common.{◌≡◌, ℕ, ◌*◌, Bool, true, false, List, ◌∷◌, ◌++◌, length, Option, Some, None, refl, sym, ap, subst, ◌∙◌, cond, inl, inr, arith}
-use Rattle.std.specs.Prelude.{is_some, IfSome}
+use Rattle.std.proofs.Common.{◌≡◌, ℕ, ◌*◌, Bool, true, List, ◌++◌, length, Option, Some, None, refl, sym, ap, ◌∙◌, inl, arith}
+use Rattle.std.specs.Prelude.{IfSome}
 use Rattle.std.specs.List.{list_all}
-use Rattle.std.proofs.lemmas.Bool.{and_parts, eq-eqb, eqb-true}
-use Rattle.std.proofs.lemmas.Bool.Decides.{eqb_tells}
+use Rattle.std.proofs.lemmas.Bool.{and_parts, false_from_ne_true, eq-eqb, eqb-true}
+use Rattle.std.proofs.lemmas.Bool.Decides.{nat_tests}
 use Rattle.std.proofs.lemmas.List.Sums.{AllPass-from_list_all}
-use Rattle.std.proofs.lemmas.Option.{same_Some, option_and_then_some}
+use Rattle.std.proofs.lemmas.Option.{same_Some}
 use Rattle.hex.specs.Hex.{is_hex_digit}
 use Rattle.hex.proofs.HexLemmas.{decode_of-digits}
 use Rattle.ripemd_files.specs.declared.line.Variant.{Variant}
 use Rattle.ripemd_files.specs.declared.line.Layout.{Layout}
 use Rattle.ripemd_files.specs.declared.line.Layout.TheVariants.{Standard, Reversed}
-use Rattle.ripemd_files.specs.Lines.{size_of, IsDigest, mark_of}
-use Rattle.ripemd_files.specs.Reading.{Found, skip_blanks, split_blank, strip_mark, strip_tag, variant_of, text_at, untagged_at}
+use Rattle.ripemd_files.specs.Lines.{size_of}
+use Rattle.ripemd_files.specs.Reading.{Found, skip_blanks, strip_mark, strip_tag, variant_of, untagged_at}
 use Rattle.ripemd_files.specs.Layouts.{has_digits, is_wanted_length, layout_at, layout_of, HasLayout}
-use Rattle.ripemd_files.proofs.Bodies.{skip_blanks-sound, digits_of, starts, starts-form, strip_tag-none, untagged_at-sound, untagged_at-form, variant_of-size}
+use Rattle.ripemd_files.proofs.Bodies.{no_tag, skip_blanks-sound, digits_of, starts-form, untagged_at-sound, untagged_at-form, variant_of-size}
 use Rattle.ripemd_files.proofs.Sayings.{marked-front, strip_mark-sound}
 
 -- ---- the number of digits
 
 variant_of-count : (count : ℕ) (variant : Variant) → variant_of count ≡ Some variant → count ≡ 2 * size_of variant
-variant_of-count count variant e =
-    elim (eqb_tells count 32) [
-      | inl is ↦ subst (λ (v : Variant). count ≡ 2 * size_of v) (same_Some _ _ (rw is.0 at e)) is.1
-      | inr other ↦ elim (eqb_tells count 40) [
-        | inl is ↦ subst (λ (v : Variant). count ≡ 2 * size_of v) (same_Some _ _ (rw (other.0, is.0) at e)) is.1
-        | inr other2 ↦ elim (eqb_tells count 64) [
-          | inl is ↦ subst (λ (v : Variant). count ≡ 2 * size_of v) (same_Some _ _ (rw (other.0, other2.0, is.0) at e)) is.1
-          | inr other3 ↦ elim (eqb_tells count 80) [
-            | inl is ↦ subst (λ (v : Variant). count ≡ 2 * size_of v) (same_Some _ _ (rw (other.0, other2.0, other3.0, is.0) at e)) is.1
-            | inr other4 ↦ let none : None ≡ Some variant = rw (other.0, other2.0, other3.0, other4.0) at e in absurd cc
-          ]
-        ]
-      ]
-    ]
-
-untagged_at-variant : (layout : Layout) (body : List ℕ) (found : Found) → untagged_at layout body ≡ Some found
-    → variant_of (length found.digits) ≡ Some found.variant
-unfolding untagged_at
-untagged_at-variant layout body found e =
-    option_and_then_some _ (split_blank body) found e (λ parts split e2.
-    option_and_then_some _ (variant_of (length parts.0)) found e2 (λ variant is e3.
-    option_and_then_some _ (text_at layout parts.1) found e3 (λ text named e4.
-    subst (λ (f : Found). variant_of (length f.digits) ≡ Some f.variant) (same_Some _ _ e4) is)))
+variant_of-count count variant e = grind (arith, nat_tests)
 
 -- the number that counts is that of the variant
 wanted_of : (only : Option Variant) (variant : Variant) (count : ℕ) → is_wanted_length only count ≡ true → variant_of count ≡ Some variant
@@ -54,13 +32,6 @@ is_wanted_length-of : (only : Option Variant) (variant : Variant) (count : ℕ) 
     → is_wanted_length only count ≡ true
 is_wanted_length-of None variant count same twice = refl
 is_wanted_length-of (Some one) variant count same twice = eq-eqb count (2 * size_of one) (twice ∙ ap (λ (v : Variant). 2 * size_of v) (sym same))
-
--- digits of the right number are those of a digest
-digest_of : (variant : Variant) (digits : List ℕ) → length digits ≡ 2 * size_of variant → list_all is_hex_digit digits ≡ true
-    → (digest : List ℕ) × IsDigest variant digits digest
-digest_of variant digits twice are =
-    let decoded = decode_of-digits digits (omega arith) (AllPass-from_list_all is_hex_digit digits are) in
-    (decoded.0, record { twice = twice; bytes = decoded.1 })
 
 -- ---- what is found is there
 
@@ -76,80 +47,56 @@ has_layout only layout line = go (untagged_at layout (strip_mark (skip_blanks li
         let marked = strip_mark (skip_blanks line) in
         let indent = skip_blanks-sound line in
         let parts = and_parts (is_wanted_length only (length found.digits)) (list_all is_hex_digit found.digits) has in
-        let variant = untagged_at-variant layout marked.1 found is in
-        let digest = digest_of found.variant found.digits (variant_of-count _ _ variant) parts.1 in
+        let (form, variant) = untagged_at-sound layout marked.1 found is in
+        let twice = variant_of-count _ _ variant in
+        let (digest, decoded) = decode_of-digits found.digits (omega (arith, twice)) (AllPass-from_list_all is_hex_digit found.digits parts.1) in
         record {
           indent = indent.0;
           marked = marked.0;
           body = marked.1;
           variant = found.variant;
           digits = found.digits;
-          digest = digest.0;
+          digest = digest;
           text = found.text;
           is_indent = indent.1;
           whole = indent.2 ∙ ap (λ (back : List ℕ). indent.0 ++ back) (strip_mark-sound (skip_blanks line));
-          form = untagged_at-sound layout marked.1 found is;
-          is_digest = digest.1;
+          form = form;
+          is_digest = record { twice = twice; bytes = decoded };
           counted = wanted_of only found.variant (length found.digits) parts.0 variant;
         }
 
 pub layout_of-found : (only : Option Variant) (layout : Layout) (line : List ℕ) → layout_of only line ≡ Some layout → HasLayout only layout line
 unfolding layout_at
 layout_of-found only layout line e =
-    let body = (strip_mark (skip_blanks line)).1 in
-    go (is_some (strip_tag body)) (has_digits only (untagged_at Standard body)) (has_digits only (untagged_at Reversed body)) refl refl e
-  where
-    go : (tagged standard reversed : Bool) → has_digits only (untagged_at Standard (strip_mark (skip_blanks line)).1) ≡ standard
-        → has_digits only (untagged_at Reversed (strip_mark (skip_blanks line)).1) ≡ reversed
-        → cond tagged None (cond standard (Some Standard) (cond reversed (Some Reversed) None)) ≡ Some layout → HasLayout only layout line
-    go true standard reversed s r e = absurd cc
-    go false true reversed s r e = subst (λ (l : Layout). HasLayout only l line) (same_Some _ _ e) (has_layout only Standard line s)
-    go false false true s r e = subst (λ (l : Layout). HasLayout only l line) (same_Some _ _ e) (has_layout only Reversed line r)
-    go false false false s r e = absurd cc
+    grind (arith, has_layout only Standard line, has_layout only Reversed line)
 
 -- ---- what is there is found
 
-body_found : (only : Option Variant) (layout : Layout) (line : List ℕ) → (h : HasLayout only layout line)
-    → (strip_mark (skip_blanks line)).1 ≡ h.body
-body_found only layout line h =
-    let first = starts-form layout h.body h.variant h.digits h.digest h.text (inl h.form) h.is_digest in
-    ap (λ (l : List ℕ). (strip_mark (skip_blanks l)).1) (h.whole ∙ ap (λ (body : List ℕ). h.indent ++ (mark_of h.marked ++ body)) first.2)
-    ∙ ap (λ (p : Bool × List ℕ). p.1) (marked-front h.indent h.marked first.0 first.1 h.is_indent first.3 first.4) ∙ sym first.2
+module _ {only : Option Variant} {layout : Layout} {line : List ℕ} (h : HasLayout only layout line) where
+  body_found : (strip_mark (skip_blanks line)).1 ≡ h.body
+  body_found =
+      let starts = starts-form layout h.body h.variant h.digits h.digest h.text (inl h.form) h.is_digest in
+      ap (λ (l : List ℕ). (strip_mark (skip_blanks l)).1) h.whole
+      ∙ ap (λ (p : Bool × List ℕ). p.1) (marked-front h.indent h.marked h.body h.is_indent starts)
 
--- it has no tag
-no_tag : (only : Option Variant) (layout : Layout) (line : List ℕ) → (h : HasLayout only layout line)
-    → strip_tag (strip_mark (skip_blanks line)).1 ≡ None
-no_tag only layout line h =
-    let first = starts h.variant h.digits h.digest h.is_digest in
-    let behind = h.form.separator ++ h.text in
-    let whole : h.body ≡ first.0 ∷ (first.1 ++ behind) = h.form.whole ∙ ap (λ (front : List ℕ). front ++ behind) first.2 in
-    ap strip_tag (body_found only layout line h ∙ whole) ∙ strip_tag-none first.0 (first.1 ++ behind) first.3.no_tag
+  no_tag_found : strip_tag (strip_mark (skip_blanks line)).1 ≡ None
+  no_tag_found = ap strip_tag body_found ∙ no_tag layout h.body h.variant h.digits h.digest h.text h.form h.is_digest
 
-digits_found : (only : Option Variant) (layout : Layout) (line : List ℕ) → HasLayout only layout line
-    → has_digits only (untagged_at layout (strip_mark (skip_blanks line)).1) ≡ true
-digits_found only layout line h =
-    rw (
-      body_found only layout line h,
-      untagged_at-form layout h.body h.variant h.digits h.digest h.text h.form h.is_digest,
-      is_wanted_length-of only h.variant (length h.digits) h.counted h.is_digest.twice,
-      digits_of h.variant h.digits h.digest h.is_digest,
-    ) refl
+  digits_found : has_digits only (untagged_at layout (strip_mark (skip_blanks line)).1) ≡ true
+  digits_found =
+      rw (
+        body_found,
+        untagged_at-form layout h.body h.variant h.digits h.digest h.text h.form h.is_digest,
+        is_wanted_length-of only h.variant (length h.digits) h.counted h.is_digest.twice,
+        digits_of h.variant h.digits h.digest h.is_digest,
+      ) refl
 
 pub layout_of-standard : (only : Option Variant) (line : List ℕ) → HasLayout only Standard line → layout_of only line ≡ Some Standard
 unfolding layout_at
-layout_of-standard only line h = rw (no_tag only Standard line h, digits_found only Standard line h) refl
+layout_of-standard only line h = rw (no_tag_found h, digits_found h) refl
 
 pub layout_of-reversed : (only : Option Variant) (line : List ℕ) → HasLayout only Reversed line → ¬ HasLayout only Standard line
     → layout_of only line ≡ Some Reversed
 unfolding layout_at
 layout_of-reversed only line h other =
-    rw (
-      no_tag only Reversed line h,
-      not_standard (has_digits only (untagged_at Standard (strip_mark (skip_blanks line)).1)) refl,
-      digits_found only Reversed line h,
-    ) refl
-  where
-    not_standard : (has : Bool) → has_digits only (untagged_at Standard (strip_mark (skip_blanks line)).1) ≡ has
-        → has_digits only (untagged_at Standard (strip_mark (skip_blanks line)).1) ≡ false
-    not_standard true is = absurd (other (has_layout only Standard line is))
-    not_standard false is = is
+    rw (no_tag_found h, false_from_ne_true _ (λ is. other (has_layout only Standard line is)), digits_found h) refl

@@ -1,5 +1,5 @@
 -- What comes of the lines of a list, one after another.
-use Rattle.std.proofs.Common.{rules, ◌≡◌, ◌≢◌, ℕ, ◌+◌, List, [], ◌∷◌, ◌++◌, codes, Option, Some, None, unwrap_or, Bool, true, false, IsTrue, MatchBool, refl, sym, inl, inr}
+use Rattle.std.proofs.Common.{◌≡◌, ◌≢◌, ℕ, ◌+◌, List, [], ◌∷◌, ◌++◌, codes, Option, Some, None, unwrap_or, Bool, IsTrue, refl, sym, inl, inr}
 use Rattle.std.specs.Prelude.{IsFalse, option_map}
 use Rattle.std.proofs.lemmas.List.{append-nil}
 use Rattle.ripemd_files.specs.declared.line.Variant.{Variant}
@@ -47,14 +47,6 @@ module _ (kinds : Rules) (layout : Option Layout) (text : List ℕ) (found : Opt
 
 -- ---- what comes of it
 
-match_false : (A B : Type 0) (b : Bool) → IsFalse b → B → MatchBool b A B
-match_false A B true is both = absurd (search (rules, is))
-match_false A B false is both = both
-
-match_true : (A B : Type 0) (b : Bool) → IsTrue b → A → MatchBool b A B
-match_true A B true is both = both
-match_true A B false is both = absurd (search (rules, is))
-
 module _ {File : Type 0} (place : Place File) (ignore_missing : Bool) (kinds : Rules) (before after : Cursor) (text : List ℕ)
     (next : after.layout ≡ layout_after kinds before.layout text) (step : after.number ≡ before.number + 1) where
   -- the report goes on with these events
@@ -72,7 +64,7 @@ module _ {File : Type 0} (place : Place File) (ignore_missing : Bool) (kinds : R
   pub takes_skipped : IsTrue (is_passed_over text) → (lines : List Line) → Takes place ignore_missing kinds before after text lines lines None
   takes_skipped skipped lines = record {
     told = λ events zipped.
-        (events, [], sym (append-nil events), zipped, goes_on [] (match_true _ _ (is_passed_over text) skipped refl));
+        (events, [], sym (append-nil events), zipped, goes_on [] (rw skipped refl));
     grown = inl refl;
   }
 
@@ -85,7 +77,7 @@ module _ {File : Type 0} (place : Place File) (ignore_missing : Bool) (kinds : R
       sym (append-nil events),
       zipped,
       goes_on (misformatted before.number ∷ [])
-          (match_false _ _ (is_passed_over text) counts (misformatted before.number, refl, (refl, entry))),
+          (rw counts (misformatted before.number, refl, (refl, entry))),
     );
     grown = inl refl;
   }
@@ -100,11 +92,7 @@ module _ {File : Type 0} (place : Place File) (ignore_missing : Bool) (kinds : R
           same,
           first,
           goes_on (event ∷ [])
-              (match_false _ _ (is_passed_over text) counts (
-                event,
-                refl,
-                rw both.2 (line.variant, line.digest.items, both.0, entry, both.1, refl),
-              )),
+              (rw counts (event, refl, rw both.2 (line.variant, line.digest.items, both.0, entry, both.1, refl))),
         );
     grown = inr (line, refl, refl);
   }

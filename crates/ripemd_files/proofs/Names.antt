@@ -1,17 +1,12 @@
 -- What is read of a text is the name that it spells, and the other way round.
-use Rattle.std.proofs.Common.{◌≡◌, ℕ, Bool, true, false, cond, List, [], ◌∷◌, ◌++◌, Option, Some, None, refl, sym, ap, subst, ◌∙◌, inl, inr, eqb}
-use Rattle.std.specs.Prelude.{option_map, option_and_then, MatchBool}
+use Rattle.std.proofs.Common.{◌≡◌, ℕ, Bool, true, false, List, [], ◌∷◌, ◌++◌, Option, Some, None, refl, sym, ap, subst, ◌∙◌, inl, inr, eqb, arith}
+use Rattle.std.specs.Prelude.{option_map, MatchBool}
 use Rattle.std.specs.List.{list_any}
 use Rattle.std.proofs.lemmas.Bool.{ne_eqb}
-use Rattle.std.proofs.lemmas.Bool.Decides.{eqb_tells}
-use Rattle.std.proofs.lemmas.Option.{same_Some}
+use Rattle.std.proofs.lemmas.Bool.Decides.{eqb_tells, nat_tests}
+use Rattle.std.proofs.lemmas.Option.{same_Some, option_and_then_some}
 use Rattle.ripemd_files.specs.Lines.{escape_of, escaped, Spells}
 use Rattle.ripemd_files.specs.Reading.{meant_by, unescaped, name_at, without_zero}
-
--- the value of a step that did not fail
-pub bind_some : {A B : Type 0} (o : Option A) (f : A → Option B) (y : B) → option_and_then f o ≡ Some y → (x : A) × (o ≡ Some x) × (f x ≡ Some y)
-bind_some (Some x) f y e = (x, refl, e)
-bind_some None f y e = absurd cc
 
 -- the value of a step that was changed
 pub map_some : {A B : Type 0} (o : Option A) (f : A → B) (y : B) → option_map f o ≡ Some y → (x : A) × (o ≡ Some x) × (f x ≡ y)
@@ -22,17 +17,7 @@ map_some None f y e = absurd cc
 
 -- a letter with a meaning escapes it
 escape_of-meant : (letter byte : ℕ) → meant_by letter ≡ Some byte → escape_of byte ≡ 92 ∷ letter ∷ []
-escape_of-meant letter byte e =
-    elim (eqb_tells letter 92) [
-      | inl is ↦ let b : 92 ≡ byte = same_Some _ _ (rw is.0 at e) in rw (is.1, ← b) refl
-      | inr other ↦ elim (eqb_tells letter 110) [
-        | inl is ↦ let b : 10 ≡ byte = same_Some _ _ (rw (other.0, is.0) at e) in rw (is.1, ← b) refl
-        | inr other2 ↦ elim (eqb_tells letter 114) [
-          | inl is ↦ let b : 13 ≡ byte = same_Some _ _ (rw (other.0, other2.0, is.0) at e) in rw (is.1, ← b) refl
-          | inr other3 ↦ absurd (cc (rw (other.0, other2.0, other3.0) at e))
-        ]
-      ]
-    ]
+escape_of-meant letter byte e = grind (arith, nat_tests)
 
 -- behind a backslash the text goes on from it
 abbrev from : Bool → List ℕ → List ℕ
@@ -51,28 +36,14 @@ spells_from false (x ∷ rest) name e =
           subst (λ (n : List ℕ). Spells (x ∷ rest) n) tail.2 (rest, inr (other.1, refl), spells_from false rest tail.0 tail.1)
     ]
 spells_from true (x ∷ rest) name e =
-    let head = bind_some (meant_by x) (λ byte. option_map (λ n. byte ∷ n) (unescaped false rest)) name e in
-    let tail = map_some (unescaped false rest) (λ n. head.0 ∷ n) name head.2 in
+    option_and_then_some (λ byte. option_map (λ n. byte ∷ n) (unescaped false rest)) (meant_by x) name e (λ byte meant e.
+    let tail = map_some (unescaped false rest) (λ n. byte ∷ n) name e in
     subst (λ (n : List ℕ). Spells (92 ∷ x ∷ rest) n) tail.2
-    (rest, inl (sym (ap (λ (front : List ℕ). front ++ rest) (escape_of-meant x head.0 head.1))), spells_from false rest tail.0 tail.1)
-
--- what is read of a text spells it
-pub Spells-unescaped : (text name : List ℕ) → unescaped false text ≡ Some name → Spells text name
-Spells-unescaped text name e = spells_from false text name e
+    (rest, inl (sym (ap (λ (front : List ℕ). front ++ rest) (escape_of-meant x byte meant))), spells_from false rest tail.0 tail.1))
 
 unescaped-escape : (byte : ℕ) (rest : List ℕ) → unescaped false (escape_of byte ++ rest) ≡ option_map (λ name. byte ∷ name) (unescaped false rest)
 unfolding unescaped
-unescaped-escape byte rest =
-    elim (eqb_tells byte 92) [
-      | inl is ↦ rw is.1 refl
-      | inr other ↦ elim (eqb_tells byte 10) [
-        | inl is ↦ rw is.1 refl
-        | inr other2 ↦ elim (eqb_tells byte 13) [
-          | inl is ↦ rw is.1 refl
-          | inr other3 ↦ rw (other.0, other2.0, other3.0) (rw other.0 refl)
-        ]
-      ]
-    ]
+unescaped-escape byte rest = grind (arith, nat_tests)
 
 -- what spells a name is read as it
 pub unescaped-spelled : (text name : List ℕ) → Spells text name → unescaped false text ≡ Some name
@@ -93,19 +64,15 @@ Spells-escaped (byte ∷ name) = (escaped name, inl refl, Spells-escaped name)
 -- ---- names
 
 no_zero_of : (spelled name : List ℕ) → without_zero spelled ≡ Some name → (list_any (λ byte. eqb byte 0) name ≡ false) × (spelled ≡ name)
-no_zero_of spelled name e = go (list_any (λ byte. eqb byte 0) spelled) refl e
-  where
-    go : (has : Bool) → list_any (λ byte. eqb byte 0) spelled ≡ has → cond has None (Some spelled) ≡ Some name → (list_any (λ byte. eqb byte 0) name ≡ false) × (spelled ≡ name)
-    go true is e = absurd cc
-    go false is e = let same : spelled ≡ name = same_Some _ _ e in (rw (← same) is, same)
+no_zero_of spelled name e = grind arith
 
 pub name_at-said : (marked : Bool) (text name : List ℕ) → name_at marked text ≡ Some name
     → MatchBool marked (Spells text name) (text ≡ name) × (list_any (λ byte. eqb byte 0) name ≡ false)
 unfolding name_at
 name_at-said true text name e =
-    let spelled = bind_some (unescaped false text) without_zero name e in
-    let said = no_zero_of spelled.0 name spelled.2 in
-    (Spells-unescaped text name (spelled.1 ∙ ap (λ (n : List ℕ). Some n) said.1), said.0)
+    option_and_then_some without_zero (unescaped false text) name e (λ spelled is e.
+    let said = no_zero_of spelled name e in
+    (spells_from false text name (is ∙ ap (λ (n : List ℕ). Some n) said.1), said.0))
 name_at-said false text name e = let said = no_zero_of text name e in (said.1, said.0)
 
 pub name_at-spelled : (marked : Bool) (text name : List ℕ) → MatchBool marked (Spells text name) (text ≡ name)

@@ -11,10 +11,7 @@ use Rattle.ripemd_files.specs.Contents.{Follows, IsContent}
 pub comes_to : {File T : Type 0} (bytes_of : T → List ℕ) (place : Place File) (hash : List ℕ → List ℕ) (name : List ℕ) (content : Content T)
     (outcome : Outcome) → IsContent bytes_of place hash name content → Follows bytes_of hash content outcome → ComesTo place hash name outcome
 comes_to bytes_of place hash name (Short message) (outcomes.Digest digest) is follows = (message.items, is, follows)
-comes_to bytes_of place hash name (Short message) (outcomes.Refused e) is follows = absurd follows
-comes_to bytes_of place hash name (Short message) (outcomes.Broken e) is follows = absurd follows
 comes_to bytes_of place hash name (Long d) (outcomes.Digest digest) is follows = (is.0, is.1, follows ∙ is.2)
-comes_to bytes_of place hash name (Long d) (outcomes.Refused e) is follows = absurd follows
-comes_to bytes_of place hash name (Long d) (outcomes.Broken e) is follows = absurd follows
 comes_to bytes_of place hash name (Refused error) outcome is follows = subst (ComesTo place hash name) (sym follows) is
 comes_to bytes_of place hash name (Broken error) outcome is follows = subst (ComesTo place hash name) (sym follows) is
+comes_to bytes_of place hash name _ _ is follows = absurd follows

@@ -68,19 +68,14 @@ unfolding split_close
 split_close-front [] text before rest found = found
 split_close-front (x ∷ front) text before rest found = rw (split_close-front front text before rest found) refl
 
-split_close-here : (text : List ℕ) (i : ℕ) → i < length text → get_or text i 0 ≡ 41 → split_close (drop (i + 1) text) ≡ None
-    → split_close text ≡ Some (take i text, drop (i + 1) text)
-unfolding split_close
-split_close-here text i within is none =
-    let here : split_close (drop i text) ≡ Some ([], drop (i + 1) text) = rw (drop_more text i 0 within, none, is) refl in
-    ap split_close (sym (take-append-drop i text)) ∙ split_close-front (take i text) (drop i text) [] (drop (i + 1) text) here
-    ∙ ap (λ (before : List ℕ). Some (before, drop (i + 1) text)) (append-nil (take i text))
-
--- the same, as slicing gives the rest
+-- as slicing gives the rest
 pub split_close-found : (text : List ℕ) (i : ℕ) → i < length text → get_or text i 0 ≡ 41 → split_close (drop (i + 1) text) ≡ None
     → Some (take i text, take (length text - (i + 1)) (drop (i + 1) text)) ≡ split_close text
+unfolding split_close
 split_close-found text i within is none =
-    ap (λ (rest : List ℕ). Some (take i text, rest)) (take-rest (i + 1) text) ∙ sym (split_close-here text i within is none)
+    let here : split_close (drop i text) ≡ Some ([], drop (i + 1) text) = rw (drop_more text i 0 within, none, is) refl in
+    let whole = split_close-front (take i text) (drop i text) [] (drop (i + 1) text) here in
+    ap (λ (rest : List ℕ). Some (take i text, rest)) (take-rest (i + 1) text) ∙ sym (rw (take-append-drop, append-nil) at whole)
 
 pub split_close-other : (text : List ℕ) (i : ℕ) → i < length text → get_or text i 0 ≢ 41 → split_close (drop (i + 1) text) ≡ None
     → split_close (drop i text) ≡ None

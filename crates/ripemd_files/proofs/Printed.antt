@@ -78,12 +78,10 @@ module _ {File N : Type 0} (place : Place File) (style : Style) (view : N → Li
     next =
         let short : k < length names = omega (arith, as_many) in
         let comes : ComesTo place (ripemd (parameters_of style.variant)) (view name) outcome =
-        subst (λ x. ComesTo place (ripemd (parameters_of style.variant)) x outcome)
-        (get_or-map view names k name (view name) short ∙ ap view (sym is_name))
-        (subst (λ x. ComesTo place (ripemd (parameters_of style.variant)) (get_or (map view names) k (view name)) x) (sym is_outcome)
-        (all_zip_at _ (map view names) outcomes k (view name) outcome read (rw length-map short))) in
-        subst (λ l. Prints place style l (before.items ++ items_on style (view name) outcome) (all && was_read outcome))
-        (sym (ap (map view) (take_more names k name short ∙ ap (λ x. take k names ++ x ∷ []) (sym is_name)) ∙ map-append view (take k names) (name ∷ [])))
+        rw (get_or-map view names k name (view name) short, ← is_name, ← is_outcome) at
+        (all_zip_at (ComesTo place (ripemd (parameters_of style.variant))) (map view names) outcomes k (view name) outcome read
+        (rw length-map short)) in
+        rw (take_more names k name short, ← is_name, map-append)
         (more_files place style _ _ before.items (items_on style (view name) outcome) all (was_read outcome) before.prints (one_file place style (view name) outcome comes))
 
     pub prints_next : (more : List ℕ) (was : Bool) → Pends b c lines more (items_on style (view name) outcome) → was ≡ was_read outcome

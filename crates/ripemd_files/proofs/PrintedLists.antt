@@ -1,11 +1,12 @@
 -- Lists that were printed, and are checked.
-use Rattle.std.proofs.Common.{◌≡◌, ℕ, ◌+◌, ◌<◌, ◌-◌, ◌^◌, ◌==◌, ◌&&◌, ◌||◌, Bool, true, false, List, [], ◌∷◌, ◌++◌, codes, length, map, flat_map, Option, Some, None, unwrap_or, All, inl, inr, refl, sym, ap, ◌∙◌, cond, arith, append_assoc}
-use Rattle.std.specs.Prelude.{IfSome, not, Result, Ok, MatchBool, count_by, min}
-use Rattle.std.specs.List.{list_all, list_any}
+use Rattle.std.proofs.Common.{◌≡◌, ℕ, ◌+◌, ◌<◌, ◌-◌, ◌==◌, ◌&&◌, ◌||◌, Bool, true, false, List, [], ◌∷◌, ◌++◌, codes, length, map, Option, Some, None, unwrap_or, All, inl, inr, refl, sym, ap, ◌∙◌, cond, arith, append_assoc}
+use Rattle.std.proofs.lemmas.Bool.Decides.{nat_tests}
+use Rattle.std.specs.Prelude.{IfSome, not, Result, Ok, count_by, Err}
+use Rattle.std.specs.List.{list_any}
 use Rattle.std.specs.declared.io.Error.{Error}
-use Rattle.std.proofs.lemmas.Bool.{ne_eqb, or_parts}
+use Rattle.std.proofs.lemmas.Bool.{ne_eqb, or_parts, MatchBool-at_false}
 use Rattle.std.proofs.lemmas.Slice.Eq.{bytes_eq-Decides}
-use Rattle.std.proofs.lemmas.List.{append-nil, map-append}
+use Rattle.std.proofs.lemmas.List.{map-append}
 use Rattle.std.proofs.lemmas.List.Elements.{All-head, All-tail}
 use Rattle.std.proofs.lemmas.List.Sums.{sum_by-cons}
 use Rattle.ripemd.specs.Standard.Hashing.{ripemd}
@@ -14,27 +15,24 @@ use Rattle.ripemd_files.specs.declared.line.Layout.{Layout}
 use Rattle.ripemd_files.specs.declared.line.Layout.TheVariants.{Standard}
 use Rattle.ripemd_files.specs.declared.line.Variant.{Variant}
 use Rattle.ripemd_files.specs.declared.list.Rules.{Rules}
-use Rattle.ripemd_files.specs.declared.outcome.Outcome.{Outcome}
-use Rattle.ripemd_files.specs.declared.outcome.Outcome.TheVariants.{Digest, Refused, Broken}
 use Rattle.ripemd_files.specs.declared.verdict.Options.{Options}
-use Rattle.ripemd_files.specs.declared.verdict.Verdict.TheVariants.{Differs, Matches}
+use Rattle.ripemd_files.specs.declared.verdict.Verdict.TheVariants.{Matches}
 use Rattle.ripemd_files.specs.declared.line.Ending.TheVariants.{Newline}
 use Rattle.ripemd_files.specs.declared.printing.Style.{Style}
-use Rattle.ripemd_files.specs.Lines.{IsLine, end_of, is_end, line_of}
-use Rattle.ripemd_files.specs.Layouts.{HasLayout, layout_at, layout_of}
+use Rattle.ripemd_files.specs.Lines.{IsLine, is_end}
+use Rattle.ripemd_files.specs.Layouts.{layout_at, layout_of}
 use Rattle.ripemd_files.specs.Reading.{first_of_two, strip_tag}
-use Rattle.ripemd_files.specs.Files.{ComesTo, Place, parameters_of}
+use Rattle.ripemd_files.specs.Files.{Place, parameters_of}
 use Rattle.ripemd_files.specs.Splitting.{lines_of}
-use Rattle.ripemd_files.specs.Checking.{Event, IsTally, checked, counted, has_verdict, is_difference, is_match, is_misformatted, is_unreadable, misformatted, verdict_of, verdict_of_digest}
-use Rattle.ripemd_files.specs.Lists.{IsEventOn, IsWanted, Reaches, Reports, ended, is_passed_over, layout_after}
-use Rattle.ripemd_files.specs.Determined.{IsKnown, Print, Report, Start, list_before}
-use Rattle.ripemd_files.specs.Printing.{Reading, items_on, was_read}
+use Rattle.ripemd_files.specs.Checking.{Event, IsTally, checked, counted, has_verdict, is_difference, is_match, is_misformatted, is_unreadable, misformatted}
+use Rattle.ripemd_files.specs.Lists.{IsEventOn, IsWanted, Reports, ended, is_passed_over, layout_after}
+use Rattle.ripemd_files.specs.Determined.{IsKnown, Print, Report, Start}
 use Rattle.ripemd_files.specs.Said.{Item, byte, written}
 use Rattle.ripemd_files.specs.Printed.{IsPrinted, Printed, printed_line, printed_text, verdict_now}
 use Rattle.ripemd_files.proofs.Agreeing.{came_to, is_line, is_verdict, printed_is_taken, round_trips, same_line, whole}
 use Rattle.ripemd_files.proofs.Bodies.{strip_tag-tag}
 use Rattle.ripemd_files.proofs.Cutting.{lines_first}
-use Rattle.ripemd_files.proofs.Determined.{all_read, given_all, grown, not_broken}
+use Rattle.ripemd_files.proofs.Determined.{grown, lines_to_end, prints_by, items, are_given, verdict_at, verdict_by}
 use Rattle.ripemd_files.proofs.Ends.{no_end, starts_line}
 use Rattle.ripemd_files.proofs.Layouts.{layout_of-standard}
 use Rattle.ripemd_files.proofs.Sayings.{marked_body}
@@ -48,28 +46,25 @@ is_counted (Some one) variant wanted = sym wanted
 stays_standard : (only : Option Variant) (line : List ℕ) (variant : Variant) (digest name : List ℕ) → IsWanted only variant
     → IsLine Standard line variant digest name → unwrap_or (layout_of only line) Standard ≡ Standard
 unfolding layout_at
-stays_standard only line variant digest name wanted h = at h.form refl
-  where
-    at : (form : _) → h.form ≡ form → unwrap_or (layout_of only line) Standard ≡ Standard
-    at (inl untagged) is =
-        let has : HasLayout only Standard line = record {
-          indent = h.indent;
-          marked = h.marked;
-          body = h.body;
-          variant = variant;
-          digits = h.digits;
-          digest = digest;
-          text = h.text;
-          is_indent = h.is_indent;
-          whole = h.whole;
-          form = untagged;
-          is_digest = h.is_digest;
-          counted = is_counted only variant wanted;
-        } in
-        rw (layout_of-standard only line has) refl
-    at (inr tagged) is =
-        let found = ap strip_tag tagged.whole ∙ strip_tag-tag variant tagged.tag _ tagged.is_tag in
-        rw (marked_body Standard line variant digest name h, found) refl
+stays_standard only line variant digest name wanted h = elim h.form [
+  | inl untagged ↦
+      rw (layout_of-standard only line record {
+        indent = h.indent;
+        marked = h.marked;
+        body = h.body;
+        variant = variant;
+        digits = h.digits;
+        digest = digest;
+        text = h.text;
+        is_indent = h.is_indent;
+        whole = h.whole;
+        form = untagged;
+        is_digest = h.is_digest;
+        counted = is_counted only variant wanted;
+      }) refl
+  | inr tagged ↦
+      rw (marked_body Standard line variant digest name h, ap strip_tag tagged.whole ∙ strip_tag-tag variant tagged.tag _ tagged.is_tag) refl
+]
 
 -- ---- lines
 
@@ -77,12 +72,7 @@ no_newline : (text : List ℕ) → list_any is_end text ≡ false → list_any (
 no_newline [] lacks = refl
 no_newline (x ∷ text) lacks =
     let parts = or_parts (is_end x) (list_any is_end text) lacks in
-    let others = or_parts ((x == 0) || (x == 10)) (x == 13) parts.0 in
-    rw ((or_parts (x == 0) (x == 10) others.0).1, no_newline text parts.1) refl
-
-unpassed : (b : Bool) (A B : Type 0) → b ≡ false → MatchBool b A B → B
-unpassed true A B is both = absurd cc
-unpassed false A B is both = both
+    rw (no_newline text parts.1) (grind (arith, nat_tests))
 
 module _ {File : Type 0} (place : Place File) (contents : List ℕ → Result (List ℕ) Error) (known : IsKnown place contents)
     (ignore_missing : Bool) (rules : Rules) (form : Form) (variant : Variant) where
@@ -122,15 +112,6 @@ module _ {File : Type 0} (place : Place File) (contents : List ℕ → Result (L
         of None other is stays = stays
         of (Some l) other is stays = is
 
-    -- the verdict is by what the name gives
-    now : (outcome : Outcome) → ComesTo place (ripemd (parameters_of variant)) f.name outcome
-        → verdict_of ignore_missing (ripemd (parameters_of variant) f.message) outcome ≡ verdict_now ignore_missing variant f.message (contents f.name)
-    now (Digest d) (m, gives, is) =
-        rw (given_all place contents known f.name m gives)
-        (ap (λ bytes. verdict_of_digest bytes (ripemd (parameters_of variant) f.message)) is)
-    now (Refused e) comes = rw (known.refused f.name e comes) refl
-    now (Broken e) comes = absurd (not_broken place contents known f.name e comes)
-
     there : (layout : Option Layout) → unwrap_or layout Standard ≡ Standard → IsPrinted rules layout form variant f.name
     there layout is =
         record { readable = rw is printed.readable; no_zero = printed.no_zero; wanted = printed.wanted; other = printed.other }
@@ -143,7 +124,15 @@ module _ {File : Type 0} (place : Place File) (contents : List ℕ → Result (L
         let same = same_line rules layout form variant f.message f.name (there layout is) place ignore_missing number found verdict on in
         let came = came_to rules layout form variant f.message f.name (there layout is) place ignore_missing number found verdict on in
         let told = is_verdict rules layout form variant f.message f.name (there layout is) place ignore_missing number found verdict on in
-        ap (λ n. checked n verdict) same.2 ∙ ap (λ v. checked f.name v) (told ∙ now on.2 came)
+        let given = verdict_at place contents known ignore_missing (ripemd (parameters_of variant)) f.name
+        (ripemd (parameters_of variant) f.message) on.2 came in
+        ap (λ n. checked n verdict) same.2 ∙ ap (λ v. checked f.name v) (told ∙ given ∙ now (contents f.name))
+      where
+        now : (r : Result (List ℕ) Error)
+            → verdict_by ignore_missing (ripemd (parameters_of variant)) (ripemd (parameters_of variant) f.message) r
+            ≡ verdict_now ignore_missing variant f.message r
+        now (Ok given) = refl
+        now (Err error) = refl
 
   events_of : (layout : Option Layout) (number : ℕ) (files : List Printed) → unwrap_or layout Standard ≡ Standard → All Counts files
       → (events : List Event) (last : Option Layout) → Reports place ignore_missing rules layout number (map line files) events last
@@ -153,7 +142,7 @@ module _ {File : Type 0} (place : Place File) (contents : List ℕ → Result (L
       let printed = All-head Counts f files are in
       let next = layout_after rules layout (line f) in
       let standard = standard_after f printed layout is in
-      let here = unpassed (is_passed_over (line f)) _ _ (not_passed f printed) on in
+      let here = MatchBool-at_false _ _ (not_passed f printed) on in
       both ∙ ap (λ l. l ++ others) (here.1 ∙ ap (λ e. e ∷ []) (one_event_on f printed next number standard here.0 here.2))
       ∙ ap (λ l. event f ∷ l) (events_of next (number + 1) files standard (All-tail Counts f files are) others last later)
 
@@ -166,109 +155,75 @@ module _ {File : Type 0} (place : Place File) (contents : List ℕ → Result (L
     pub all_events : one.checks.report.events ≡ map event files
     all_events =
         let report = one.checks.report in
-        let reached : Reaches ended (list_before start) one.left report.read.behind report.read.rest = rw over at report.read.reached in
-        let lines : report.lines ≡ map line files =
-        sym (append-nil report.lines) ∙ ap (λ l. report.lines ++ l) (sym reached.0) ∙ sym report.read.split
-        ∙ ap lines_of (sym (all_read start.list report.read.bytes report.read.rest one.left.left report.read.consumed reached.1 reached.2) ∙ text)
-        ∙ split_text files printed in
+        let lines : report.lines ≡ map line files = sym (lines_to_end start report.read over) ∙ ap lines_of text ∙ split_text files printed in
         events_of first 1 files standard printed report.events one.last (rw (same, ← lines) report.reports)
 
     -- the files gave the same messages
     module _ (gave : All (λ (f : Printed). contents f.name ≡ Ok f.message) files) where
-      all_match : (fs : List Printed) → All (λ (f : Printed). contents f.name ≡ Ok f.message) fs
-          → map event fs ≡ map (λ (f : Printed). checked f.name Matches) fs
+      abbrev matching : List Printed → List Event
+      matching fs = map (λ (f : Printed). checked f.name Matches) fs
+
+      all_match : (fs : List Printed) → All (λ (f : Printed). contents f.name ≡ Ok f.message) fs → map event fs ≡ matching fs
       all_match [] are = refl
       all_match (f ∷ fs) are =
           let digest = ripemd (parameters_of variant) f.message in
-          let here : event f ≡ checked f.name Matches =
-          ap (λ r. checked f.name (verdict_now ignore_missing variant f.message r)) (All-head (λ (f : Printed). contents f.name ≡ Ok f.message) f fs are)
-          ∙ ap (λ b. checked f.name (cond b Matches Differs)) ((bytes_eq-Decides digest digest).1 refl) in
-          ap (λ e. e ∷ map event fs) here
-          ∙ ap (λ l. checked f.name Matches ∷ l) (all_match fs (All-tail (λ (f : Printed). contents f.name ≡ Ok f.message) f fs are))
+          rw (All-head (λ (f : Printed). contents f.name ≡ Ok f.message) f fs are, (bytes_eq-Decides digest digest).1 refl,
+            all_match fs (All-tail (λ (f : Printed). contents f.name ≡ Ok f.message) f fs are)) refl
 
       -- no count but that of matches
       none_counted : (test : Event → Bool) → ((name : List ℕ) → test (checked name Matches) ≡ false) → (fs : List Printed)
-          → counted test (map (λ (f : Printed). checked f.name Matches) fs) ≡ 0
-      none_counted test none fs = ap (λ n. min n (2 ^ 64 - 1)) (zero_of fs)
-        where
-          zero_of : (fs : List Printed) → count_by test (map (λ (f : Printed). checked f.name Matches) fs) ≡ 0
-          zero_of [] = refl
-          zero_of (f ∷ fs) =
-              sum_by-cons (λ e. cond (test e) 1 0) (checked f.name Matches) (map (λ (f : Printed). checked f.name Matches) fs) ∙ rw (none f.name) (omega (arith, zero_of fs))
+          → count_by test (matching fs) ≡ 0
+      none_counted test none [] = refl
+      none_counted test none (f ∷ fs) =
+          sum_by-cons (λ e. cond (test e) 1 0) (checked f.name Matches) (matching fs) ∙ rw (none f.name) (omega (arith, none_counted test none fs))
 
-      pub all_matches : one.checks.report.events ≡ map (λ (f : Printed). checked f.name Matches) files
+      any_of : (test : Event → Bool) → ((name : List ℕ) → test (checked name Matches) ≡ true) → (fs : List Printed) → 0 < length fs
+          → list_any test (matching fs) ≡ true
+      any_of test is [] some = absurd (omega (arith, some))
+      any_of test is (f ∷ fs) some = rw (is f.name) refl
+
+      pub all_matches : one.checks.report.events ≡ matching files
       all_matches = all_events ∙ all_match files gave
 
       pub succeeds_all : 0 < length files → one.success ≡ true
       succeeds_all some =
-          let counts : IsTally (map (λ (f : Printed). checked f.name Matches) files) one.checks.tally = rw all_matches at one.checks.report.counts in
-          let bad : one.checks.tally.misformatted ≡ 0 = counts.misformatted ∙ none_counted is_misformatted (λ name. refl) files in
-          let differing : one.checks.tally.differing ≡ 0 = counts.differing ∙ none_counted (has_verdict is_difference) (λ name. refl) files in
-          let unreadable : one.checks.tally.unreadable ≡ 0 = counts.unreadable ∙ none_counted (has_verdict is_unreadable) (λ name. refl) files in
-          let matched : one.checks.tally.matched ≡ true = counts.matched ∙ any_of files some (has_verdict is_match) (λ name. refl) in
-          let any : one.checks.tally.checked ≡ true = counts.checked ∙ any_of files some (has_verdict (λ verdict. true)) (λ name. refl) in
-          one.checks.answer ∙ rw (over, bad, differing, unreadable, matched, any) (settled options.ignore_missing options.strict)
+          let counts : IsTally (matching files) one.checks.tally = rw all_matches at one.checks.report.counts in
+          one.checks.answer
+          ∙ rw (
+            over, counts.misformatted, counts.differing, counts.unreadable, counts.matched, counts.checked,
+            none_counted is_misformatted (λ name. refl) files,
+            none_counted (has_verdict is_difference) (λ name. refl) files,
+            none_counted (has_verdict is_unreadable) (λ name. refl) files,
+            any_of (has_verdict is_match) (λ name. refl) files some,
+            any_of (has_verdict (λ verdict. true)) (λ name. refl) files some,
+          ) (settled options.ignore_missing options.strict)
         where
-          any_of : (fs : List Printed) → 0 < length fs → (test : Event → Bool) → ((name : List ℕ) → test (checked name Matches) ≡ true)
-              → list_any test (map (λ (f : Printed). checked f.name Matches) fs) ≡ true
-          any_of [] some test is = absurd (omega (arith, some))
-          any_of (f ∷ fs) some test is = rw (is f.name) refl
-
           settled : (ignoring strict : Bool) → ((not ignoring || true) && (not strict || true)) ≡ true
-          settled true true = refl
-          settled true false = refl
-          settled false true = refl
-          settled false false = refl
+          settled ignoring strict = grind arith
 
 -- ---- a print of the list
 
 module _ {File : Type 0} (place : Place File) (contents : List ℕ → Result (List ℕ) Error) (known : IsKnown place contents) (style : Style)
     (newline : style.ending ≡ Newline) where
-  abbrev hashed : List ℕ → List ℕ
-  hashed = ripemd (parameters_of style.variant)
-
   abbrev Gave : Printed → Type 0
   Gave f = contents f.name ≡ Ok f.message
 
-  abbrev IsRead : Reading → Type 0
-  IsRead r = ComesTo place hashed r.name r.outcome
-
-  print_one : (f : Printed) (outcome : Outcome) → Gave f → ComesTo place hashed f.name outcome
-      → (items_on style f.name outcome ≡ written (printed_line style.form style.variant f.message f.name ++ codes "\n")) × (was_read outcome ≡ true)
-  print_one f (Digest d) gave (m, gives, is) =
-      let same : m ≡ f.message = cc (sym (given_all place contents known f.name m gives) ∙ gave) in (
-        ap (λ bytes. written (line_of style.ending style.form style.variant bytes f.name ++ end_of style.ending)) (is ∙ ap hashed same)
-            ∙ ap (λ ending. written (line_of ending style.form style.variant (hashed f.message) f.name ++ end_of ending)) newline,
-        refl,
-      )
-  print_one f (Refused e) gave comes = absurd (cc (sym gave ∙ known.refused f.name e comes))
-  print_one f (Broken e) gave comes = absurd (not_broken place contents known f.name e comes)
-
-  print_all : (files : List Printed) (rs : List Reading) → map (λ (r : Reading). r.name) rs ≡ map (λ (f : Printed). f.name) files
-      → All IsRead rs → All Gave files
-      → (flat_map (λ (r : Reading). items_on style r.name r.outcome) rs ≡ written (printed_text style.form style.variant files))
-      × (list_all (λ (r : Reading). was_read r.outcome) rs ≡ true)
-  print_all [] [] named read gave = (refl, refl)
-  print_all [] (r ∷ rs) named read gave = absurd (cc named)
-  print_all (f ∷ files) [] named read gave = absurd (cc named)
-  print_all (f ∷ files) (r ∷ rs) named read gave =
-      let name : r.name ≡ f.name = cc named in
-      let comes : ComesTo place hashed f.name r.outcome = rw (← name) (All-head IsRead r rs read) in
-      let one = print_one f r.outcome (All-head Gave f files gave) comes in
-      let others = print_all files rs (cc named) (All-tail IsRead r rs read) (All-tail Gave f files gave) in (
-        ap (λ n. items_on style n r.outcome ++ flat_map (λ (r : Reading). items_on style r.name r.outcome) rs) name
-            ∙ ap (λ l. l ++ flat_map (λ (r : Reading). items_on style r.name r.outcome) rs) one.0
-            ∙ ap (λ l. written (printed_line style.form style.variant f.message f.name ++ codes "\n") ++ l) others.0
-            ∙ sym (map-append byte (printed_line style.form style.variant f.message f.name ++ codes "\n") (printed_text style.form style.variant files)),
-        rw (one.1, others.1) refl,
+  print_all : (files : List Printed) → All Gave files
+      → (items place contents known style (map (λ (f : Printed). f.name) files) ≡ written (printed_text style.form style.variant files))
+      × (are_given place contents known style (map (λ (f : Printed). f.name) files) ≡ true)
+  print_all [] gave = (refl, refl)
+  print_all (f ∷ files) gave =
+      let more = print_all files (All-tail Gave f files gave) in
+      rw (All-head Gave f files gave, newline) (
+        rw more.0
+        (sym (map-append byte (printed_line style.form style.variant f.message f.name ++ codes "\n") (printed_text style.form style.variant files))),
+        more.1,
       )
 
   pub prints_list : (files : List Printed) (before : List Item) (failure : Option Error) → All Gave files
       → (one : Print place style (map (λ (f : Printed). f.name) files) (record { items = Some before; failure = failure }))
       → (one.told.items ≡ Some (before ++ written (printed_text style.form style.variant files))) × (one.all ≡ true)
   prints_list files before failure gave one =
-      let prints = one.prints.prints in
-      let all = print_all files prints.readings prints.named prints.each gave in (
-        grown before one.prints.items one.told.items one.prints.tells.adds ∙ ap (λ l. Some (before ++ l)) (prints.said ∙ all.0),
-        prints.answer ∙ all.1,
-      )
+      let prints = prints_by place contents known style (map (λ (f : Printed). f.name) files) one.prints.items one.all one.prints.prints in
+      let all = print_all files gave in
+      (grown before _ _ one.prints.tells.adds ∙ ap (λ l. Some (before ++ l)) (prints.0 ∙ all.0), prints.1 ∙ all.1)

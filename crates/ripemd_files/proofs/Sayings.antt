@@ -1,7 +1,7 @@
 -- What a line is read as is what it is a line of, and the other way round.
-use Rattle.std.proofs.Common.{◌≡◌, ℕ, Bool, true, false, List, [], ◌∷◌, ◌++◌, Option, Some, None, refl, sym, ap, subst, ◌∙◌, eqb, inl, inr}
+use Rattle.std.proofs.Common.{◌≡◌, ℕ, Bool, true, false, List, [], ◌∷◌, ◌++◌, Option, Some, None, arith, refl, sym, ap, subst, ◌∙◌, eqb}
 use Rattle.std.specs.Prelude.{option_map, IfSome}
-use Rattle.std.proofs.lemmas.Bool.Decides.{eqb_tells}
+use Rattle.std.proofs.lemmas.Bool.Decides.{nat_tests}
 use Rattle.std.proofs.lemmas.Option.{same_Some, none-some, option_and_then_some}
 use Rattle.ripemd_files.specs.declared.line.Variant.{Variant}
 use Rattle.ripemd_files.specs.declared.line.Layout.{Layout}
@@ -13,11 +13,7 @@ use Rattle.ripemd_files.proofs.Bodies.{skip_blanks-sound, skip_blanks-front, sta
 
 pub strip_mark-sound : (bytes : List ℕ) → bytes ≡ mark_of (strip_mark bytes).0 ++ (strip_mark bytes).1
 strip_mark-sound [] = refl
-strip_mark-sound (x ∷ rest) =
-    elim (eqb_tells x 92) [
-      | inl is ↦ rw is.1 refl
-      | inr other ↦ rw other.0 refl
-    ]
+strip_mark-sound (x ∷ rest) = grind (arith, nat_tests)
 
 -- what a line says, it is a line of
 pub IsLine-said : (layout : Layout) (line : List ℕ) (variant : Variant) (digest name : List ℕ)
@@ -47,19 +43,18 @@ IsLine-said layout line variant digest name e =
     })))
 
 -- behind the blanks stand the mark and the body
-pub marked-front : (indent : List ℕ) (marked : Bool) (x : ℕ) (rest : List ℕ) → IsBlank indent → is_blank x ≡ false → eqb x 92 ≡ false
-    → strip_mark (skip_blanks (indent ++ (mark_of marked ++ (x ∷ rest)))) ≡ (marked, x ∷ rest)
-marked-front indent true x rest blank other no_mark = rw (skip_blanks-front indent 92 (x ∷ rest) blank refl) refl
-marked-front indent false x rest blank other no_mark = rw (skip_blanks-front indent x rest blank other, no_mark) refl
+pub marked-front : (indent : List ℕ) (marked : Bool) (body : List ℕ) → IsBlank indent
+    → (x : ℕ) × (rest : List ℕ) × (body ≡ x ∷ rest) × (is_blank x ≡ false) × (eqb x 92 ≡ false) × (eqb x 35 ≡ false)
+    → strip_mark (skip_blanks (indent ++ (mark_of marked ++ body))) ≡ (marked, body)
+marked-front indent true body blank (x, rest, is, other, no_mark, no_comment) = rw (is, skip_blanks-front indent 92 (x ∷ rest) blank refl) refl
+marked-front indent false body blank (x, rest, is, other, no_mark, no_comment) = rw (is, skip_blanks-front indent x rest blank other, no_mark) refl
 
 -- a line has this mark and this body
 pub marked_body : (layout : Layout) (line : List ℕ) (variant : Variant) (digest name : List ℕ) → (h : IsLine layout line variant digest name)
     → strip_mark (skip_blanks line) ≡ (h.marked, h.body)
 marked_body layout line variant digest name h =
-    let first = starts-form layout h.body variant h.digits digest h.text h.form h.is_digest in
-    ap (λ (l : List ℕ). strip_mark (skip_blanks l)) (h.whole ∙ ap (λ (body : List ℕ). h.indent ++ (mark_of h.marked ++ body)) first.2)
-    ∙ marked-front h.indent h.marked first.0 first.1 h.is_indent first.3 first.4
-    ∙ ap (λ (body : List ℕ). (h.marked, body)) (sym first.2)
+    ap (λ (l : List ℕ). strip_mark (skip_blanks l)) h.whole
+    ∙ marked-front h.indent h.marked h.body h.is_indent (starts-form layout h.body variant h.digits digest h.text h.form h.is_digest)
 
 -- what it is a line of, it says
 pub said_by-line : (layout : Layout) (line : List ℕ) (variant : Variant) (digest name : List ℕ) → IsLine layout line variant digest name

@@ -7,12 +7,12 @@ use Rattle.std.proofs.lemmas.List.{length-append, length-take, length-drop, leng
 use Rattle.hex.specs.Hex.{IsBytes}
 use Rattle.ripemd_block.specs.Standard.Words.{word_bytes}
 use Rattle.ripemd_block.specs.Standard.Schedule.{Line, left_line, right_line}
-use Rattle.ripemd_block.specs.Standard.Compression.{Lines, Parameters, compress, double_state, exchange, from_place, joint_state, lines_after, lines_from, registers_after, ripemd128, ripemd160, ripemd256, ripemd320, step, word_sums}
+use Rattle.ripemd_block.specs.Standard.Compression.{Lines, Parameters, compress, double_state, exchange, from_place, joint_state, lines_after, lines_from, registers_after, ripemd128, ripemd160, step, word_sums}
 use Rattle.ripemd_block.specs.Standard.Hashing.{blocks, hash, padded_message}
 use Rattle.ripemd_block.specs.Laws.WordBytes.{length-word_bytes}
 use Rattle.ripemd.specs.Standard.Hashing.{ripemd}
 use Rattle.ripemd_files.specs.declared.line.Variant.{Variant}
-use Rattle.ripemd_files.specs.declared.line.Variant.TheVariants.{R128, R160, R256, R320}
+use Rattle.ripemd_files.specs.declared.line.Variant.TheVariants.{R128, R160}
 use Rattle.ripemd_files.specs.Lines.{size_of}
 use Rattle.ripemd_files.specs.Files.{parameters_of}
 
@@ -28,14 +28,9 @@ length-from_place k xs = omega (arith, length-append (drop k xs) (take k xs), le
 
 length-step : (f : ℕ → ℕ → ℕ → ℕ) (x k s n : ℕ) (registers : List ℕ) → (n ≡ 4) ⊎ (n ≡ 5) → length registers ≡ n
     → length (step f x k s registers) ≡ n
-length-step f x k s n [] is long = absurd (elim is [ inl e ↦ omega (arith, long, e) | inr e ↦ omega (arith, long, e) ])
-length-step f x k s n (a ∷ []) is long = absurd (elim is [ inl e ↦ omega (arith, long, e) | inr e ↦ omega (arith, long, e) ])
-length-step f x k s n (a ∷ b ∷ []) is long = absurd (elim is [ inl e ↦ omega (arith, long, e) | inr e ↦ omega (arith, long, e) ])
-length-step f x k s n (a ∷ b ∷ c ∷ []) is long = absurd (elim is [ inl e ↦ omega (arith, long, e) | inr e ↦ omega (arith, long, e) ])
 length-step f x k s n (a ∷ b ∷ c ∷ d ∷ []) is long = long
 length-step f x k s n (a ∷ b ∷ c ∷ d ∷ e ∷ []) is long = long
-length-step f x k s n (a ∷ b ∷ c ∷ d ∷ e ∷ g ∷ more) is long =
-    absurd (elim is [ inl same ↦ omega (arith, long, same) | inr same ↦ omega (arith, long, same) ])
+length-step f x k s n registers is long = absurd (elim is [ inl e ↦ omega (arith, long, e) | inr e ↦ omega (arith, long, e) ])
 
 length-registers : (line : Line) (block : List ℕ) (r count n : ℕ) (registers : List ℕ) → (n ≡ 4) ⊎ (n ≡ 5) → length registers ≡ n
     → length (registers_after line block r count registers) ≡ n
@@ -84,12 +79,10 @@ length-compress R128 state block long =
 length-compress R160 state block long =
     let are = long-lines ripemd160 block 5 5 (lines_from ripemd160 state) (inr refl) (long-from ripemd160 state (omega (arith, long))) in
     length-joint state _ _ (are.0 ∙ sym long) (are.1 ∙ sym long) ∙ long
-length-compress R256 state block long =
-    let are = long-lines ripemd256 block 4 4 (lines_from ripemd256 state) (inl refl) (long-from ripemd256 state (omega (arith, long))) in
-    length-double 4 state _ _ long are.0 are.1 ∙ long
-length-compress R320 state block long =
-    let are = long-lines ripemd320 block 5 5 (lines_from ripemd320 state) (inr refl) (long-from ripemd320 state (omega (arith, long))) in
-    length-double 5 state _ _ long are.0 are.1 ∙ long
+length-compress variant state block long =
+    let v = parameters_of variant in
+    let are = long-lines v block v.registers v.rounds (lines_from v state) (grind arith) (long-from v state (omega (arith, long))) in
+    length-double v.registers state _ _ long are.0 are.1 ∙ long
 
 length-walk : (variant : Variant) (state : List ℕ) (bs : List (List ℕ)) → length state ≡ length (parameters_of variant).start
     → length (fold (compress (parameters_of variant)) state bs) ≡ length (parameters_of variant).start
@@ -99,9 +92,7 @@ length-walk variant state (b ∷ bs) long =
 
 in_bytes : (variant : Variant) → 4 * length (parameters_of variant).start ≡ size_of variant
 in_bytes R128 = refl
-in_bytes R160 = refl
-in_bytes R256 = refl
-in_bytes R320 = refl
+in_bytes _ = refl
 
 pub length-ripemd : (variant : Variant) (message : List ℕ) → length (ripemd (parameters_of variant) message) ≡ size_of variant
 unfolding hash
@@ -118,11 +109,8 @@ bytes-append (x ∷ xs) ys a b zero = a zero
 bytes-append (x ∷ xs) ys a b (suc i) = bytes-append xs ys (λ j. a (suc j)) b i
 
 bytes-word : (w : ℕ) → IsBytes (to_le_bytes w32 w)
-bytes-word w zero = omega arith
-bytes-word w (suc zero) = omega arith
-bytes-word w (suc (suc zero)) = omega arith
-bytes-word w (suc (suc (suc zero))) = omega arith
 bytes-word w (suc (suc (suc (suc i)))) = omega arith
+bytes-word w _ = omega arith
 
 bytes-words : (words : List ℕ) → IsBytes (word_bytes words)
 bytes-words [] i = omega arith

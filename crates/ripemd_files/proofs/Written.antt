@@ -1,7 +1,7 @@
 -- A line that is written is a line of its digest and its name.
-use Rattle.std.proofs.Common.{◌≡◌, ◌≢◌, ◌⊎◌, ℕ, ◌*◌, Bool, true, false, List, [], ◌∷◌, ◌++◌, refl, ap, ◌∙◌, inl, inr}
+use Rattle.std.proofs.Common.{◌≡◌, ◌≢◌, ◌⊎◌, ℕ, ◌*◌, Bool, true, false, List, [], ◌∷◌, ◌++◌, arith, refl, ap, ◌∙◌, inl, inr}
 use Rattle.std.specs.Prelude.{codes, MatchBool}
-use Rattle.std.proofs.lemmas.Bool.Decides.{eqb_tells}
+use Rattle.std.proofs.lemmas.Bool.Decides.{nat_tests}
 use Rattle.hex.specs.Hex.{encode_lower, lower_digits}
 use Rattle.hex.proofs.HexLemmas.{length-encode_with, decode_of-encode_lower}
 use Rattle.ripemd_files.specs.declared.line.Variant.{Variant}
@@ -10,7 +10,7 @@ use Rattle.ripemd_files.specs.declared.line.Form.TheVariants.{Text, Binary, Tagg
 use Rattle.ripemd_files.specs.declared.line.Ending.{Ending}
 use Rattle.ripemd_files.specs.declared.line.Layout.{Layout}
 use Rattle.ripemd_files.specs.declared.line.Layout.TheVariants.{Standard, Reversed}
-use Rattle.ripemd_files.specs.Lines.{tag_of, escape_of, escaped, Spells, text_of, body_of, line_of, is_marked, IsDigest, IsUntagged, IsTagged, IsLine, IsReadable, RoundTrips}
+use Rattle.ripemd_files.specs.Lines.{tag_of, Spells, text_of, body_of, line_of, is_marked, IsDigest, IsUntagged, IsTagged, IsLine, IsReadable, RoundTrips}
 use Rattle.ripemd_files.proofs.Names.{Spells-escaped}
 
 pub IsDigest-written : (layout : Layout) (form : Form) (variant : Variant) (digest name : List ℕ) → RoundTrips layout form variant digest name
@@ -20,39 +20,19 @@ IsDigest-written layout form variant digest name can = record {
   bytes = decode_of-encode_lower digest can.bytes;
 }
 
--- the text of a byte begins with one
-escape_of-first : (byte : ℕ) → (first : ℕ) × (others : List ℕ) × (escape_of byte ≡ first ∷ others)
-escape_of-first byte =
-    elim (eqb_tells byte 92) [
-      | inl is ↦ (92, codes "\\", rw is.0 refl)
-      | inr other ↦ elim (eqb_tells byte 10) [
-        | inl is ↦ (92, codes "n", rw (other.0, is.0) refl)
-        | inr other2 ↦ elim (eqb_tells byte 13) [
-          | inl is ↦ (92, codes "r", rw (other.0, other2.0, is.0) refl)
-          | inr other3 ↦ (byte, [], rw (other.0, other2.0, other3.0) refl)
-        ]
-      ]
-    ]
-
-no_nil : {A : Type 0} (x : A) (xs : List A) → x ∷ xs ≢ []
-no_nil x xs e = cc
-
--- so the text of a name that is not empty does
-text_of-first : (marked : Bool) (name : List ℕ) → name ≢ [] → (first : ℕ) × (others : List ℕ) × (text_of marked name ≡ first ∷ others)
-text_of-first marked [] named = absurd (named refl)
-text_of-first false (byte ∷ name) named = (byte, name, refl)
-text_of-first true (byte ∷ name) named =
-    let first = escape_of-first byte in
-    (first.0, first.1 ++ escaped name, ap (λ (front : List ℕ). front ++ escaped name) first.2)
+-- the text of a name that is not empty is not
+text_of-named : (marked : Bool) (name : List ℕ) → name ≢ [] → text_of marked name ≢ []
+text_of-named marked [] named none = named refl
+text_of-named false (byte ∷ name) named none = cc
+text_of-named true (byte ∷ name) named none = grind (arith, nat_tests)
 
 untagged : (kind : ℕ) → (kind ≡ 32) ⊎ (kind ≡ 42) → (digits : List ℕ) (marked : Bool) (name : List ℕ) → name ≢ []
     → IsUntagged Standard (digits ++ (32 ∷ kind ∷ text_of marked name)) digits (text_of marked name)
 untagged kind is digits marked name named =
-    let first = text_of-first marked name named in
     record {
       separator = 32 ∷ kind ∷ [];
       is_separator = (32, kind, refl, is, refl);
-      named = rw first.2 (no_nil first.0 first.1);
+      named = text_of-named marked name named;
       whole = refl;
     }
 
@@ -76,10 +56,6 @@ form-written layout Tagged variant digits marked name named =
       whole = refl;
     }
 
-spelled : (marked : Bool) (name : List ℕ) → MatchBool marked (Spells (text_of marked name) name) (text_of marked name ≡ name)
-spelled true name = Spells-escaped name
-spelled false name = refl
-
 pub IsLine-line_of : (layout : Layout) (ending : Ending) (form : Form) (variant : Variant) (digest name : List ℕ) → RoundTrips layout form variant digest name
     → IsLine layout (line_of ending form variant digest name) variant digest name
 IsLine-line_of layout ending form variant digest name can =
@@ -95,6 +71,7 @@ IsLine-line_of layout ending form variant digest name can =
       whole = refl;
       form = form-written layout form variant (encode_lower digest) marked name can.readable;
       is_digest = IsDigest-written layout form variant digest name can;
-      spelled = spelled marked name;
+      spelled = elim marked as (λ m. MatchBool m (Spells (text_of m name) name) (text_of m name ≡ name))
+          [ | true ↦ Spells-escaped name | false ↦ refl ];
       no_zero = can.no_zero;
     }

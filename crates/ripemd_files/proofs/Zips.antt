@@ -28,12 +28,9 @@ all_zip_map_next f R cs ys i d y within before both =
 pub all_zip_through : {A B C : Type 0} (R : A → B → Type 0) (S : B → C → Type 0) (T : A → C → Type 0) (xs : List A) (ys : List B) (zs : List C)
     → ((x : A) (y : B) (z : C) → R x y → S y z → T x z) → AllZip R xs ys → AllZip S ys zs → AllZip T xs zs
 all_zip_through R S T [] [] [] joined first second = tt
-all_zip_through R S T [] [] (z ∷ zs) joined first second = absurd second
-all_zip_through R S T [] (y ∷ ys) zs joined first second = absurd first
-all_zip_through R S T (x ∷ xs) [] zs joined first second = absurd first
-all_zip_through R S T (x ∷ xs) (y ∷ ys) [] joined first second = absurd second
 all_zip_through R S T (x ∷ xs) (y ∷ ys) (z ∷ zs) joined first second =
     (joined x y z first.0 second.0, all_zip_through R S T xs ys zs joined first.1 second.1)
+all_zip_through R S T _ _ _ joined first second = grind arith
 
 -- the items at a place of two lists of which the same is made
 module _ {A B C D : Type 0} (f : A → D) (g : B → C) (h : C → D) (xs : List A) (ys : List B) (same : map f xs ≡ map h (map g ys)) where
@@ -53,21 +50,18 @@ module _ {A B C D : Type 0} (f : A → D) (g : B → C) (h : C → D) (xs : List
 -- the items at a place
 pub all_zip_at : {A B : Type 0} (R : A → B → Type 0) (xs : List A) (ys : List B) (i : ℕ) (x : A) (y : B) → AllZip R xs ys → i < length xs
     → R (get_or xs i x) (get_or ys i y)
-all_zip_at R [] ys i x y zipped within = absurd (omega (arith, within))
-all_zip_at R (a ∷ xs) [] i x y zipped within = absurd zipped
 all_zip_at R (a ∷ xs) (b ∷ ys) zero x y zipped within = zipped.0
 all_zip_at R (a ∷ xs) (b ∷ ys) (suc i) x y zipped within = all_zip_at R xs ys i x y zipped.1 (omega (arith, within))
+all_zip_at R _ _ i x y zipped within = grind arith
 
 -- the last of each
 pub all_zip_last : {A B : Type 0} (R : A → B → Type 0) (xs : List A) (x : A) (zs : List B) → AllZip R (xs ++ x ∷ []) zs
     → (ys : List B) × (y : B) × (zs ≡ ys ++ y ∷ []) × AllZip R xs ys × R x y
-all_zip_last R [] x [] zipped = absurd zipped
 all_zip_last R [] x (z ∷ []) zipped = ([], z, refl, tt, zipped.0)
-all_zip_last R [] x (z ∷ w ∷ zs) zipped = absurd zipped.1
-all_zip_last R (a ∷ xs) x [] zipped = absurd zipped
 all_zip_last R (a ∷ xs) x (z ∷ zs) zipped =
     let (ys, y, same, before, both) = all_zip_last R xs x zs zipped.1 in
     (z ∷ ys, y, ap (λ l. z ∷ l) same, (zipped.0, before), both)
+all_zip_last R _ x _ zipped = absurd (assumption)
 
 -- what belongs to the first items
 pub first_of : {A B : Type 0} (R : A → B → Type 0) (i : ℕ) (xs : List A) (ys : List B) → i ≤ length xs → AllZip R (take i xs) ys
@@ -79,16 +73,14 @@ first_of R i xs ys within zipped some =
 pub all_zip_append : {A B : Type 0} (R : A → B → Type 0) (xs others : List A) (ys more : List B) → AllZip R xs ys → AllZip R others more
     → AllZip R (xs ++ others) (ys ++ more)
 all_zip_append R [] others [] more first second = second
-all_zip_append R [] others (y ∷ ys) more first second = absurd first
-all_zip_append R (x ∷ xs) others [] more first second = absurd first
 all_zip_append R (x ∷ xs) others (y ∷ ys) more first second = (first.0, all_zip_append R xs others ys more first.1 second)
+all_zip_append R _ others _ more first second = absurd first
 
 all_zip_take : {A B : Type 0} (R : A → B → Type 0) (n : ℕ) (xs : List A) (ys : List B) → AllZip R xs ys → AllZip R (take n xs) (take n ys)
 all_zip_take R zero xs ys zipped = tt
 all_zip_take R (suc n) [] [] zipped = tt
-all_zip_take R (suc n) [] (y ∷ ys) zipped = absurd zipped
-all_zip_take R (suc n) (x ∷ xs) [] zipped = absurd zipped
 all_zip_take R (suc n) (x ∷ xs) (y ∷ ys) zipped = (zipped.0, all_zip_take R n xs ys zipped.1)
+all_zip_take R (suc n) _ _ zipped = absurd zipped
 
 -- what belongs to the first of the items between them
 pub first_through : {A B C : Type 0} (R : A → B → Type 0) (S : B → C → Type 0) (T : A → C → Type 0) (xs : List A) (ys : List B) (zs : List C)

@@ -1,6 +1,6 @@
-use Rattle.std.proofs.Common.{rules, arith, ap}
+use Rattle.std.proofs.Common.{rules, arith, ap, refl}
 use Rattle.ripemd_files.specs.Groups.{goes_on}
-use Rattle.ripemd_files.proofs.Checked.{checks_begin, checks_on, checks_ended, checks_failed, stops_ended, stops_failed, stops_lines, stops_misformatted, stops_reading_list}
+use Rattle.ripemd_files.proofs.Checked.{checks_begin, checks_on, checks_over, stops_lines, stops_misformatted, stops_over, stops_reading_list}
 use Rattle.ripemd_files.proofs.checking.check_groups.Goals as goal
 
 pub groups-init : goal.groups-init
@@ -11,13 +11,14 @@ groups-init g c = record {
 
 pub returns-in_err-group-clause-err : goal.returns-in_err-group-clause-err
 returns-in_err-group-clause-err g c =
-    search (rules, stops_reading_list _ _ _ _ _ _ _ _ _ _ c.groups.invariant.so_far c.requires.start (g.R.ReadList.state c.read_group.new.reader) _ c.in_err-group.ensures.err)
+    search (rules, stops_reading_list c.groups.invariant.so_far c.requires.start (g.R.ReadList.state c.read_group.new.reader)
+    c.in_err-group.ensures.err)
 
 pub returns-in_err-check_lines-clause-err : goal.returns-in_err-check_lines-clause-err
 returns-in_err-check_lines-clause-err g c =
     search (
       rules,
-      stops_lines _ _ _ _ _ _ _ _ _ _ c.groups.invariant.so_far c.requires.start _ _ _ c.in_ok-group.ensures.ok _ _
+      stops_lines c.groups.invariant.so_far c.requires.start c.in_ok-group.ensures.ok
           (rw c.as_slice.ensures.value at c.in_err-check_lines.ensures.err),
     )
 
@@ -25,44 +26,42 @@ pub returns-in_err-check_misformatted-clause-err : goal.returns-in_err-check_mis
 returns-in_err-check_misformatted-clause-err g c =
     search (
       rules,
-      stops_misformatted _ _ _ _ _ _ _ _ _ _ c.groups.invariant.so_far c.requires.start _ _ _ c.in_ok-group.ensures.ok _ _
-          (rw c.as_slice.ensures.value at c.in_ok-check_lines.ensures.ok) _ _ c.in_err-check_misformatted.ensures.err,
+      stops_misformatted c.groups.invariant.so_far c.requires.start c.in_ok-group.ensures.ok
+          (rw c.as_slice.ensures.value at c.in_ok-check_lines.ensures.ok) c.in_err-check_misformatted.ensures.err,
     )
 
 pub groups-preserved : goal.groups-preserved
 groups-preserved g c = record {
-  so_far = checks_on _ _ _ _ _ _ _ _ _ _ c.groups.invariant.so_far c.requires.start _ _ _ c.in_ok-group.ensures.ok _ _
-      (rw c.as_slice.ensures.value at c.in_ok-check_lines.ensures.ok) _ _ c.in_ok-check_misformatted.ensures.told
-      c.in_ok-check_misformatted.ensures.counts c.in-More.is;
+  so_far = checks_on c.groups.invariant.so_far c.requires.start c.in_ok-group.ensures.ok
+      (rw c.as_slice.ensures.value at c.in_ok-check_lines.ensures.ok)
+      c.in_ok-check_misformatted.ensures.told c.in_ok-check_misformatted.ensures.counts c.in-More.is;
   bounded = c.in_ok-group.ensures.ok.bounded (search (rules, ap goes_on c.in-More.is));
 }
 
 pub returns-in-Ended-clause-ok : goal.returns-in-Ended-clause-ok
 returns-in-Ended-clause-ok g c =
-    checks_ended _ _ _ _ _ _ _ _ _ _ c.groups.invariant.so_far c.requires.start _ _ _ c.in_ok-group.ensures.ok _ _
-    (rw c.as_slice.ensures.value at c.in_ok-check_lines.ensures.ok) _ _ c.in_ok-check_misformatted.ensures.told
-    c.in_ok-check_misformatted.ensures.counts _ _ c.in-Ended.is c.in_ok-success-in-Ended.ensures.told c.in_ok-success-in-Ended.ensures.success
+    checks_over c.groups.invariant.so_far c.requires.start c.in_ok-group.ensures.ok (rw c.as_slice.ensures.value at c.in_ok-check_lines.ensures.ok)
+    c.in_ok-check_misformatted.ensures.told c.in_ok-check_misformatted.ensures.counts c.in-Ended.is (λ same. cc) c.in_ok-success-in-Ended.ensures.told
+    c.in_ok-success-in-Ended.ensures.success
 
 pub returns-in_err-success-in-Ended-clause-err : goal.returns-in_err-success-in-Ended-clause-err
 returns-in_err-success-in-Ended-clause-err g c =
     search (
       rules,
-      stops_ended _ _ _ _ _ _ _ _ _ _ c.groups.invariant.so_far c.requires.start _ _ _ c.in_ok-group.ensures.ok _ _
-          (rw c.as_slice.ensures.value at c.in_ok-check_lines.ensures.ok) _ _ c.in_ok-check_misformatted.ensures.told
-          c.in_ok-check_misformatted.ensures.counts _ _ c.in-Ended.is c.in_err-success-in-Ended.ensures.err,
+      stops_over c.groups.invariant.so_far c.requires.start c.in_ok-group.ensures.ok (rw c.as_slice.ensures.value at c.in_ok-check_lines.ensures.ok)
+          c.in_ok-check_misformatted.ensures.told c.in_ok-check_misformatted.ensures.counts c.in-Ended.is c.in_err-success-in-Ended.ensures.err,
     )
 
 pub returns-in-Failed-clause-ok : goal.returns-in-Failed-clause-ok
 returns-in-Failed-clause-ok g c =
-    checks_failed _ _ _ _ _ _ _ _ _ _ c.groups.invariant.so_far c.requires.start _ _ _ c.in_ok-group.ensures.ok _ _
-    (rw c.as_slice.ensures.value at c.in_ok-check_lines.ensures.ok) _ _ c.in_ok-check_misformatted.ensures.told
-    c.in_ok-check_misformatted.ensures.counts _ c.in-Failed.is c.in_ok-remark-in-Failed.ensures.told
+    checks_over c.groups.invariant.so_far c.requires.start c.in_ok-group.ensures.ok (rw c.as_slice.ensures.value at c.in_ok-check_lines.ensures.ok)
+    c.in_ok-check_misformatted.ensures.told c.in_ok-check_misformatted.ensures.counts c.in-Failed.is (λ same. cc)
+    c.in_ok-remark-in-Failed.ensures.told refl
 
 pub returns-in_err-remark-in-Failed-clause-err : goal.returns-in_err-remark-in-Failed-clause-err
 returns-in_err-remark-in-Failed-clause-err g c =
     search (
       rules,
-      stops_failed _ _ _ _ _ _ _ _ _ _ c.groups.invariant.so_far c.requires.start _ _ _ c.in_ok-group.ensures.ok _ _
-          (rw c.as_slice.ensures.value at c.in_ok-check_lines.ensures.ok) _ _ c.in_ok-check_misformatted.ensures.told
-          c.in_ok-check_misformatted.ensures.counts _ _ c.in-Failed.is c.in_err-remark-in-Failed.ensures.err,
+      stops_over c.groups.invariant.so_far c.requires.start c.in_ok-group.ensures.ok (rw c.as_slice.ensures.value at c.in_ok-check_lines.ensures.ok)
+          c.in_ok-check_misformatted.ensures.told c.in_ok-check_misformatted.ensures.counts c.in-Failed.is c.in_err-remark-in-Failed.ensures.err,
     )
