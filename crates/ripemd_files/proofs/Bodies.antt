@@ -17,7 +17,8 @@ use Rattle.ripemd_files.specs.declared.line.Variant.TheVariants.{R128, R160, R25
 use Rattle.ripemd_files.specs.declared.line.Layout.{Layout}
 use Rattle.ripemd_files.specs.declared.line.Layout.TheVariants.{Standard, Reversed}
 use Rattle.ripemd_files.specs.Lines.{size_of, bits_of, tag_of, IsTag, is_blank, IsBlank, IsDigest, IsSeparator, IsUntagged, IsTagged}
-use Rattle.ripemd_files.specs.Reading.{first_of_two, strip, skip_blanks, split_blank, split_close, variant_of, strip_bits, strip_tag, Found, text_at, untagged_at, skip_space, tagged_at, either_at, found_at, digest_at}
+use Rattle.ripemd_files.specs.Reading.{strip, skip_blanks, split_blank, split_close, variant_of, strip_bits, strip_tag, Found, text_at, untagged_at, skip_space, tagged_at, either_at, found_at, digest_at}
+use Rattle.std.specs.Option.{option_or}
 use Rattle.ripemd_files.proofs.Names.{map_some}
 
 -- ---- prefixes
@@ -64,7 +65,7 @@ behind_byte x (Some parts) before rest e =
     let same = some_pair_parts (x ∷ parts.0) before parts.1 rest e in
     (parts.0, ap (parts_of parts.0) same.1, sym same.0)
 
-first_of : {A P : Type 0} (a b : Option A) (y : A) → first_of_two a b ≡ Some y → (a ≡ Some y → P) → (b ≡ Some y → P) → P
+first_of : {A P : Type 0} (a b : Option A) (y : A) → option_or a b ≡ Some y → (a ≡ Some y → P) → (b ≡ Some y → P) → P
 first_of (Some x) b y e here there = here e
 first_of None b y e here there = there e
 

@@ -8,7 +8,8 @@ use Rattle.std.proofs.lemmas.Bool.{lt-ltb, ne_eqb, eqb-true, or_parts}
 use Rattle.std.proofs.lemmas.List.{append-nil, take_all, take_more}
 use Rattle.std.proofs.lemmas.List.Elements.{All-head, All-tail}
 use Rattle.std.proofs.lemmas.List.Folds.{list_any-append}
-use Rattle.ripemd_files.specs.Splitting.{begin_with, lines_of, IsEnded, IsWhole, IsWithout}
+use Rattle.ripemd_files.specs.Splitting.{lines_of, IsEnded, IsWhole, IsWithout}
+use Rattle.std.specs.List.{onto_first}
 
 -- ---- the lines of a list
 
@@ -30,7 +31,7 @@ lines_last (x ∷ y ∷ line) none some =
     rw (parts.0, lines_last (y ∷ line) parts.1 (λ same. cc)) refl
 
 -- whole lines, and what stands behind them
-begun : (b : Bool) (y : ℕ) (lines : List (List ℕ)) → 0 < length (cond b ([] ∷ lines) (begin_with y lines))
+begun : (b : Bool) (y : ℕ) (lines : List (List ℕ)) → 0 < length (cond b ([] ∷ lines) (onto_first y lines))
 begun true y lines = omega arith
 begun false y [] = omega arith
 begun false y (l ∷ lines) = omega arith
@@ -41,7 +42,7 @@ filled [] = omega arith
 filled (y ∷ ys) = begun (y == 10) y (lines_of (ys ++ 10 ∷ []))
 
 one_more : (b : Bool) (x : ℕ) (lines more : List (List ℕ)) → 0 < length lines
-    → cond b ([] ∷ (lines ++ more)) (begin_with x (lines ++ more)) ≡ cond b ([] ∷ lines) (begin_with x lines) ++ more
+    → cond b ([] ∷ (lines ++ more)) (onto_first x (lines ++ more)) ≡ cond b ([] ∷ lines) (onto_first x lines) ++ more
 one_more true x lines more some = refl
 one_more false x [] more some = absurd (omega (arith, some))
 one_more false x (l ∷ lines) more some = refl
@@ -50,7 +51,7 @@ lines_behind : (front rest : List ℕ) → lines_of (front ++ 10 ∷ rest) ≡ l
 unfolding lines_of
 lines_behind [] rest = refl
 lines_behind (x ∷ front) rest =
-    ap (λ l. cond (x == 10) ([] ∷ l) (begin_with x l)) (lines_behind front rest)
+    ap (λ l. cond (x == 10) ([] ∷ l) (onto_first x l)) (lines_behind front rest)
     ∙ one_more (x == 10) x (lines_of (front ++ 10 ∷ [])) (lines_of rest) (filled front)
 
 pub cut : (bytes rest : List ℕ) → IsWhole bytes → lines_of (bytes ++ rest) ≡ lines_of bytes ++ lines_of rest

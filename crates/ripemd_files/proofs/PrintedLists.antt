@@ -21,7 +21,8 @@ use Rattle.ripemd_files.specs.declared.line.Ending.TheVariants.{Newline}
 use Rattle.ripemd_files.specs.declared.printing.Style.{Style}
 use Rattle.ripemd_files.specs.Lines.{IsLine, is_end}
 use Rattle.ripemd_files.specs.Layouts.{layout_at, layout_of}
-use Rattle.ripemd_files.specs.Reading.{first_of_two, strip_tag}
+use Rattle.ripemd_files.specs.Reading.{strip_tag}
+use Rattle.std.specs.Option.{option_or}
 use Rattle.ripemd_files.specs.Files.{Place, parameters_of}
 use Rattle.ripemd_files.specs.Splitting.{lines_of}
 use Rattle.ripemd_files.specs.Checking.{Event, IsTally, checked, counted, has_verdict, is_difference, is_match, is_misformatted, is_unreadable, misformatted}
@@ -108,7 +109,7 @@ module _ {File : Type 0} (place : Place File) (contents : List ℕ → Result (L
         rw (not_passed, whole rules None form variant f.message f.name printed) (of layout (layout_of rules.only (line f)) is stays)
       where
         of : (one other : Option Layout) → unwrap_or one Standard ≡ Standard → unwrap_or other Standard ≡ Standard
-            → unwrap_or (first_of_two one other) Standard ≡ Standard
+            → unwrap_or (option_or one other) Standard ≡ Standard
         of None other is stays = stays
         of (Some l) other is stays = is
 

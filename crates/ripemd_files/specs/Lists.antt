@@ -12,7 +12,7 @@ use Rattle.ripemd_files.specs.declared.outcome.Outcome.{Outcome}
 use Rattle.ripemd_files.specs.declared.verdict.Options.{Options}
 use Rattle.ripemd_files.specs.declared.verdict.Tally.{Tally}
 use Rattle.ripemd_files.specs.Lines.{IsLine}
-use Rattle.ripemd_files.specs.Reading.{first_of_two}
+use Rattle.std.specs.Option.{option_or}
 use Rattle.ripemd_files.specs.Layouts.{layout_of}
 use Rattle.ripemd_files.specs.Splitting.{lines_of, IsEnded, IsOneLine, IsWhole, ListState}
 use Rattle.ripemd_files.specs.Files.{Place, ComesTo, parameters_of}
@@ -41,7 +41,7 @@ is_passed_over text = begins_comment text || is_empty (body_of_line text)
 -- the layout of a list is that of its first untagged line
 abbrev pub layout_after : Rules → Option Layout → List ℕ → Option Layout
 layout_after rules layout text =
-    if is_passed_over text then layout else first_of_two layout (layout_of rules.only (body_of_line text))
+    if is_passed_over text then layout else option_or layout (layout_of rules.only (body_of_line text))
 
 -- a variant counts where all do, or if it is the one that does
 abbrev pub IsWanted : Option Variant → Variant → Type 0

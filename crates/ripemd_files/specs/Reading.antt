@@ -1,6 +1,7 @@
 -- How the code reads a line, from left to right.
 use Rattle.std.specs.Prelude.{ℕ, ◌*◌, ◌==◌, ◌||◌, Bool, true, false, if◌then◌else◌, List, [], ◌∷◌, length, take, drop, codes, Option, Some, None, option_map, option_and_then}
 use Rattle.std.specs.List.{list_any}
+use Rattle.std.specs.Option.{option_or}
 use Rattle.std.specs.Result.{result_ok}
 use Rattle.std.specs.Str.{bytes_eq}
 use Rattle.hex.specs.Hex.{decode_of}
@@ -15,11 +16,6 @@ use Rattle.ripemd_files.specs.Lines.{size_of, is_blank}
 infixl 10 ◌>>=◌
 abbrev pub ◌>>=◌ : {A B : Type 0} → Option A → (A → Option B) → Option B
 o >>= f = option_and_then f o
-
--- the first of two answers
-abbrev pub first_of_two : {A : Type 0} → Option A → Option A → Option A
-first_of_two (Some x) other = Some x
-first_of_two None other = other
 
 -- what stands behind a prefix
 abbrev pub strip : List ℕ → List ℕ → Option (List ℕ)
@@ -39,7 +35,7 @@ split_blank (x ∷ rest) = if is_blank x then Some ([], rest) else option_map (�
 unfoldable pub split_close : List ℕ → Option (List ℕ × List ℕ)
 split_close [] = None
 split_close (x ∷ rest) =
-    first_of_two (option_map (λ parts. (x ∷ parts.0, parts.1)) (split_close rest)) (if x == 41 then Some ([], rest) else None)
+    option_or (option_map (λ parts. (x ∷ parts.0, parts.1)) (split_close rest)) (if x == 41 then Some ([], rest) else None)
 
 -- the variant that has a number of digits
 abbrev pub variant_of : ℕ → Option Variant
@@ -53,16 +49,16 @@ variant_of count =
 -- the length in bits at the end of a tag, and what stands behind it
 abbrev pub strip_bits : List ℕ → Option (Variant × List ℕ)
 strip_bits bytes =
-    first_of_two (option_map (λ rest. (R128, rest)) (strip (codes "128") bytes))
-    (first_of_two (option_map (λ rest. (R160, rest)) (strip (codes "160") bytes))
-    (first_of_two (option_map (λ rest. (R256, rest)) (strip (codes "256") bytes))
+    option_or (option_map (λ rest. (R128, rest)) (strip (codes "128") bytes))
+    (option_or (option_map (λ rest. (R160, rest)) (strip (codes "160") bytes))
+    (option_or (option_map (λ rest. (R256, rest)) (strip (codes "256") bytes))
     (option_map (λ rest. (R320, rest)) (strip (codes "320") bytes))))
 
 -- a tag, and what stands behind it
 unfoldable pub strip_tag : List ℕ → Option (Variant × List ℕ)
 strip_tag bytes =
-    first_of_two (strip (codes "RMD") bytes)
-    (first_of_two (strip (codes "RIPEMD-") bytes)
+    option_or (strip (codes "RMD") bytes)
+    (option_or (strip (codes "RIPEMD-") bytes)
     (strip (codes "RIPEMD") bytes)) >>= strip_bits
 
 -- the variant, the digits and the text of the name

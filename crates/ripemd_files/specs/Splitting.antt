@@ -1,21 +1,16 @@
 -- How a list of lines is split.
 use Rattle.std.specs.Prelude.{◌≡◌, ◌≢◌, ◌⊎◌, ℕ, ◌==◌, Bool, true, false, if◌then◌else◌, List, [], ◌∷◌, ◌++◌, Option, IfSome}
-use Rattle.std.specs.List.{list_any}
+use Rattle.std.specs.List.{list_any, onto_first}
 use Rattle.std.specs.Io.KnownBytes.{Consumes, IsAtEnd}
 use Rattle.std.specs.Io.Buffered.{reader_remaining}
 use Rattle.ripemd_files.specs.declared.piece.List.{List as Reader}
 use Rattle.ripemd_files.specs.declared.piece.Piece.{Piece}
 use Rattle.ripemd_files.specs.declared.piece.Piece.TheVariants.{Whole, Last, Nothing, Failed}
 
--- lines, with a byte in front of the first of them
-abbrev pub begin_with : ℕ → List (List ℕ) → List (List ℕ)
-begin_with byte [] = (byte ∷ []) ∷ []
-begin_with byte (line ∷ others) = (byte ∷ line) ∷ others
-
 -- the lines of a list, without the newlines that end them; behind the last newline there is none
 unfoldable pub lines_of : List ℕ → List (List ℕ)
 lines_of [] = []
-lines_of (byte ∷ rest) = if byte == 10 then [] ∷ lines_of rest else begin_with byte (lines_of rest)
+lines_of (byte ∷ rest) = if byte == 10 then [] ∷ lines_of rest else onto_first byte (lines_of rest)
 
 -- ---- as they are read
 

@@ -7,7 +7,8 @@ ghost use Rattle.ripemd_files.specs.declared.line.Layout.TheVariants.{Standard};
 ghost use Rattle.ripemd_files.specs.declared.line.Ending.{Ending};
 ghost use Rattle.ripemd_files.specs.Lines.{is_blank, IsLine, Says, RoundTrips, line_of};
 ghost use Rattle.ripemd_files.specs.Layouts.{layout_at, layout_of};
-ghost use Rattle.ripemd_files.specs.Reading.{first_of_two, strip, skip_blanks, split_blank, split_close, variant_of, strip_bits, strip_tag, text_at, untagged_at, skip_space, tagged_at, found_at, digest_at, meant_by, unescaped, name_at, strip_mark, said_by, found_of, said_of};
+ghost use Rattle.ripemd_files.specs.Reading.{strip, skip_blanks, split_blank, split_close, variant_of, strip_bits, strip_tag, text_at, untagged_at, skip_space, tagged_at, found_at, digest_at, meant_by, unescaped, name_at, strip_mark, said_by, found_of, said_of};
+ghost use Rattle.std.specs.Option.{option_or};
 
 use crate::layout::layout_of_untagged;
 use crate::line::{Layout, Line, Variant};
@@ -181,7 +182,7 @@ fn either_parts<'a>(
     layout: &mut Option<Layout>,
     body: &'a [u8],
 ) -> Option<Parts<'a>>
-    ensures layout { layout.new ≡ first_of_two layout.old (layout_at only body.now) }
+    ensures layout { layout.new ≡ option_or layout.old (layout_at only body.now) }
     ensures parts { option_map found_of result ≡ found_at (unwrap_or layout.new Standard) body.now }
 {
     match behind_tag(body) {
@@ -283,7 +284,7 @@ pub(crate) fn read_line(
     layout: &mut Option<Layout>,
     line: &[u8],
 ) -> Result<Option<Line>, AllocError>
-    ensures layout { layout.new ≡ first_of_two layout.old (layout_of only line.now) }
+    ensures layout { layout.new ≡ option_or layout.old (layout_of only line.now) }
     ensures line { IfOk result (λ found. option_map said_of found ≡ said_by (unwrap_or layout.new Standard) line.now) }
 {
     let (marked, body) = without_mark(without_blanks(line));

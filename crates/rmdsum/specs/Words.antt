@@ -1,7 +1,7 @@
 -- Options with their values, and operands: what arguments say.
 use Rattle.std.specs.Prelude.{ℕ, Bool, false, List, [], ◌∷◌, ◌++◌, Option, Some, None, bytes_eq, vec_items}
 use Rattle.std.specs.List.{list_any}
-use Rattle.core.specs.Option.{option_or}
+use Rattle.std.specs.Option.{option_or}
 use Rattle.ripemd_files.specs.declared.line.Variant.{Variant}
 use Rattle.rmdsum.specs.declared.switches.Flag.{Flag}
 use Rattle.rmdsum.specs.declared.switches.Flag.TheVariants.{Binary, Quiet, Status, Tag, Text, Warn}
