@@ -181,20 +181,7 @@ pub(crate) fn digest_one<D: BatchDigest>(
     ensures { D.bytes_of result
         ≡ hash_after before (D.Function.list first) D.step D.output message.now }
 {
-    D::Function::output(last_state::<D>(first, before, message))
-}
-
-// The state whose output is the digest that `digest_one` gives.
-pub(crate) fn last_state<D: BatchDigest>(
-    first: StateOf<D>,
-    before: u64,
-    message: &[u8],
-) -> StateOf<D>
-    requires { D.Function.is_state first }
-    ensures { D.output (D.Function.list result)
-        ≡ hash_after before (D.Function.list first) D.step D.output message.now }
-{
-    walk_message::<D::Function>(first, before, message)
+    D::Function::output(walk_message::<D::Function>(first, before, message))
 }
 
 // The digest of a digest, as a message after one block, which led to the state `first`.

@@ -23,7 +23,7 @@ use Rattle.ripemd_files.proofs.Names.{map_some}
 
 -- ---- prefixes
 
--- what stands behind a prefix
+-- what follows a prefix
 pub strip-sound : (prefix bytes rest : List ℕ) → strip prefix bytes ≡ Some rest → bytes ≡ prefix ++ rest
 strip-sound prefix bytes rest e =
     let found = cond_some (bytes_eq (take (length prefix) bytes) prefix) (drop (length prefix) bytes) rest e in
@@ -56,7 +56,7 @@ skip_blanks-front (b ∷ blanks) x rest h other =
 abbrev parts_of : List ℕ → List ℕ → Option (List ℕ × List ℕ)
 parts_of before rest = Some (before, rest)
 
--- of parts behind a byte, it stands before the first
+-- of parts after a byte, it stands before the first
 behind_byte : (x : ℕ) (found : Option (List ℕ × List ℕ)) (before rest : List ℕ)
     → option_map (λ parts. (x ∷ parts.0, parts.1)) found ≡ parts_of before rest
     → (front : List ℕ) × (found ≡ parts_of front rest) × (before ≡ x ∷ front)
@@ -140,14 +140,13 @@ split_close-none (x ∷ text) h =
     let parts = or_parts (eqb x 41) (closes text) h in
     rw (split_close-none text parts.1, parts.0) refl
 
-
 -- the last parenthesis stands in front of what has none
 pub split_close-front : (text rest : List ℕ) → closes rest ≡ false → split_close (text ++ (41 ∷ rest)) ≡ parts_of text rest
 unfolding split_close
 split_close-front [] rest h = rw (split_close-none rest h) refl
 split_close-front (x ∷ text) rest h = rw (split_close-front text rest h) refl
 
--- what stands behind the name of a tagged line has none
+-- what follows the name of a tagged line has none
 closes-behind : (before after digits : List ℕ) → IsBlank before → IsBlank after → AreDigits digits
     → closes (before ++ (61 ∷ (after ++ digits))) ≡ false
 closes-behind before after digits is_before is_after are =
@@ -159,7 +158,7 @@ closes-behind before after digits is_before is_after are =
 
 -- ---- tags
 
--- a variant, and what stands behind it
+-- a variant, and what follows it
 abbrev named : Variant → List ℕ → Option (Variant × List ℕ)
 named variant rest = Some (variant, rest)
 
@@ -241,13 +240,13 @@ pub variant_of-size : (variant : Variant) (count : ℕ) → count ≡ 2 * size_o
 variant_of-size R128 count e = rw e refl
 variant_of-size _ count e = rw e refl
 
--- behind the blank of a separator the text is found
+-- after the blank of a separator the text is found
 text_at-separator : (layout : Layout) (separator text : List ℕ) → IsSeparator layout separator → text ≢ []
     → (blank : ℕ) × (rest : List ℕ) × IsTrue (is_blank blank) × (separator ++ text ≡ blank ∷ rest) × (text_at layout rest ≡ Some text)
 text_at-separator layout separator [] is named = absurd (named refl)
 text_at-separator Standard separator (first ∷ others) is named =
     let found : text_at Standard (is.1 ∷ first ∷ others) ≡ Some (first ∷ others) =
-    elim is.3 [ | inl e ↦ rw e refl | inr e ↦ rw e refl ] in
+    elim is.3 [ inl e ↦ rw e refl | inr e ↦ rw e refl ] in
     (is.0, is.1 ∷ first ∷ others, is.2, ap (λ (front : List ℕ). front ++ (first ∷ others)) is.4, found)
 text_at-separator Reversed separator (first ∷ others) is named =
     (is.0, first ∷ others, is.1, ap (λ (front : List ℕ). front ++ (first ∷ others)) is.2, refl)
@@ -373,9 +372,14 @@ found_at-form layout body variant digits digest text (inr form) is =
 pub starts-form : (layout : Layout) (body : List ℕ) (variant : Variant) (digits digest text : List ℕ)
     → IsUntagged layout body digits text ⊎ IsTagged body variant digits text → IsDigest variant digits digest → (x : ℕ) × (rest : List ℕ) × (body ≡ x ∷ rest) × (is_blank x ≡ false) × (eqb x 92 ≡ false) × (eqb x 35 ≡ false)
 starts-form layout body variant digits digest text (inl form) is =
-    let first = starts variant digits digest is in
-    (first.0, first.1 ++ (form.separator ++ text), form.whole ∙ ap (λ (front : List ℕ). front ++ (form.separator ++ text)) first.2,
-    no_blank first.0 first.3, differs first.0 92 first.3 refl, differs first.0 35 first.3 refl)
+    let first = starts variant digits digest is in (
+      first.0,
+      first.1 ++ (form.separator ++ text),
+      form.whole ∙ ap (λ (front : List ℕ). front ++ (form.separator ++ text)) first.2,
+      no_blank first.0 first.3,
+      differs first.0 92 first.3 refl,
+      differs first.0 35 first.3 refl,
+    )
 starts-form layout body variant digits digest text (inr form) is =
     let back = form.space ++ (codes "(" ++ (text ++ (codes ")" ++ (form.before ++ (codes "=" ++ (form.after ++ digits)))))) in
     let whole = λ (front : List ℕ) (e : form.tag ≡ front). form.whole ∙ ap (λ (front : List ℕ). front ++ back) e in

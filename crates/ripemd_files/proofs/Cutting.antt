@@ -30,7 +30,7 @@ lines_last (x ∷ y ∷ line) none some =
     let parts = or_parts (x == 10) (list_any (λ x. x == 10) (y ∷ line)) none in
     rw (parts.0, lines_last (y ∷ line) parts.1 (λ same. cc)) refl
 
--- whole lines, and what stands behind them
+-- whole lines, and what follows them
 begun : (b : Bool) (y : ℕ) (lines : List (List ℕ)) → 0 < length (cond b ([] ∷ lines) (onto_first y lines))
 begun true y lines = omega arith
 begun false y [] = omega arith

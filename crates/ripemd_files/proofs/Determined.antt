@@ -103,7 +103,9 @@ module _ {File : Type 0} (place : Place File) (contents : List ℕ → Result (L
   one_event layout number text (checked name verdict) (checked other_name other_verdict) a b =
       let one = one_line (unwrap_or layout Standard) (body_of_line text) a.0 b.0 a.1 b.1 name other_name a.3.is_line b.3.is_line in
       cc (
-        one.0, one.1, one.2,
+        one.0,
+        one.1,
+        one.2,
         a.5 ∙ verdict_at place contents known ignore_missing _ name a.1 a.2 a.4,
         b.5 ∙ verdict_at place contents known ignore_missing _ other_name b.1 b.2 b.4,
       )
@@ -159,7 +161,7 @@ grouped options events es fs shown rest split same = rw (split, ← same, flat_m
 
 -- ---- lists
 
--- some of a list stands behind what was read of it
+-- some of a list stands after what was read of it
 behind_front : (list bytes rest : List ℕ) (left : Option (List ℕ)) → Consumes (Some list) left (bytes ++ rest) → (more : List ℕ) × (list ≡ bytes ++ more)
 behind_front list bytes rest None read = absurd read
 behind_front list bytes rest (Some more) read = (rest ++ more, read ∙ append_assoc bytes rest more)

@@ -47,7 +47,7 @@ module _ (test : ℕ → Bool) (foreign : (x : ℕ) → visible x ≡ true → t
           (lacks_append test (codes " *") text (lacks_where test visible foreign (codes " *") refl) lacks)
       of Tagged =
           lacks_append test (tag_of variant) (codes " (" ++ (text ++ (codes ") = " ++ digits)))
-          (lacks_where test visible foreign (tag_of variant) (elim variant as (λ v. list_all visible (tag_of v) ≡ true) [ | R128 ↦ refl | _ ↦ refl ]))
+          (lacks_where test visible foreign (tag_of variant) (elim variant as (λ v. list_all visible (tag_of v) ≡ true) [ R128 ↦ refl | _ ↦ refl ]))
           (lacks_append test (codes " (") (text ++ (codes ") = " ++ digits)) (lacks_where test visible foreign (codes " (") refl)
           (lacks_append test text (codes ") = " ++ digits) lacks
           (lacks_append test (codes ") = ") digits (lacks_where test visible foreign (codes ") = ") refl) of_digits)))
@@ -88,7 +88,7 @@ no_end layout form variant digest name h =
     let are = digits_of variant (encode_lower digest) digest (IsDigest-written layout form variant digest name h) in
     let text = Lacks-text marked name refl h.no_zero in
     lacks_append is_end (mark_of marked) (body_of form variant (encode_lower digest) (text_of marked name))
-    (elim marked as (λ m. Lacks is_end (mark_of m)) [ | true ↦ refl | false ↦ refl ])
+    (elim marked as (λ m. Lacks is_end (mark_of m)) [ true ↦ refl | false ↦ refl ])
     (Lacks-body is_end (λ x is. grind (arith, nat_tests)) form variant (encode_lower digest) (text_of marked name) are text)
 
 pub no_zero : (layout : Layout) (form : Form) (variant : Variant) (digest name : List ℕ) → RoundTrips layout form variant digest name

@@ -19,7 +19,7 @@ map_some None f y e = absurd cc
 escape_of-meant : (letter byte : ℕ) → meant_by letter ≡ Some byte → escape_of byte ≡ 92 ∷ letter ∷ []
 escape_of-meant letter byte e = grind (arith, nat_tests)
 
--- behind a backslash the text goes on from it
+-- after a backslash the text goes on from it
 abbrev from : Bool → List ℕ → List ℕ
 from true text = 92 ∷ text
 from false text = text

@@ -14,7 +14,7 @@ pub consumed_no_more : (old now next : Option (List ℕ)) (before : List ℕ) �
     → Consumes old next before
 consumed_no_more old now next before first second = rw append-nil at (Consumes-trans old now next before [] first second)
 
--- what is written to a list from a place on stands behind what was there before
+-- what is written to a list from a place on stands after what was there before
 pub written_behind : (place room n : ℕ) (xs ys : List ℕ) → place ≤ length xs → n ≤ length ys
     → take (place + n) (put_mid place room xs ys) ≡ take place xs ++ take n ys
 written_behind place room n xs ys within fits =
@@ -23,7 +23,7 @@ written_behind place room n xs ys within fits =
     ∙ take-append-add (take place xs) (ys ++ post_of place room xs) n
     ∙ ap (λ (l : List ℕ). take place xs ++ l) (take-append-le n ys (post_of place room xs) fits)
 
--- what was read since, behind what was there first, was all hashed and counted
+-- what was read since, after what was there first, was all hashed and counted
 pub record Hashed (old now : Option (List ℕ)) (IsHasherOf : List ℕ → Type 0) (first : List ℕ) (count : ℕ) : Type 0 where
   pub rest : List ℕ
   pub taken : Consumes old now rest

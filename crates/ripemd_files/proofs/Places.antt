@@ -61,7 +61,7 @@ pub ruleset splitting = (split_blank-blank, split_blank-other, split_blank-end, 
 
 -- ---- the last closing parenthesis
 
--- what is found is found behind anything
+-- what is found is found after anything
 split_close-front : (front text before rest : List ℕ) → split_close text ≡ Some (before, rest)
     → split_close (front ++ text) ≡ Some (front ++ before, rest)
 unfolding split_close
@@ -99,7 +99,7 @@ with_front-step : (front : List ℕ) (x : ℕ) (name : Option (List ℕ))
 with_front-step front x None = refl
 with_front-step front x (Some name) = ap (λ (text : List ℕ). Some text) (sym (append_assoc front (x ∷ []) name))
 
--- a letter behind a backslash
+-- a letter after a backslash
 pub unescaped-letter : (front text : List ℕ) (i byte : ℕ) → i < length text → meant_by (get_or text i 0) ≡ Some byte
     → with_front front (unescaped true (drop i text)) ≡ with_front (front ++ byte ∷ []) (unescaped false (drop (i + 1) text))
 unfolding unescaped

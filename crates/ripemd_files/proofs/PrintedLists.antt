@@ -168,8 +168,11 @@ module _ {File : Type 0} (place : Place File) (contents : List ℕ → Result (L
       all_match [] are = refl
       all_match (f ∷ fs) are =
           let digest = ripemd (parameters_of variant) f.message in
-          rw (All-head (λ (f : Printed). contents f.name ≡ Ok f.message) f fs are, (bytes_eq-Decides digest digest).1 refl,
-            all_match fs (All-tail (λ (f : Printed). contents f.name ≡ Ok f.message) f fs are)) refl
+          rw (
+            All-head (λ (f : Printed). contents f.name ≡ Ok f.message) f fs are,
+            (bytes_eq-Decides digest digest).1 refl,
+            all_match fs (All-tail (λ (f : Printed). contents f.name ≡ Ok f.message) f fs are),
+          ) refl
 
       -- no count but that of matches
       none_counted : (test : Event → Bool) → ((name : List ℕ) → test (checked name Matches) ≡ false) → (fs : List Printed)
@@ -191,7 +194,12 @@ module _ {File : Type 0} (place : Place File) (contents : List ℕ → Result (L
           let counts : IsTally (matching files) one.checks.tally = rw all_matches at one.checks.report.counts in
           one.checks.answer
           ∙ rw (
-            over, counts.misformatted, counts.differing, counts.unreadable, counts.matched, counts.checked,
+            over,
+            counts.misformatted,
+            counts.differing,
+            counts.unreadable,
+            counts.matched,
+            counts.checked,
             none_counted is_misformatted (λ name. refl) files,
             none_counted (has_verdict is_difference) (λ name. refl) files,
             none_counted (has_verdict is_unreadable) (λ name. refl) files,
@@ -217,7 +225,7 @@ module _ {File : Type 0} (place : Place File) (contents : List ℕ → Result (L
       let more = print_all files (All-tail Gave f files gave) in
       rw (All-head Gave f files gave, newline) (
         rw more.0
-        (sym (map-append byte (printed_line style.form style.variant f.message f.name ++ codes "\n") (printed_text style.form style.variant files))),
+            (sym (map-append byte (printed_line style.form style.variant f.message f.name ++ codes "\n") (printed_text style.form style.variant files))),
         more.1,
       )
 

@@ -42,7 +42,7 @@ IsLine-said layout line variant digest name e =
       no_zero = spelled.1;
     })))
 
--- behind the blanks stand the mark and the body
+-- after the blanks stand the mark and the body
 pub marked-front : (indent : List ℕ) (marked : Bool) (body : List ℕ) → IsBlank indent
     → (x : ℕ) × (rest : List ℕ) × (body ≡ x ∷ rest) × (is_blank x ≡ false) × (eqb x 92 ≡ false) × (eqb x 35 ≡ false)
     → strip_mark (skip_blanks (indent ++ (mark_of marked ++ body))) ≡ (marked, body)

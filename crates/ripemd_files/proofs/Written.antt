@@ -72,6 +72,6 @@ IsLine-line_of layout ending form variant digest name can =
       form = form-written layout form variant (encode_lower digest) marked name can.readable;
       is_digest = IsDigest-written layout form variant digest name can;
       spelled = elim marked as (λ m. MatchBool m (Spells (text_of m name) name) (text_of m name ≡ name))
-          [ | true ↦ Spells-escaped name | false ↦ refl ];
+          [ true ↦ Spells-escaped name | false ↦ refl ];
       no_zero = can.no_zero;
     }

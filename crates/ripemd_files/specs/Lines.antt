@@ -120,7 +120,7 @@ pub record IsUntagged (layout : Layout) (body digits text : List ℕ) : Type 0 w
   pub named : text ≢ []
   pub whole : body ≡ digits ++ (separator ++ text)
 
--- `RMD160 (NAME) = HEX`, with the space behind the tag or not, and any blanks round the equals sign
+-- `RMD160 (NAME) = HEX`, with the space after the tag or not, and any blanks round the equals sign
 pub record IsTagged (body : List ℕ) (variant : Variant) (digits text : List ℕ) : Type 0 where
   pub tag : List ℕ
   pub space : List ℕ

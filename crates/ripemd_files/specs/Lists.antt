@@ -70,7 +70,7 @@ AreEventsOn place ignore_missing rules layout number text events =
     MatchBool (is_passed_over text) (events ≡ [])
     ((event : Event) × (events ≡ event ∷ []) × IsEventOn place ignore_missing rules layout number text event)
 
--- what comes of the lines from one of this number on, and the layout of the list before and behind them
+-- what comes of the lines from one of this number on, and the layout of the list before and after them
 abbrev pub Reports : {File : Type 0} → Place File → Bool → Rules → Option Layout → ℕ → List (List ℕ) → List Event → Option Layout → Type 0
 Reports place ignore_missing rules layout number [] events last = (events ≡ []) × (last ≡ layout)
 Reports place ignore_missing rules layout number (text ∷ rest) events last =
@@ -86,8 +86,8 @@ pub data Stage : Type 0 where
   ended : Stage
   failed : Stage
 
--- What was read has these lines and others behind them, and then what is no whole line. To the end all was read, and no read
--- failed; where one did, nothing stands behind these lines but the front of one.
+-- What was read has these lines and others after them, and then what is no whole line. To the end all was read, and no read
+-- failed; where one did, nothing stands after these lines but the front of one.
 abbrev pub Reaches : Stage → (old new : ListState) → (behind : List (List ℕ)) → (rest : List ℕ) → Type 0
 Reaches among old new behind rest = ⊤
 Reaches ended old new behind rest = (behind ≡ []) × (rest ≡ []) × IsEnded old.left new.left × (new.failed ≡ old.failed)

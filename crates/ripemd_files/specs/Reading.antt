@@ -17,7 +17,7 @@ infixl 10 ◌>>=◌
 abbrev pub ◌>>=◌ : {A B : Type 0} → Option A → (A → Option B) → Option B
 o >>= f = option_and_then f o
 
--- what stands behind a prefix
+-- what follows a prefix
 abbrev pub strip : List ℕ → List ℕ → Option (List ℕ)
 strip prefix bytes = if bytes_eq (take (length prefix) bytes) prefix then Some (drop (length prefix) bytes) else None
 
@@ -26,12 +26,12 @@ unfoldable pub skip_blanks : List ℕ → List ℕ
 skip_blanks [] = []
 skip_blanks (x ∷ rest) = if is_blank x then skip_blanks rest else x ∷ rest
 
--- what stands before and behind the first blank
+-- what comes before and after the first blank
 unfoldable pub split_blank : List ℕ → Option (List ℕ × List ℕ)
 split_blank [] = None
 split_blank (x ∷ rest) = if is_blank x then Some ([], rest) else option_map (λ parts. (x ∷ parts.0, parts.1)) (split_blank rest)
 
--- what stands before and behind the last closing parenthesis
+-- what comes before and after the last closing parenthesis
 unfoldable pub split_close : List ℕ → Option (List ℕ × List ℕ)
 split_close [] = None
 split_close (x ∷ rest) =
@@ -46,7 +46,7 @@ variant_of count =
     else if count == 80 then Some R320
     else None
 
--- the length in bits at the end of a tag, and what stands behind it
+-- the length in bits at the end of a tag, and what follows it
 abbrev pub strip_bits : List ℕ → Option (Variant × List ℕ)
 strip_bits bytes =
     option_or (option_map (λ rest. (R128, rest)) (strip (codes "128") bytes))
@@ -54,7 +54,7 @@ strip_bits bytes =
     (option_or (option_map (λ rest. (R256, rest)) (strip (codes "256") bytes))
     (option_map (λ rest. (R320, rest)) (strip (codes "320") bytes))))
 
--- a tag, and what stands behind it
+-- a tag, and what follows it
 unfoldable pub strip_tag : List ℕ → Option (Variant × List ℕ)
 strip_tag bytes =
     option_or (strip (codes "RMD") bytes)
@@ -67,7 +67,7 @@ pub record Found : Type 0 where
   pub digits : List ℕ
   pub text : List ℕ
 
--- the text of a name behind a blank, if there is any: in a standard list behind a space or star
+-- the text of a name after a blank, if there is any: in a standard list after a space or star
 abbrev pub text_at : Layout → List ℕ → Option (List ℕ)
 text_at Standard [] = None
 text_at Standard (kind ∷ []) = None
@@ -87,7 +87,7 @@ abbrev pub skip_space : List ℕ → List ℕ
 skip_space [] = []
 skip_space (x ∷ rest) = if x == 32 then rest else x ∷ rest
 
--- what stands behind a tag
+-- what follows a tag
 unfoldable pub tagged_at : Variant → List ℕ → Option Found
 tagged_at variant bytes = do
   inner ← strip (codes "(") (skip_space bytes)
@@ -107,7 +107,7 @@ found_at layout body = either_at layout (strip_tag body) body
 unfoldable pub digest_at : Variant → List ℕ → Option (List ℕ)
 digest_at variant digits = if length digits == 2 * size_of variant then result_ok (decode_of digits) else None
 
--- the byte that a letter behind a backslash stands for
+-- the byte that a letter after a backslash stands for
 abbrev pub meant_by : ℕ → Option ℕ
 meant_by letter =
     if letter == 92 then Some 92
@@ -115,7 +115,7 @@ meant_by letter =
     else if letter == 114 then Some 13
     else None
 
--- the name that an escaped text spells; behind a backslash, escaping is true
+-- the name that an escaped text spells; after a backslash, escaping is true
 unfoldable pub unescaped : Bool → List ℕ → Option (List ℕ)
 unescaped false [] = Some []
 unescaped true [] = None

@@ -7,7 +7,7 @@ use Rattle.ripemd_files.specs.declared.piece.List.{List as Reader}
 use Rattle.ripemd_files.specs.declared.piece.Piece.{Piece}
 use Rattle.ripemd_files.specs.declared.piece.Piece.TheVariants.{Whole, Last, Nothing, Failed}
 
--- the lines of a list, without the newlines that end them; behind the last newline there is none
+-- the lines of a list, without the newlines that end them; after the last newline there is none
 unfoldable pub lines_of : List ℕ → List (List ℕ)
 lines_of [] = []
 lines_of (byte ∷ rest) = if byte == 10 then [] ∷ lines_of rest else onto_first byte (lines_of rest)

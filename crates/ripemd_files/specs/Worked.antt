@@ -40,7 +40,7 @@ digest_of R320 =
 abbrev pub written : Ending → Form → Variant → List ℕ → List ℕ
 written ending form variant name = line_of ending form variant (digest_of variant) name ++ end_of ending
 
--- the digits of RIPEMD-160 before and behind a text
+-- the digits of RIPEMD-160 before and after a text
 abbrev pub digits_then : List ℕ → List ℕ
 digits_then text = digits_of R160 ++ text
 

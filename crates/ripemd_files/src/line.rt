@@ -62,7 +62,7 @@ pub enum Layout {
     Reversed,
 }
 
-/// What stands behind a line.
+/// What follows a line.
 #[derive(Clone, Copy, PartialEq, Eq, Debug)]
 pub enum Ending {
     /// A newline. Names are escaped.

@@ -36,7 +36,7 @@ pub(crate) enum Next {
     Failed,
 }
 
-// Some lines of a list, the number of one behind them that says nothing that can be read, if there is one, and how
+// Some lines of a list, the number of one after them that says nothing that can be read, if there is one, and how
 // the list goes on.
 #[derive(Drop)]
 pub(crate) struct Group {
@@ -89,7 +89,7 @@ fn is_taken(rules: Rules, line: &Line) -> bool
     is_wanted(rules.only, line.variant) && !(rules.from_input && is_input(line.name.as_slice()))
 }
 
-// What a line that is not passed over says, if that counts, and the layout of its list behind it.
+// What a line that is not passed over says, if that counts, and the layout of its list after it.
 fn read_entry(
     alloc: Global,
     rules: Rules,

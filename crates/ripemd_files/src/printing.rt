@@ -25,7 +25,7 @@ pub struct Style {
     pub variant: Variant,
     /// How digest and name stand in a line.
     pub form: Form,
-    /// What stands behind a line.
+    /// What follows a line.
     pub ending: Ending,
 }
 

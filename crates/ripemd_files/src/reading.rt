@@ -30,7 +30,7 @@ fn is_blank_byte(byte: u8) -> bool
     byte == b' ' || byte == b'\t'
 }
 
-// What stands behind the blanks at the front.
+// What follows the blanks at the front.
 #[tactic(auto, using(crate::proofs::Places::skipping))]
 fn without_blanks(text: &[u8]) -> &[u8]
     ensures { result.now ≡ skip_blanks text.now }
@@ -43,14 +43,14 @@ fn without_blanks(text: &[u8]) -> &[u8]
     &[]
 }
 
-// What stands behind a prefix.
+// What follows a prefix.
 fn behind<'a>(prefix: &[u8], text: &'a [u8]) -> Option<&'a [u8]>
     ensures { option_map (λ x. x.now) result ≡ strip prefix.now text.now }
 {
     text.strip_prefix(prefix)
 }
 
-// What stands before and behind the first blank.
+// What comes before and after the first blank.
 #[tactic(auto, using(crate::proofs::Places::splitting))]
 fn around_blank(text: &[u8]) -> Option<(&[u8], &[u8])>
     ensures { option_map (λ x. (x.0.now, x.1.now)) result ≡ split_blank text.now }
@@ -63,7 +63,7 @@ fn around_blank(text: &[u8]) -> Option<(&[u8], &[u8])>
     None
 }
 
-// What stands before and behind the last closing parenthesis.
+// What comes before and after the last closing parenthesis.
 #[tactic(auto, using(crate::proofs::Places::closing))]
 fn around_close(text: &[u8]) -> Option<(&[u8], &[u8])>
     ensures { option_map (λ x. (x.0.now, x.1.now)) result ≡ split_close text.now }
@@ -89,7 +89,7 @@ fn variant_by_digits(count: usize) -> Option<Variant>
     }
 }
 
-// The variant by its length in bits at the end of a tag, and what stands behind.
+// The variant by its length in bits at the end of a tag, and what follows.
 fn behind_bits(text: &[u8]) -> Option<(Variant, &[u8])>
     ensures { option_map (λ x. (x.0, x.1.now)) result ≡ strip_bits text.now }
 {
@@ -105,7 +105,7 @@ fn behind_bits(text: &[u8]) -> Option<(Variant, &[u8])>
     }
 }
 
-// The variant of a tag, and what stands behind it.
+// The variant of a tag, and what follows it.
 #[tactic(auto, unfolding(crate::specs::Reading::strip_tag))]
 fn behind_tag(text: &[u8]) -> Option<(Variant, &[u8])>
     ensures { option_map (λ x. (x.0, x.1.now)) result ≡ strip_tag text.now }
@@ -119,7 +119,7 @@ fn behind_tag(text: &[u8]) -> Option<(Variant, &[u8])>
     }
 }
 
-// The text of a name behind a blank, unless it is empty.
+// The text of a name after a blank, unless it is empty.
 fn behind_separator(layout: Layout, text: &[u8]) -> Option<&[u8]>
     ensures { option_map (λ x. x.now) result ≡ text_at layout text.now }
 {
@@ -150,7 +150,7 @@ pub(crate) fn untagged_parts(layout: Layout, body: &[u8]) -> Option<Parts<'_>>
     })
 }
 
-// What stands behind one space, if it stands there.
+// What follows one space, if it stands there.
 fn without_space(text: &[u8]) -> &[u8]
     ensures { result.now ≡ skip_space text.now }
 {
@@ -160,7 +160,7 @@ fn without_space(text: &[u8]) -> &[u8]
     }
 }
 
-// The parts of a tagged line, from what stands behind its tag.
+// The parts of a tagged line, from what follows its tag.
 #[tactic(auto, unfolding(crate::specs::Reading::tagged_at))]
 fn tagged_parts(variant: Variant, text: &[u8]) -> Option<Parts<'_>>
     ensures { option_map found_of result ≡ tagged_at variant text.now }
@@ -215,7 +215,7 @@ fn decode_digest(
     }
 }
 
-// The byte that a letter behind a backslash stands for.
+// The byte that a letter after a backslash stands for.
 fn meaning(letter: u8) -> Option<u8>
     ensures { result ≡ meant_by letter }
 {
@@ -266,7 +266,7 @@ fn read_name(alloc: Global, marked: bool, text: &[u8]) -> Result<Option<Vec<u8>>
     }
 }
 
-// Whether a line is marked as escaped, and what stands behind the mark.
+// Whether a line is marked as escaped, and what follows the mark.
 fn without_mark(text: &[u8]) -> (bool, &[u8])
     ensures { (result.0, result.1.now) ≡ strip_mark text.now }
 {

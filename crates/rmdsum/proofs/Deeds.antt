@@ -5,14 +5,13 @@ use Rattle.std.proofs.lemmas.List.{append-nil, map-append, take_more}
 use Rattle.std.proofs.lemmas.List.Folds.{list_all-append}
 use Rattle.std.proofs.lemmas.Grind.{flat_map-append}
 use Rattle.ripemd_files.specs.declared.line.Variant.{Variant}
-use Rattle.ripemd_files.specs.declared.printing.Style.{Style}
 use Rattle.ripemd_files.specs.declared.verdict.Options.{Options}
 use Rattle.rmdsum.specs.declared.names.Wrong.{Wrong}
 use Rattle.rmdsum.specs.declared.request.Work.{Work}
-use Rattle.rmdsum.specs.declared.request.Work.TheVariants.{Print, Check}
+use Rattle.rmdsum.specs.declared.request.Work.TheVariants.{Check}
 use Rattle.ripemd_files.specs.Said.{Adds}
 use Rattle.rmdsum.specs.Runs.{Deed, Item, Extends, AreOf, IsPart, Handles, IsRun, items, got, handled, succeeded}
-use Rattle.rmdsum.specs.Runs.Deed.{Gets, Prints, Checks, Says}
+use Rattle.rmdsum.specs.Runs.Deed.{Gets, Checks, Says}
 use Rattle.rmdsum.specs.Runs.Item.{Name, Fault}
 
 adds_both : (a b c : Option (List Deed)) (xs ys : List Deed) → Adds a b xs → Adds b c ys → Adds a c (xs ++ ys)

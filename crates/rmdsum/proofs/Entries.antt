@@ -1,17 +1,11 @@
 -- The names that a file has, as they are read.
-use Rattle.std.proofs.Common.{inl, inr, ◌≡◌, ◌≢◌, ℕ, ◌==◌, ◌-◌, ◌&&◌, get_or, Bool, true, false, cond, List, [], ◌∷◌, ◌++◌, length, Option, Some, None, refl, sym, ap, ◌∙◌, subst, true≢false, arith, map, vec_items, Global, append_assoc}
-use Rattle.std.proofs.lemmas.Bool.{lt-ltb}
-use native.Mathlib.Numerals.{unary_clauses}
-use Rattle.std.specs.Prelude.{IfSome}
-use Rattle.ripemd_files.specs.declared.piece.Piece.TheVariants.{Whole, Last, Nothing}
-use Rattle.ripemd_files.specs.Splitting.{IsPiece}
+use Rattle.std.proofs.Common.{inl, inr, ◌≡◌, ℕ, ◌-◌, List, [], ◌∷◌, ◌++◌, Option, Some, None, refl, sym, subst, map, vec_items, Global, append_assoc}
 use Rattle.rmdsum.specs.declared.names.Entry.{Entry}
 use Rattle.rmdsum.specs.declared.names.Entry.TheVariants as entries
 use Rattle.rmdsum.specs.declared.names.Wrong.TheVariants.{Unread, Empty, Input}
-use Rattle.rmdsum.specs.Names.{NextName, Ends, IsEntry, IsNamed, Stays, Follow, Continues}
-use Rattle.std.specs.Io.KnownBytes.{IsAtEnd}
+use Rattle.rmdsum.specs.Names.{NextName, IsEntry, IsNamed, Stays, Follow}
 use Rattle.std.specs.Prelude.{Vec}
-use Rattle.std.proofs.lemmas.List.{append-nil, map-append}
+use Rattle.std.proofs.lemmas.List.{map-append}
 use Rattle.rmdsum.specs.declared.names.Wrong.{Wrong}
 
 stays : (old : Option (List ℕ)) → Stays old old

@@ -1,5 +1,5 @@
 -- What a run does with names.
-use Rattle.std.specs.Prelude.{◌≡◌, ℕ, Bool, true, List, [], ◌∷◌, ◌++◌, map, flat_map, Option, Some, None, option_to_list, ⊤}
+use Rattle.std.specs.Prelude.{◌≡◌, ℕ, Bool, true, List, [], ◌∷◌, ◌++◌, map, flat_map, Option, None, option_to_list, ⊤}
 use Rattle.std.specs.List.{list_all}
 use Rattle.ripemd_files.specs.declared.line.Variant.{Variant}
 use Rattle.ripemd_files.specs.declared.printing.Style.{Style}

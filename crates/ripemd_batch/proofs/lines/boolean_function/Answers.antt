@@ -21,6 +21,11 @@ returns-in-3 g c j h =
 pub returns-in_default : goal.returns-in_default
 returns-in_default g c j h =
     let last : c.args.k ≡ 4 = omega arith in
-    rw (last, c.not-in_default-2.ensures.value j h, c.xor-in_default.ensures.value j h, c.and-in_default.ensures.value j h,
-      c.not-in_default.ensures.value j h)
+    rw (
+      last,
+      c.not-in_default-2.ensures.value j h,
+      c.xor-in_default.ensures.value j h,
+      c.and-in_default.ensures.value j h,
+      c.not-in_default.ensures.value j h,
+    )
     (f4_complemented _ _ _ (c.xor-in_default.ensures.other_words j h) (c.not-in_default.ensures.words j h) (c.and-in_default.ensures.words j h))

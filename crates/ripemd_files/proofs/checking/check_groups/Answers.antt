@@ -11,8 +11,11 @@ groups-init g c = record {
 
 pub returns-in_err-group-clause-err : goal.returns-in_err-group-clause-err
 returns-in_err-group-clause-err g c =
-    search (rules, stops_reading_list c.groups.invariant.so_far c.requires.start (g.R.ReadList.state c.read_group.new.reader)
-    c.in_err-group.ensures.err)
+    search (
+      rules,
+      stops_reading_list c.groups.invariant.so_far c.requires.start (g.R.ReadList.state c.read_group.new.reader)
+          c.in_err-group.ensures.err,
+    )
 
 pub returns-in_err-check_lines-clause-err : goal.returns-in_err-check_lines-clause-err
 returns-in_err-check_lines-clause-err g c =
