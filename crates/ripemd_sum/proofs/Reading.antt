@@ -1,12 +1,12 @@
 -- What a reader gave so far, call by call.
-use Rattle.std.proofs.Common.{◌≡◌, ℕ, ◌+◌, ◌<◌, ◌≤◌, true, false, Option, ◌∙◌, arith}
-use Rattle.std.proofs.Common.{List, [], ◌++◌, length, take, length-append}
-use Rattle.std.specs.Io.KnownBytes.{Consumes, Keeps, IsAtEnd}
-use Rattle.std.proofs.KnownBytes.{Consumes-nil, Consumes-trans, Consumes-kept}
+use Rattle.std.proofs.Common.{◌≡◌, ℕ, ◌+◌, ◌<◌, ◌≤◌, false, Option, ◌∙◌, arith}
+use Rattle.std.proofs.Common.{List, ◌++◌, length, take, length-append}
+use Rattle.std.specs.Io.KnownBytes.{Consumes, IsAtEnd}
+use Rattle.std.proofs.KnownBytes.{Consumes-trans}
 use Rattle.std.proofs.lemmas.List.{append-nil, length-take-le}
 use Rattle.ripemd_sum.specs.declared.tracked.Tracked.{Tracked}
 use Rattle.ripemd_sum.specs.Track.{inner_of, has_failed, taken_of}
-use Rattle.ripemd_sum.specs.Runs.{Gives, GivesAll, FailsToGive, GivesTooMuch, most_past_limit}
+use Rattle.ripemd_sum.specs.Runs.{Gives, GivesAll, GivesTooMuch, most_past_limit}
 
 -- a reader gave this message, within the limit, and did not fail
 pub record GivesWithin {R : Type 0} (remaining : R → Option (List ℕ)) (old now : Tracked R) (limit : ℕ)
@@ -22,14 +22,6 @@ pub record ReadsInto {R : Type 0} (remaining : R → Option (List ℕ)) (now nex
   pub works : has_failed next ≡ has_failed now
   pub counted : taken_of next ≡ taken_of now + n
   pub most : n ≤ length buffer
-
-pub GivesWithin_start : {R : Type 0} {remaining : R → Option (List ℕ)} {reader : Tracked R} {limit : ℕ}
-    → has_failed reader ≡ false → GivesWithin remaining reader reader limit []
-GivesWithin_start {remaining = remaining} {reader = reader} works = record {
-  gives = record { given = Consumes-nil (remaining (inner_of reader)); counted = omega arith };
-  works = works;
-  within = omega arith;
-}
 
 -- a read after the message so far
 module _ {R : Type 0} {remaining : R → Option (List ℕ)} {old now next : Tracked R} {limit n : ℕ}
@@ -67,18 +59,4 @@ GivesAll_end before read ended = record {
   within = before.within;
   ended = ended;
   works = read.works ∙ before.works;
-}
-
-pub FailsToGive_end : {R : Type 0} {remaining : R → Option (List ℕ)} {old now next : Tracked R} {limit : ℕ}
-    {message : List ℕ} → GivesWithin remaining old now limit message
-    → Keeps (remaining (inner_of now)) (remaining (inner_of next)) → has_failed next ≡ true
-    → taken_of next ≡ taken_of now → FailsToGive remaining old next limit
-FailsToGive_end {message = message} before kept fails counted = record {
-  bytes = message;
-  gives = record {
-    given = Consumes-kept _ _ _ message before.gives.given kept;
-    counted = counted ∙ before.gives.counted;
-  };
-  within = before.within;
-  fails = fails;
 }
