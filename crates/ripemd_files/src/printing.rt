@@ -131,15 +131,15 @@ fn print_outcome<L: Log>(
 {
     match outcome {
         Outcome::Digest(digest) => {
-            write_line(
+            let line = write_line(
                 alloc,
-                lines,
                 style.ending,
                 style.form,
                 style.variant,
                 digest.as_slice(),
                 name,
             )?;
+            lines.extend_from_slice(line.as_slice())?;
             Ok(true)
         }
         Outcome::Refused(error) | Outcome::Broken(error) => {

@@ -103,31 +103,31 @@ fn push_body(
     Ok(())
 }
 
-/// Adds the line of a digest and a name to some, with its end, as `sha256sum` writes it.
+/// The line of a digest and a name, with its end, as `sha256sum` writes it.
 ///
 /// The digest is in lower case. [`parse_line`](crate::parse_line) finds all of it again if the
 /// digest has the variant's length, and the name no zero, and, in an untagged line, one byte or
 /// more.
 pub fn write_line(
     alloc: Global,
-    lines: &mut Vec<u8>,
     ending: Ending,
     form: Form,
     variant: Variant,
     digest: &[u8],
     name: &[u8],
-) -> Result<(), AllocError>
-    ensures { OnOk result (lines.new.items ≡ lines.old.items ++ line_of ending form variant digest.now name.now ++ end_of ending) }
+) -> Result<Vec<u8>, AllocError>
+    ensures { IfOk result (λ line. line.items ≡ line_of ending form variant digest.now name.now ++ end_of ending) }
 {
     let digits = hex::encode(alloc, digest)?;
     let marked = needs_mark(ending, name);
+    let mut line = Vec::new(alloc);
     if marked {
-        lines.push(b'\\')?;
+        line.push(b'\\')?;
     }
-    push_body(lines, form, variant, digits.as_bytes(), marked, name)?;
+    push_body(&mut line, form, variant, digits.as_bytes(), marked, name)?;
     match ending {
-        Ending::Newline => lines.push(b'\n')?,
-        Ending::Zero => lines.push(0)?,
+        Ending::Newline => line.push(b'\n')?,
+        Ending::Zero => line.push(0)?,
     }
-    Ok(())
+    Ok(line)
 }
