@@ -8,18 +8,6 @@ use Rattle.rmdsum.specs.Words.{Said}
 use Rattle.rmdsum.specs.Arguments.{Reading, added, then_reads, reading, says}
 use Rattle.rmdsum.specs.Arguments.Reading.{Goes, Stops}
 
-abbrev words_of : Reading → List Said
-words_of (Goes words next) = words
-words_of (Stops why) = []
-
-abbrev next_of : Reading → Next
-next_of (Goes words next) = next
-next_of (Stops why) = Any
-
-abbrev goes : Reading → Bool
-goes (Goes words next) = true
-goes (Stops why) = false
-
 added_twice : (first second : List Said) (given : Reading) → added first (added second given) ≡ added (first ++ second) given
 added_twice first second (Goes words next) = ap (λ all. Goes all next) (sym (append_assoc first second words))
 added_twice first second (Stops why) = refl
@@ -28,10 +16,8 @@ added_twice first second (Stops why) = refl
 pub added_read : (before after : List Said) (given : Reading) (next : Next) (rest : Next → Reading)
     → added before given ≡ Goes after next → added before (then_reads given rest) ≡ added after (rest next)
 added_read before after (Goes words first) next rest read =
-    let said : before ++ words ≡ after = ap words_of read in
-    let then : first ≡ next = ap next_of read in
-    added_twice before words (rest first) ∙ (rw (said, then) refl)
-added_read before after (Stops why) next rest read = absurd (true≢false (sym (ap goes read)))
+    added_twice before words (rest first) ∙ cc read
+added_read before after (Stops why) next rest read = cc read
 
 -- one argument more
 pub one_more : (last : Bool) (whole : Reading) (before after : List Said) (now next : Next) (arguments : List (Vec ℕ Global)) (i : ℕ)

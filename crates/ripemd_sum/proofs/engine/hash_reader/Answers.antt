@@ -1,4 +1,4 @@
-use Rattle.ripemd_sum.proofs.Hashers.{of_origin}
+use Rattle.ripemd_sum.proofs.Reading.{of_origin}
 use Rattle.ripemd_sum.proofs.engine.hash_reader.Goals as goal
 
 pub returns-clause-ok : goal.returns-clause-ok

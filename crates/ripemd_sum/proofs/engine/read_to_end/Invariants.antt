@@ -1,14 +1,16 @@
 -- The reader gave a message within the limit, and it was taken in. Each turn that goes on takes a byte
 -- more.
-use Rattle.std.proofs.Common.{◌≡◌, ◌-◌, ℕ, List}
-use Rattle.ripemd_sum.specs.Track.{taken_of}
-use Rattle.ripemd_sum.proofs.Reading.{GivesWithin}
+use Rattle.std.proofs.Common.{◌≡◌, ◌-◌, ◌≤◌, false, ℕ, List, length}
+use Rattle.ripemd_sum.specs.Track.{has_failed, taken_of}
+use Rattle.ripemd_sum.specs.Runs.{Gives}
 use Rattle.ripemd_sum.proofs.engine.read_to_end.Given as goal
 
 abbrev pub invariant-reads : goal.invariant-reads
 invariant-reads g l = record {
   message : List ℕ;
-  gives : GivesWithin g.R.Read.remaining l.fn.reader l.reader l.limit message;
+  gives : Gives g.R.Read.remaining l.fn.reader l.reader message;
+  works : has_failed l.reader ≡ false;
+  within : length message ≤ l.limit;
   held : (o : g.S.Incremental.Origin) → l.fn.state ≡ g.S.Incremental.new_state o
       → l.state ≡ g.S.Incremental.fed (g.S.Incremental.new_state o) message;
 }

@@ -1,5 +1,5 @@
 use Rattle.std.proofs.lemmas.Result.{MatchResult-from_both}
-use Rattle.ripemd_sum.proofs.Hashers.{of_origin}
+use Rattle.ripemd_sum.proofs.Reading.{of_origin}
 use Rattle.ripemd_sum.proofs.engine.run_tag.Goals as goal
 
 pub returns : goal.returns
