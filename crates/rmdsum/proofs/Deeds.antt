@@ -1,6 +1,6 @@
 -- Deeds of a run, one after another.
-use Rattle.std.proofs.Common.{◌≡◌, ◌<◌, ◌+◌, ℕ, Bool, true, false, ◌&&◌, List, [], ◌∷◌, ◌++◌, length, take, get_or, map, Option, Some, None, vec_items, Global, refl, sym, ap, subst, ◌∙◌, append_assoc, arith, true≢false}
-use Rattle.std.specs.Prelude.{Vec, is_none, option_to_list}
+use Rattle.std.proofs.Common.{◌≡◌, ◌<◌, ◌+◌, ℕ, Bool, true, ◌&&◌, List, [], ◌∷◌, ◌++◌, length, take, get_or, map, Option, Some, None, vec_items, Global, refl, sym, append_assoc, arith}
+use Rattle.std.specs.Prelude.{Vec, is_none}
 use Rattle.std.proofs.Math.Bool.{and-true}
 use Rattle.std.proofs.lemmas.List.{append-nil, map-append, take_more}
 use Rattle.std.proofs.lemmas.List.Folds.{list_all-append}
@@ -13,7 +13,6 @@ use Rattle.rmdsum.specs.declared.request.Work.TheVariants.{Check}
 use Rattle.ripemd_files.specs.Said.{Adds}
 use Rattle.rmdsum.specs.Runs.{Deed, Item, Extends, AreOf, IsOf, IsPart, Handles, IsRun, items, got, handled, succeeded}
 use Rattle.rmdsum.specs.Runs.Deed.{Gets, Checks, Says}
-use Rattle.rmdsum.specs.Runs.Item.{Name, Fault}
 
 adds_both : (a b c : Option (List Deed)) (xs ys : List Deed) → Adds a b xs → Adds b c ys → Adds a c (xs ++ ys)
 adds_both None b c xs ys first second = tt

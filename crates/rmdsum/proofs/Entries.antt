@@ -1,9 +1,9 @@
 -- The names that a file has, as they are read.
-use Rattle.std.proofs.Common.{inl, inr, ◌≡◌, ℕ, ◌-◌, List, [], ◌∷◌, ◌++◌, Option, Some, None, refl, sym, subst, map, vec_items, Global, append_assoc}
+use Rattle.std.proofs.Common.{inl, inr, ◌≡◌, ℕ, ◌-◌, List, [], ◌∷◌, ◌++◌, Option, Some, None, refl, subst, map, vec_items, Global, append_assoc}
 use Rattle.rmdsum.specs.declared.names.Entry.{Entry}
 use Rattle.rmdsum.specs.declared.names.Entry.TheVariants as entries
 use Rattle.rmdsum.specs.declared.names.Wrong.TheVariants.{Unread, Empty, Input}
-use Rattle.rmdsum.specs.Names.{NextName, IsEntry, IsNamed, Stays, Follow}
+use Rattle.rmdsum.specs.Names.{MayHave, NextName, IsEntry, IsNamed, Stays, Follow}
 use Rattle.std.specs.Prelude.{Vec}
 use Rattle.std.proofs.lemmas.List.{map-append}
 use Rattle.rmdsum.specs.declared.names.Wrong.{Wrong}
@@ -12,12 +12,13 @@ stays : (old : Option (List ℕ)) → Stays old old
 stays None = tt
 stays (Some bytes) = refl
 
-pub entry_of : (old new : Option (List ℕ)) (name : List ℕ) (entry : Entry) → NextName old name new → IsNamed name entry → IsEntry old new entry
-entry_of old new name (entries.Name same) next named = subst (λ text. NextName old text new) (sym named) next
-entry_of old new name (entries.Wrong (Unread error)) next named = absurd named
-entry_of old new name (entries.Wrong (Empty number)) next named = subst (λ text. NextName old text new) named next
-entry_of old new name (entries.Wrong Input) next named = subst (λ text. NextName old text new) named next
-entry_of old new name entries.End next named = absurd named
+pub entry_of : (file : List ℕ) (old new : Option (List ℕ)) (name : List ℕ) (entry : Entry) → NextName old name new → IsNamed file name entry
+    → IsEntry file old new entry
+entry_of file old new name (entries.Name same) next named = rw named.0 (next, named.1)
+entry_of file old new name (entries.Wrong (Unread error)) next named = absurd named
+entry_of file old new name (entries.Wrong (Empty number)) next named = subst (λ text. NextName old text new) named next
+entry_of file old new name (entries.Wrong Input) next named = (subst (λ text. NextName old text new) named.0 next, named.1)
+entry_of file old new name entries.End next named = absurd named
 
 -- ---- some names
 
@@ -27,22 +28,23 @@ stays_then None now new name stays (inr last) = inr (tt, tt, last.2, last.3)
 stays_then (Some bytes) now new name stays next = rw stays at next
 
 -- a name more was read
-pub one_more_name : (old now new : Option (List ℕ)) (read : List (List ℕ)) (name : List ℕ) → Follow old read now → NextName now name new
-    → Follow old (read ++ name ∷ []) new
-one_more_name old now new [] name follow next = (new, stays_then old now new name follow next, stays new)
-one_more_name old now new (first ∷ read) name follow next = (follow.0, follow.1, one_more_name follow.0 now new read name follow.2 next)
+pub one_more_name : (file : List ℕ) (old now new : Option (List ℕ)) (read : List (List ℕ)) (name : List ℕ) → Follow file old read now
+    → NextName now name new → MayHave file name → Follow file old (read ++ name ∷ []) new
+one_more_name file old now new [] name follow next may = (new, stays_then old now new name follow next, may, stays new)
+one_more_name file old now new (first ∷ read) name follow next may =
+    (follow.0, follow.1, follow.2, one_more_name file follow.0 now new read name follow.3 next may)
 
 -- the names so far are those given and those that were read
-pub record SoFar (old now : Option (List ℕ)) (given names : List (List ℕ)) : Type 0 where
+pub record SoFar (file : List ℕ) (old now : Option (List ℕ)) (given names : List (List ℕ)) : Type 0 where
   pub read : List (List ℕ)
   pub all : names ≡ given ++ read
-  pub follow : Follow old read now
+  pub follow : Follow file old read now
 
-pub named : (old now new : Option (List ℕ)) (given : List (List ℕ)) (names : List (Vec ℕ Global)) (name : Vec ℕ Global)
-    → SoFar old now given (map vec_items names) → NextName now (vec_items name) new
-    → SoFar old new given (map vec_items (names ++ name ∷ []))
-named old now new given names name so_far next = record {
+pub named : (file : List ℕ) (old now new : Option (List ℕ)) (given : List (List ℕ)) (names : List (Vec ℕ Global)) (name : Vec ℕ Global)
+    → SoFar file old now given (map vec_items names) → NextName now (vec_items name) new → MayHave file (vec_items name)
+    → SoFar file old new given (map vec_items (names ++ name ∷ []))
+named file old now new given names name so_far next may = record {
   read = so_far.read ++ vec_items name ∷ [];
   all = rw (map-append vec_items names (name ∷ []), so_far.all) (append_assoc given so_far.read (vec_items name ∷ []));
-  follow = one_more_name old now new so_far.read (vec_items name) so_far.follow next;
+  follow = one_more_name file old now new so_far.read (vec_items name) so_far.follow next may;
 }

@@ -1,9 +1,8 @@
 -- What arguments say, one after another.
-use Rattle.std.proofs.Common.{◌≡◌, List, [], ◌∷◌, ◌++◌, ℕ, Bool, true, false, map, drop, get_or, length, ◌<◌, ◌+◌, vec_items, refl, sym, ap, ◌∙◌, append_assoc, true≢false, Global}
+use Rattle.std.proofs.Common.{◌≡◌, List, ◌∷◌, ◌++◌, ℕ, Bool, map, drop, get_or, length, ◌<◌, ◌+◌, vec_items, refl, sym, ap, ◌∙◌, append_assoc, Global}
 use Rattle.std.specs.Prelude.{Vec}
 use Rattle.std.proofs.lemmas.List.{drop_more}
 use Rattle.rmdsum.specs.declared.arguments.Next.{Next}
-use Rattle.rmdsum.specs.declared.arguments.Next.TheVariants.{Any}
 use Rattle.rmdsum.specs.Words.{Said}
 use Rattle.rmdsum.specs.Arguments.{Reading, added, then_reads, reading, says}
 use Rattle.rmdsum.specs.Arguments.Reading.{Goes, Stops}

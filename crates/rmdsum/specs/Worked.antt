@@ -150,8 +150,12 @@ pub record WorkedRuns : Type 0 where
 -- ---- names of a file
 
 pub record WorkedNames : Type 0 where
-  pub two : Continues (Some (97 ∷ 0 ∷ 98 ∷ [])) (Some []) [] (codes "a" ∷ codes "b" ∷ []) None
-  pub given : Continues (Some []) (Some []) (codes "a" ∷ []) (codes "a" ∷ []) None
-  pub empty : Continues (Some (97 ∷ 0 ∷ 0 ∷ 98 ∷ [])) (Some (98 ∷ [])) [] (codes "a" ∷ []) (Some (Empty 2))
-  pub not_ended : ¬ Continues (Some (codes "a")) (Some (codes "a")) [] [] None
-  pub dropped : ¬ Continues (Some (codes "a")) (Some []) [] [] None
+  pub two : Continues [] (Some (97 ∷ 0 ∷ 98 ∷ [])) (Some []) [] (codes "a" ∷ codes "b" ∷ []) None
+  pub given : Continues [] (Some []) (Some []) (codes "a" ∷ []) (codes "a" ∷ []) None
+  pub empty : Continues [] (Some (97 ∷ 0 ∷ 0 ∷ 98 ∷ [])) (Some (98 ∷ [])) [] (codes "a" ∷ []) (Some (Empty 2))
+  pub input : Continues (codes "f") (Some (codes "-")) (Some []) [] (codes "-" ∷ []) None
+  pub not_ended : ¬ Continues [] (Some (codes "a")) (Some (codes "a")) [] [] None
+  pub dropped : ¬ Continues [] (Some (codes "a")) (Some []) [] [] None
+  pub not_input : ¬ Continues (codes "f") (Some (codes "-")) (Some []) [] [] (Some Input)
+  pub its_input : ¬ Continues (codes "-") (Some (codes "-")) (Some []) [] (codes "-" ∷ []) None
+  pub nameless : ¬ Continues [] (Some (0 ∷ [])) (Some []) [] ([] ∷ []) None

@@ -1,8 +1,8 @@
 //! The names of files, as they come.
 
-ghost use Rattle.std.specs.Prelude.{◌≡◌, [], ℕ, true, false, IfOk, IsSomeAnd, None, is_none, map, vec_items, Vec};
+ghost use Rattle.std.specs.Prelude.{◌≡◌, [], ℕ, true, false, IfOk, IfSome, IsSome, IsSomeAnd, None, is_none, map, vec_items, Vec};
 ghost use Rattle.std.specs.Global.{Global};
-ghost use Rattle.rmdsum.specs.declared.request.NameSource.TheVariants.{Operands};
+ghost use Rattle.rmdsum.specs.declared.request.NameSource.TheVariants.{From, Operands};
 ghost use Rattle.rmdsum.specs.Names.{left_in, Continues, IsEntry, IsNamed};
 
 use crate::messages::{Message, say};
@@ -53,8 +53,10 @@ impl Names<Source> {
         rt: &HostRuntime,
         names: request::NameSource,
     ) -> Result<Option<Names<Source>>, Fault>
-        ensures { (given : Vec (Vec ℕ Global) Global) → names ≡ Operands given
+        ensures given { (given : Vec (Vec ℕ Global) Global) → names ≡ Operands given
             → IfOk result (λ opened. IsSomeAnd opened (λ opened. (opened.given ≡ given) × (opened.reader ≡ None))) }
+        ensures file { (file : Vec ℕ Global) → names ≡ From file
+            → IfOk result (λ opened. IfSome opened (λ opened. (opened.given.items ≡ []) × (opened.file ≡ file) × IsSome opened.reader)) }
     {
         let alloc = rt.alloc();
         match names {
@@ -105,7 +107,7 @@ enum Entry {
 impl<R: Read + Drop> Names<R> {
     /// The next names, up to a wrong one or one that has to be waited for.
     pub fn next(&mut self, alloc: Global) -> Result<Batch, Fault>
-        ensures next { IfOk result (λ batch. Continues (left_in R.remaining self.old.reader) (left_in R.remaining self.new.reader)
+        ensures next { IfOk result (λ batch. Continues self.old.file.items (left_in R.remaining self.old.reader) (left_in R.remaining self.new.reader)
             (map vec_items self.old.given.items) (map vec_items batch.names.items) batch.wrong) }
         ensures given { IfOk result (λ _. self.new.given.items ≡ []) }
     {
@@ -138,8 +140,9 @@ impl<R: Read + Drop> Names<R> {
 
     // Reads a name of the file.
     fn read_name(&mut self, alloc: Global) -> Result<Entry, Fault>
-        ensures entry { IfOk result (IsEntry (left_in R.remaining self.old.reader) (left_in R.remaining self.new.reader)) }
+        ensures entry { IfOk result (IsEntry self.old.file.items (left_in R.remaining self.old.reader) (left_in R.remaining self.new.reader)) }
         ensures given { self.new.given ≡ self.old.given }
+        ensures file { self.new.file ≡ self.old.file }
     {
         let Some(reader) = &mut self.reader else {
             return Ok(Entry::End);
@@ -164,9 +167,10 @@ impl<R: Read + Drop> Names<R> {
 
     // A name that was read, or what is wrong with it.
     fn entry(&mut self, name: Vec<u8>) -> Entry
-        ensures name { IsNamed name.items result }
+        ensures name { IsNamed self.old.file.items name.items result }
         ensures reader { self.new.reader ≡ self.old.reader }
         ensures given { self.new.given ≡ self.old.given }
+        ensures file { self.new.file ≡ self.old.file }
     {
         self.number = self.number.saturating_add(1);
         if name.is_empty() {

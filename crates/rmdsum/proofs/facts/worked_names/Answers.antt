@@ -1,5 +1,4 @@
-use Rattle.std.proofs.Common.{rules, List, [], ◌∷◌, codes, Some, inl, inr, refl, sym, subst}
-use Rattle.rmdsum.specs.Names.{Follow, Stays}
+use Rattle.std.proofs.Common.{[], ◌∷◌, codes, Some, inl, inr, refl}
 use Rattle.rmdsum.proofs.facts.worked_names.Goals as goal
 
 pub returns : goal.returns
@@ -8,7 +7,12 @@ returns c = record {
     read = codes "a" ∷ codes "b" ∷ [];
     between = Some [];
     all = refl;
-    follow = (Some (98 ∷ []), inl (refl, refl), (Some [], inr (refl, refl, (λ none. cc none), refl), refl));
+    follow = (
+      Some (98 ∷ []),
+      inl (refl, refl),
+      ((λ none. cc none), (λ is. absurd (cc is))),
+      (Some [], inr (refl, refl, (λ none. cc none), refl), ((λ none. cc none), (λ is. absurd (cc is))), refl),
+    );
     ends = refl;
     last = λ none nothing. cc;
   };
@@ -17,10 +21,21 @@ returns c = record {
     read = codes "a" ∷ [];
     between = Some (0 ∷ 98 ∷ []);
     all = refl;
-    follow = (Some (0 ∷ 98 ∷ []), inl (refl, refl), refl);
+    follow = (Some (0 ∷ 98 ∷ []), inl (refl, refl), ((λ none. cc none), (λ is. absurd (cc is))), refl);
     ends = inl (refl, refl);
+    last = λ none nothing. cc;
+  };
+  input = record {
+    read = codes "-" ∷ [];
+    between = Some [];
+    all = refl;
+    follow = (Some [], inr (refl, refl, (λ none. cc none), refl), ((λ none. cc none), (λ is. absurd (cc is))), refl);
+    ends = refl;
     last = λ none nothing. cc;
   };
   not_ended = λ goes. cc (goes.last refl refl);
   dropped = λ goes. let none = rw (← goes.all) at goes.follow in cc (rw none at goes.ends);
+  not_input = λ goes. cc goes.ends.1;
+  its_input = λ goes. let name = rw (← goes.all) at goes.follow in name.2.1 refl refl;
+  nameless = λ goes. let name = rw (← goes.all) at goes.follow in name.2.0 refl;
 }
