@@ -24,11 +24,12 @@ pub record Gave {File : Type 0} (IsOpened : File → Type 0) (left : File → Op
   pub is_opened : IsOpened opened
   pub given : Consumes (left opened) (left now) bytes
 
--- a file that was opened so gave this message, to its end
+-- a file that was opened so gave this message, to its end, and its length in bits fits into 64 bits
 pub record Gives {File : Type 0} (IsOpened : File → Type 0) (left : File → Option (List ℕ)) (message : List ℕ) : Type 0 where
   pub ended : File
   pub gave : Gave IsOpened left message ended
   pub at_end : IsAtEnd (left ended)
+  pub fits : length message < 2 ^ 61
 
 -- a file that was opened so fails with this error, which, if it gives too many bytes for the length in bits to fit into 64 bits,
 -- says so
@@ -40,16 +41,24 @@ pub record Breaks {File : Type 0} (IsOpened : File → Type 0) (left : File → 
   pub fails : may_fail now error ⊎ ((2 ^ 61 ≤ length bytes) × (error_kind error ≡ FileTooLarge))
 
 -- What a folder is: which files a name opens there, and which errors opening it gives; what an opened file has
--- left, where that is known, and with which errors a read of it may fail.
+-- left, where that is known, and with which errors a read of it may fail; and which files may be read: until a read
+-- fails or finds the end.
 pub record Place (File : Type 0) : Type 1 where
   pub opens : List ℕ → File → Type 0
   pub refuses : List ℕ → Error → Type 0
   pub left : File → Option (List ℕ)
   pub may_fail : File → Error → Type 0
+  pub is_open : File → Type 0
 
 -- a folder of which nothing is known
 abbrev pub any_place : {File : Type 0} → Place File
-any_place = record { opens = λ name file. ⊤; refuses = λ name error. ⊤; left = λ file. None; may_fail = λ file error. ⊤ }
+any_place = record {
+  opens = λ name file. ⊤;
+  refuses = λ name error. ⊤;
+  left = λ file. None;
+  may_fail = λ file error. ⊤;
+  is_open = λ file. ⊤;
+}
 
 -- reading the file of a name comes to this digest or error
 abbrev pub ComesTo : {File : Type 0} → Place File → (List ℕ → List ℕ) → List ℕ → Outcome → Type 0

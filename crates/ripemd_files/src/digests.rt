@@ -38,9 +38,11 @@ enum Content<T> {
 // Reads to the front of the buffer, until the file ends or the buffer is full. How many bytes: if there is room for
 // more, the file has ended.
 fn fill<F: Folder>(folder: &F, file: &mut F::File, buffer: &mut [u8]) -> Result<usize, io::Error>
+    requires open { (F.place folder.now).is_open file.old }
     ensures ok { IfOk result (λ count. (count ≤ length buffer.new)
         × Consumes ((F.place folder.now).left file.old) ((F.place folder.now).left file.new) (take count buffer.new)
-        × (count < length buffer.new → IsAtEnd ((F.place folder.now).left file.new))) }
+        × (count < length buffer.new → IsAtEnd ((F.place folder.now).left file.new))
+        × (count ≡ length buffer.new → (F.place folder.now).is_open file.new)) }
     ensures err { IfErr result (λ error. (bytes : List ℕ) × (now : F.File) × Consumes ((F.place folder.now).left file.old) ((F.place folder.now).left now) bytes
         × (F.place folder.now).may_fail now error) }
     ensures room { length buffer.new ≡ length buffer.old }
@@ -63,9 +65,11 @@ fn hash_rest<D: Digest, F: Folder>(
     file: &mut F::File,
     buffer: &mut [u8],
 ) -> Result<D::Output, io::Error>
+    requires open { (F.place folder.now).is_open file.old }
     requires room { 0 < length buffer.old }
     ensures ok { IfOk result (λ digest. (rest : List ℕ) × Consumes ((F.place folder.now).left file.old) ((F.place folder.now).left file.new) rest
-        × IsAtEnd ((F.place folder.now).left file.new) × (D.bytes_of digest ≡ hash D.start D.step D.output (buffer.old ++ rest))) }
+        × IsAtEnd ((F.place folder.now).left file.new) × (length (buffer.old ++ rest) < 2 ^ 61)
+        × (D.bytes_of digest ≡ hash D.start D.step D.output (buffer.old ++ rest))) }
     ensures err { IfErr result (λ error. (rest : List ℕ) × (now : F.File) × Consumes ((F.place folder.now).left file.old) ((F.place folder.now).left now) rest
         × ((F.place folder.now).may_fail now error ⊎ ((2 ^ 61 ≤ length (buffer.old ++ rest)) × (error_kind error ≡ FileTooLarge)))) }
     ensures room { length buffer.new ≡ length buffer.old }
@@ -82,7 +86,14 @@ fn hash_rest<D: Digest, F: Folder>(
             Err(error) => return Err(error),
         }
     }
-    Err(io::Error::from(io::ErrorKind::FileTooLarge))
+    Err(too_large())
+}
+
+// What is said of a file that is too long.
+fn too_large() -> io::Error
+    ensures { error_kind result ≡ FileTooLarge }
+{
+    io::Error::from(io::ErrorKind::FileTooLarge)
 }
 
 // What the file of a name gave.
@@ -102,6 +113,9 @@ fn read_file<D: Digest, F: Folder>(
     };
     match fill(folder, &mut file, buffer) {
         Ok(count) => {
+            if count as u64 >= TOO_LONG {
+                return Ok(Content::Broken(too_large()));
+            }
             if count < buffer.len() {
                 let message = Vec::from_slice(alloc, &buffer[..count])?;
                 return Ok(Content::Short(message));

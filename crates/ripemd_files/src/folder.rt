@@ -1,6 +1,6 @@
 //! Where names are opened as files.
 
-ghost use Rattle.std.specs.Prelude.{ℕ, List, IfOk, IfErr, IsErr};
+ghost use Rattle.std.specs.Prelude.{◌<◌, ℕ, List, IfOk, IfErr};
 ghost use Rattle.std.specs.Io.{ReadsAtMost};
 ghost use Rattle.std.specs.Io.KnownBytes.{ReadConsumes};
 ghost use Rattle.ripemd_files.specs.Files.{Place};
@@ -18,6 +18,7 @@ pub trait Folder {
     /// Opens the file of a name.
     fn open(&self, name: &[u8]) -> io::Result<Self::File>
         ensures ok { IfOk result ((place self.now).opens name.now) }
+        ensures open { IfOk result (place self.now).is_open }
         ensures err { IfErr result ((place self.now).refuses name.now) };
 
     /// Whether the file of a name is, as far as is known before it is opened, a regular one of less than 64 KiB, for
@@ -25,9 +26,12 @@ pub trait Folder {
     /// other file all lines are.
     fn is_short(&self, name: &[u8]) -> bool;
 
-    /// Reads bytes of a file to the front of the buffer, and answers how many: 0 at its end.
+    /// Reads bytes of a file to the front of the buffer, and answers how many: 0 at its end. After that, and after a
+    /// read that failed, the file is not read again.
     fn read(&self, file: &mut Self::File, buffer: &mut [u8]) -> io::Result<usize>
+        requires open { (place self.now).is_open file.old }
         ensures bound { ReadsAtMost result buffer.new }
         ensures bytes { ReadConsumes ((place self.now).left file.old) ((place self.now).left file.new) result buffer.new }
+        ensures open { IfOk result (λ count. 0 < count → (place self.now).is_open file.new) }
         ensures err { IfErr result ((place self.now).may_fail file.old) };
 }

@@ -10,4 +10,5 @@ loop-count-preserved g c = record {
   taken = rw (written_behind c.loop-count.count _ c.in-Ok.more c.loop-count.buffer c.read.new.buffer c.loop-count.invariant.within
       c.in-Ok.ensures.bound.0)
       (Consumes-trans _ _ _ _ _ c.loop-count.invariant.taken c.in-Ok.ensures.bytes.0);
+  readable = search rules;
 }
