@@ -1,18 +1,17 @@
 -- Deeds of a run, one after another.
-use Rattle.std.proofs.Common.{◌≡◌, ◌<◌, ◌+◌, ℕ, Bool, true, ◌&&◌, List, [], ◌∷◌, ◌++◌, length, take, get_or, map, Option, Some, None, vec_items, Global, refl, sym, append_assoc, arith}
+use Rattle.std.proofs.Common.{◌≡◌, ◌≢◌, ◌<◌, ◌+◌, ℕ, Bool, true, false, ◌&&◌, List, [], ◌∷◌, ◌++◌, length, take, get_or, map, Option, Some, None, vec_items, Global, refl, inl, inr, append_assoc, arith}
 use Rattle.std.specs.Prelude.{Vec, is_none}
 use Rattle.std.proofs.Math.Bool.{and-true}
 use Rattle.std.proofs.lemmas.List.{append-nil, map-append, take_more}
-use Rattle.std.proofs.lemmas.List.Folds.{list_all-append}
-use Rattle.std.proofs.lemmas.Grind.{flat_map-append}
 use Rattle.ripemd_files.specs.declared.line.Variant.{Variant}
 use Rattle.ripemd_files.specs.declared.verdict.Options.{Options}
 use Rattle.rmdsum.specs.declared.names.Wrong.{Wrong}
 use Rattle.rmdsum.specs.declared.request.Work.{Work}
 use Rattle.rmdsum.specs.declared.request.Work.TheVariants.{Check}
 use Rattle.ripemd_files.specs.Said.{Adds}
-use Rattle.rmdsum.specs.Runs.{Deed, Item, Extends, AreOf, IsOf, IsPart, Handles, IsRun, items, got, handled, succeeded}
-use Rattle.rmdsum.specs.Runs.Deed.{Gets, Checks, Says}
+use Rattle.rmdsum.specs.Runs.{Deed, Item, Extends, IsOf, Handles, IsRun, items, handled, succeeded}
+use Rattle.rmdsum.specs.Runs.Item.{Name}
+use Rattle.rmdsum.specs.Runs.Deed.{Gets, Prints, Checks, Says}
 
 adds_both : (a b c : Option (List Deed)) (xs ys : List Deed) → Adds a b xs → Adds b c ys → Adds a c (xs ++ ys)
 adds_both None b c xs ys first second = tt
@@ -20,69 +19,69 @@ adds_both (Some a) None c xs ys first second = absurd first
 adds_both (Some a) (Some b) None xs ys first second = absurd second
 adds_both (Some a) (Some b) (Some c) xs ys first second = rw (second, first) (append_assoc a xs ys)
 
-of_both : (work : Work) (xs ys : List Deed) → AreOf work xs → AreOf work ys → AreOf work (xs ++ ys)
-of_both work [] ys first second = second
-of_both work (x ∷ xs) ys first second = (first.0, of_both work xs ys first.1 second)
+and_both : (a b c : Bool) → ((a && b) && c) ≡ (a && (b && c))
+and_both true b c = refl
+and_both false b c = refl
 
--- such deeds of a work are added
-abbrev Grows : Work → List Item → List Item → Bool → Option (List Deed) → Option (List Deed) → Type 0
-Grows work taken done success a b = Extends a b (λ deeds. IsPart work taken done deeds success)
+-- deeds are added that handle such items
+abbrev Grows : Work → List Item → Bool → Option (List Deed) → Option (List Deed) → Type 0
+Grows work items success a b = Extends a b (λ deeds. Handles work items deeds success)
 
-both : (work : Work) (a b c : Option (List Deed)) {taken more_taken done more_done : List Item} {all more : Bool}
-    → Grows work taken done all a b → Grows work more_taken more_done more b c
-    → Grows work (taken ++ more_taken) (done ++ more_done) (all && more) a c
-both work a b c first second = (
+both : (work : Work) (a b c : Option (List Deed)) (items more : List Item) (all others : Bool)
+    → Grows work items all a b → Grows work more others b c → Grows work (items ++ more) (all && others) a c
+both work a b c items more all others first second = (
   first.0 ++ second.0,
   adds_both a b c _ _ first.1 second.1,
-  record {
-    of = of_both work first.0 second.0 first.2.of second.2.of;
-    items_got = rw (flat_map-append got first.0 second.0, first.2.items_got, second.2.items_got) refl;
-    items_handled = rw (flat_map-append handled first.0 second.0, first.2.items_handled, second.2.items_handled) refl;
-    success_is = rw (first.2.success_is, second.2.success_is) (sym (list_all-append succeeded first.0 second.0));
-  },
+  λ later deeds rest run. rw (and_both, append_assoc, append_assoc) (first.2 (more ++ later) _ _ (second.2 later deeds rest run)),
 )
 
 one_deed : (work : Work) (deed : Deed) (a b : Option (List Deed)) → IsOf work deed → Adds a b (deed ∷ [])
-    → Grows work (got deed ++ []) (handled deed ++ []) (succeeded deed && true) a b
-one_deed work deed a b of adds = (deed ∷ [], adds, record { of = (of, tt); items_got = refl; items_handled = refl; success_is = refl })
+    → Grows work (handled deed) (succeeded deed) a b
+one_deed work (Gets names wrong) a b of adds = absurd of
+one_deed work (Prints style names answer) a b of adds = (_, adds, λ later deeds rest run. (later, rest, of, refl, refl, run))
+one_deed work (Checks only options name answer) a b of adds = (_, adds, λ later deeds rest run. (later, rest, of, refl, refl, run))
+one_deed work (Says wrong answer) a b of adds = (_, adds, λ later deeds rest run. (later, rest, of, refl, refl, run))
 
 -- a list more was checked
 pub one_list : (only : Option Variant) (options : Options) (a b c : Option (List Deed)) (names : List (Vec ℕ Global)) (i : ℕ)
     (name : Vec ℕ Global) (text : List ℕ) (success answer : Bool) → i < length names → get_or names i name ≡ name → text ≡ vec_items name
-    → Extends a b (λ deeds. Handles (Check only options) (map vec_items (take i names)) deeds success)
+    → Grows (Check only options) (map Name (map vec_items (take i names))) success a b
     → Adds b c (Checks only options text answer ∷ [])
-    → Extends a c (λ deeds. Handles (Check only options) (map vec_items (take (i + 1) names)) deeds (success && answer))
+    → Grows (Check only options) (map Name (map vec_items (take (i + 1) names))) (success && answer) a c
 one_list only options a b c names i name text success answer within is read so_far next =
-    let whole = both (Check only options) a b c so_far (one_deed (Check only options) (Checks only options text answer) b c (refl, refl) next) in
-    simp (take_more names i name within, is, map-append) (simp (and-true, read) at whole)
+    let whole : Grows (Check only options) (map Name (map vec_items (take i names)) ++ Name text ∷ []) (success && answer) a c =
+    both (Check only options) a b c _ _ _ _ so_far (one_deed (Check only options) (Checks only options text answer) b c (refl, refl) next) in
+    rw (take_more names i name within, is, map-append, map-append) (rw read at whole)
 
--- what a run got so far it handled
-pub record IsBegun (work : Work) (deeds : List Deed) (success : Bool) : Type 0 where
-  pub all : List Item
-  pub part : IsPart work all all deeds success
-
+-- a run that goes on after these deeds
 abbrev pub Begins : Work → Option (List Deed) → Option (List Deed) → Bool → Type 0
-Begins work a b success = Extends a b (λ deeds. IsBegun work deeds success)
+Begins work a b success = Extends a b (λ deeds. (more : List Deed) (others : Bool) → IsRun work more others → IsRun work (deeds ++ more) (success && others))
 
 -- some names more were handled
 pub one_round : (work : Work) (a b c d e : Option (List Deed)) (names : List (List ℕ)) (wrong : Option Wrong) (success done sound : Bool)
-    → Begins work a b success → Adds b c (Gets names wrong ∷ []) → Extends c d (λ deeds. Handles work names deeds done)
+    → items names wrong ≢ [] → Begins work a b success → Adds b c (Gets names wrong ∷ []) → Grows work (map Name names) done c d
     → Adds d e (Says wrong sound ∷ []) → Begins work a e ((success && done) && sound)
-one_round work a b c d e names wrong success done sound so_far gave took told =
-    let got = both work a b c (so_far.0, so_far.1, so_far.2.part) (one_deed work (Gets names wrong) b c tt gave) in
-    let whole = both work a d e (both work a c d got took) (one_deed work (Says wrong sound) d e tt told) in (
-      whole.0,
-      whole.1,
-      record { all = so_far.2.all ++ items names wrong; part = simp (append-nil, append_assoc, and-true) at whole.2 },
+one_round work a b c d e names wrong success done sound some so_far gave took told =
+    let (deeds, adds, handles) = both work c d e _ _ _ _ took (one_deed work (Says wrong sound) d e tt told) in (
+      so_far.0 ++ Gets names wrong ∷ deeds,
+      rw append_assoc at (adds_both a c e _ _ (adds_both a b c _ _ so_far.1 gave) adds),
+      λ more others run.
+          rw (and_both, and_both, append_assoc) (so_far.2 (Gets names wrong ∷ (deeds ++ more)) (done && (sound && others)) (refl, inr (some,
+          rw (append-nil, and_both) at (handles [] more others run)))),
     )
 
 -- no more names come
 pub ended : (work : Work) (a b c : Option (List Deed)) (names : List (Vec ℕ Global)) (wrong : Option Wrong) (success : Bool)
     → length names ≡ 0 → is_none wrong ≡ true → Begins work a b success → Adds b c (Gets (map vec_items names) wrong ∷ [])
     → Extends a c (λ deeds. IsRun work deeds success)
-unfolding both one_deed
 ended work a b c [] None success none nothing so_far gave =
-    let whole = both work a b c (so_far.0, so_far.1, so_far.2.part) (one_deed work (Gets [] None) b c tt gave) in
-    (whole.0, whole.1, record { all = so_far.2.all; before = so_far.0; last = refl; part = simp (append-nil, and-true) at whole.2 })
+    (_, adds_both a b c _ _ so_far.1 gave, rw and-true at (so_far.2 (Gets [] None ∷ []) true (refl, inl (refl, refl, refl))))
 ended work a b c [] (Some wrong) success none nothing so_far gave = cc nothing
 ended work a b c (name ∷ names) wrong success none nothing so_far gave = absurd (omega arith)
+
+-- something comes
+pub something : (names : List (Vec ℕ Global)) (wrong : Option Wrong) → ¬ ((length names ≡ 0) × (is_none wrong ≡ true))
+    → items (map vec_items names) wrong ≢ []
+something [] None some = λ none. some (refl, refl)
+something [] (Some wrong) some = λ none. cc none
+something (name ∷ names) wrong some = λ none. cc none

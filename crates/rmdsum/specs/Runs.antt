@@ -1,6 +1,5 @@
 -- What a run does with names.
-use Rattle.std.specs.Prelude.{◌≡◌, ℕ, Bool, true, List, [], ◌∷◌, ◌++◌, map, flat_map, Option, None, option_to_list, ⊤}
-use Rattle.std.specs.List.{list_all}
+use Rattle.std.specs.Prelude.{◌≡◌, ◌≢◌, ◌⊎◌, ◌&&◌, ℕ, Bool, true, List, [], ◌∷◌, ◌++◌, map, Option, option_to_list, ⊤}
 use Rattle.ripemd_files.specs.declared.line.Variant.{Variant}
 use Rattle.ripemd_files.specs.declared.printing.Style.{Style}
 use Rattle.ripemd_files.specs.declared.verdict.Options.{Options}
@@ -31,10 +30,6 @@ pub data Item : Type 0 where
 abbrev pub items : List (List ℕ) → Option Wrong → List Item
 items names wrong = map Name names ++ map Fault (option_to_list wrong)
 
-abbrev pub got : Deed → List Item
-got (Gets names wrong) = items names wrong
-got _ = []
-
 abbrev pub handled : Deed → List Item
 handled (Gets names wrong) = []
 handled (Prints style names answer) = map Name names
@@ -49,31 +44,27 @@ succeeded (Says wrong answer) = answer
 
 -- files are printed and lists are checked as the work has it
 abbrev pub IsOf : Work → Deed → Type 0
+IsOf work (Gets names wrong) = ⊥
 IsOf (Print style) (Prints same names answer) = same ≡ style
 IsOf (Print style) (Checks only options name answer) = ⊥
 IsOf (Check only options) (Prints style names answer) = ⊥
 IsOf (Check only options) (Checks same alike name answer) = (same ≡ only) × (alike ≡ options)
-IsOf work (Gets names wrong) = ⊤
 IsOf work (Says wrong answer) = ⊤
 
-abbrev pub AreOf : Work → List Deed → Type 0
-AreOf work [] = ⊤
-AreOf work (deed ∷ deeds) = IsOf work deed × AreOf work deeds
+-- What a run does that has some items to handle: it handles them, in order, before it gets more, and ends when it gets none. It
+-- succeeds if each deed does.
+abbrev pub Goes : Work → List Item → List Deed → Bool → Type 0
+Goes work waiting [] success = ⊥
+Goes work waiting (Gets names wrong ∷ deeds) success = (waiting ≡ [])
+    × (((items names wrong ≡ []) × (deeds ≡ []) × (success ≡ true)) ⊎ ((items names wrong ≢ []) × Goes work (items names wrong) deeds success))
+Goes work waiting (deed ∷ deeds) success = (later : List Item) × (others : Bool) × IsOf work deed × (waiting ≡ handled deed ++ later)
+    × (success ≡ (succeeded deed && others)) × Goes work later deeds others
 
--- deeds of a work by which it got these items, and handled those, in order; they succeed if each does
-pub record IsPart (work : Work) (taken done : List Item) (deeds : List Deed) (success : Bool) : Type 0 where
-  pub of : AreOf work deeds
-  pub items_got : flat_map got deeds ≡ taken
-  pub items_handled : flat_map handled deeds ≡ done
-  pub success_is : success ≡ list_all succeeded deeds
+-- a run that has nothing to handle yet
+abbrev pub IsRun : Work → List Deed → Bool → Type 0
+IsRun work deeds success = Goes work [] deeds success
 
--- these names were handled
-abbrev pub Handles : Work → List (List ℕ) → List Deed → Bool → Type 0
-Handles work names deeds success = IsPart work [] (map Name names) deeds success
-
--- what the run got it handled, in order, until there was no more
-pub record IsRun (work : Work) (deeds : List Deed) (success : Bool) : Type 0 where
-  pub all : List Item
-  pub before : List Deed
-  pub last : deeds ≡ before ++ Gets [] None ∷ []
-  pub part : IsPart work all all deeds success
+-- in a run, these deeds handle such items
+abbrev pub Handles : Work → List Item → List Deed → Bool → Type 0
+Handles work items deeds success = (later : List Item) (more : List Deed) (others : Bool) → Goes work later more others
+    → Goes work (items ++ later) (deeds ++ more) (success && others)

@@ -139,6 +139,9 @@ pub record WorkedRuns : Type 0 where
       ∷ Gets [] None ∷ []) false
   pub early : (success : Bool) → ¬ IsRun (works.Print (plain R160)) (Gets (codes "a" ∷ []) (Some Input) ∷ Says (Some Input) false
       ∷ Prints (plain R160) (codes "a" ∷ []) true ∷ Gets [] None ∷ []) success
+  pub all_first : (success : Bool) → ¬ IsRun (works.Check None usual) (Gets (codes "a" ∷ []) None ∷ Gets (codes "b" ∷ []) None ∷ checks (codes "a") true
+      ∷ checks (codes "b") true ∷ Gets [] None ∷ []) success
+  pub on : (success : Bool) → ¬ IsRun (works.Check None usual) (Gets [] None ∷ Gets [] None ∷ []) success
   pub not_ended : (success : Bool) → ¬ IsRun (works.Check None usual) (Gets (codes "a" ∷ []) None ∷ checks (codes "a") true ∷ Says None true ∷ []) success
   pub nothing : (success : Bool) → ¬ IsRun (works.Check None usual) [] success
   pub skipped : (success : Bool) → ¬ IsRun (works.Check None usual) (Gets (codes "a" ∷ codes "b" ∷ []) None ∷ checks (codes "b") true ∷ Says None true

@@ -4,6 +4,7 @@ ghost use Rattle.std.specs.Prelude.{◌≡◌, [], ◌∷◌, List, Option, IfOk
 ghost use Rattle.rmdsum.specs.declared.request.Work.TheVariants.{Check};
 ghost use Rattle.ripemd_files.specs.Said.{Adds};
 ghost use Rattle.rmdsum.specs.Runs.{Deed, Extends, IsRun, Handles};
+ghost use Rattle.rmdsum.specs.Runs.Item.{Name};
 ghost use Rattle.rmdsum.specs.Runs.Deed.{Gets, Prints, Checks, Says};
 
 use crate::names::{Batch, Wrong};
@@ -56,7 +57,8 @@ pub fn do_all<W: Worker>(worker: &mut W, work: Work) -> Result<bool, Fault>
 
 // Does the work with these names. Whether all could be done.
 fn do_some<W: Worker>(worker: &mut W, work: Work, names: &[Vec<u8>]) -> Result<bool, Fault>
-    ensures { IfOk result (λ success. Extends (W.done worker.old) (W.done worker.new) (λ deeds. Handles work (map vec_items names.now) deeds success)) }
+    ensures { IfOk result (λ success. Extends (W.done worker.old) (W.done worker.new)
+        (λ deeds. Handles work (map Name (map vec_items names.now)) deeds success)) }
 {
     match work {
         Work::Print(style) => worker.print(style, names),
@@ -72,7 +74,7 @@ fn check_lists<W: Worker>(
     names: &[Vec<u8>],
 ) -> Result<bool, Fault>
     ensures { IfOk result (λ success. Extends (W.done worker.old) (W.done worker.new)
-        (λ deeds. Handles (Check only options) (map vec_items names.now) deeds success)) }
+        (λ deeds. Handles (Check only options) (map Name (map vec_items names.now)) deeds success)) }
 {
     let mut success = true;
     for name in names {

@@ -1,32 +1,38 @@
-use Rattle.std.proofs.Common.{rules, ◌≡◌, ◌-◌, Bool, List, [], ◌∷◌, ◌++◌, take, reverse, flat_map, None, refl, sym, ap, arith, ◌∙◌, length}
-use Rattle.std.proofs.lemmas.List.{reverse-append}
+use Rattle.std.proofs.Common.{Bool, true, ◌&&◌, [], ◌∷◌, codes, None, refl, ap, arith, inl, inr}
 use Rattle.ripemd_files.specs.Lines.{size_of}
+use Rattle.ripemd_files.specs.declared.line.Variant.TheVariants.{R160}
 use Rattle.ripemd_files.specs.declared.printing.Style.{Style}
 use Rattle.rmdsum.specs.declared.request.Work.{Work}
-use Rattle.rmdsum.specs.Runs.{Deed, IsPart, IsRun, got}
+use Rattle.rmdsum.specs.declared.request.Work.TheVariants.{Check, Print}
+use Rattle.rmdsum.specs.Runs.{IsRun}
+use Rattle.rmdsum.specs.Runs.Item.{Name}
 use Rattle.rmdsum.specs.Runs.Deed.{Gets}
+use Rattle.rmdsum.specs.Worked.{plain, two_lists, usual}
 use Rattle.rmdsum.proofs.facts.worked_runs.Goals as goal
 
--- deeds of which the last gets nothing, and that handle what they got
-is_run : (work : Work) (deeds : List Deed) (success : Bool) → deeds ≡ take (length deeds - 1) deeds ++ Gets [] None ∷ []
-    → IsPart work (flat_map got deeds) (flat_map got deeds) deeds success → IsRun work deeds success
-is_run work deeds success last part = record { all = flat_map got deeds; before = take (length deeds - 1) deeds; last = last; part = part }
+ends : (work : Work) → IsRun work (Gets [] None ∷ []) true
+ends work = (refl, inl (refl, refl, refl))
 
--- the last deed first
-last_first : (deeds before : List Deed) → deeds ≡ before ++ Gets [] None ∷ [] → reverse deeds ≡ Gets [] None ∷ reverse before
-last_first deeds before last = ap reverse last ∙ reverse-append before (Gets [] None ∷ [])
+both : (one other : Bool) → IsRun (Check None usual) (two_lists one other) (one && (other && true))
+both one other = (refl, inr ((λ none. cc none), (Name (codes "b") ∷ [], other && true, (refl, refl), refl, refl, ([], true, (refl, refl), refl, refl,
+    ([], true, tt, refl, refl, ends (Check None usual))))))
 
 pub returns : goal.returns
 returns c = record {
-  no_name = is_run _ _ _ refl (search rules);
-  succeeds = is_run _ _ _ refl (search rules);
-  one_fails = is_run _ _ _ refl (search rules);
-  has_failed = λ success run. run.part.success_is;
-  fault = is_run _ _ _ refl (search rules);
-  early = λ success run. cc;
-  not_ended = λ success run. cc (last_first _ _ run.last);
-  nothing = λ success run. cc (last_first _ _ run.last);
-  skipped = λ success run. omega (arith, ap length (run.part.items_got ∙ sym run.part.items_handled));
-  unsaid = λ success run. cc;
-  other_style = λ success run. omega (arith, ap (λ (style : Style). size_of style.variant) run.part.of.1.0);
+  no_name = ends (Check None usual);
+  succeeds = both _ _;
+  one_fails = both _ _;
+  has_failed = λ success run. elim run.1 [ | inl none ↦ cc none.0 | inr (some, got) ↦ got.4 ];
+  fault = (refl, inr ((λ none. cc none), (_, _, refl, refl, refl, ([], true, tt, refl, refl, ends (Print (plain R160))))));
+  early = λ success run. elim run.1 [ | inl none ↦ cc none.0 | inr (some, got) ↦ cc got.3 ];
+  all_first = λ success run. elim run.1 [ | inl none ↦ cc none.0 | inr (some, got) ↦ cc got.0 ];
+  on = λ success run. elim run.1 [ | inl ended ↦ cc ended.1 | inr goes ↦ goes.0 refl ];
+  not_ended = λ success run. elim run.1 [ | inl none ↦ cc none.0 | inr (some, got) ↦ got.5.5 ];
+  nothing = λ success run. run;
+  skipped = λ success run. elim run.1 [ | inl none ↦ cc none.0 | inr (some, got) ↦ cc got.3 ];
+  unsaid = λ success run. elim run.1 [ | inl none ↦ cc none.0 | inr (some, got) ↦ cc (got.3, got.5.0) ];
+  other_style = λ success run. elim run.1 [
+    | inl none ↦ cc none.0
+    | inr (some, got) ↦ omega (arith, ap (λ (style : Style). size_of style.variant) got.2)
+  ];
 }
