@@ -1,24 +1,28 @@
 -- The names that a file has, as they are read.
-use Rattle.std.proofs.Common.{inl, inr, ◌≡◌, ℕ, ◌-◌, List, [], ◌∷◌, ◌++◌, Option, Some, None, refl, subst, map, vec_items, Global, append_assoc}
+use Rattle.std.proofs.Common.{inl, inr, ◌≡◌, ℕ, ◌+◌, arith, length, List, [], ◌∷◌, ◌++◌, Option, Some, None, refl, subst, map, vec_items, Global, append_assoc}
 use Rattle.rmdsum.specs.declared.names.Entry.{Entry}
 use Rattle.rmdsum.specs.declared.names.Entry.TheVariants as entries
 use Rattle.rmdsum.specs.declared.names.Wrong.TheVariants.{Unread, Empty, Input}
 use Rattle.rmdsum.specs.Names.{MayHave, NextName, IsEntry, IsNamed, Stays, Follow}
-use Rattle.std.specs.Prelude.{Vec}
-use Rattle.std.proofs.lemmas.List.{map-append}
+use Rattle.std.specs.Prelude.{IfOk, OnOk, Result, Ok, Err, Vec}
+use Rattle.ripemd_files.specs.declared.fault.Fault.{Fault}
+use Rattle.std.proofs.lemmas.List.{length-append, map-append}
 use Rattle.rmdsum.specs.declared.names.Wrong.{Wrong}
 
 stays : (old : Option (List ℕ)) → Stays old old
 stays None = tt
 stays (Some bytes) = refl
 
-pub entry_of : (file : List ℕ) (old new : Option (List ℕ)) (name : List ℕ) (entry : Entry) → NextName old name new → IsNamed file name entry
-    → IsEntry file old new entry
-entry_of file old new name (entries.Name same) next named = rw named.0 (next, named.1)
-entry_of file old new name (entries.Wrong (Unread error)) next named = absurd named
-entry_of file old new name (entries.Wrong (Empty number)) next named = subst (λ text. NextName old text new) named next
-entry_of file old new name (entries.Wrong Input) next named = (subst (λ text. NextName old text new) named.0 next, named.1)
-entry_of file old new name entries.End next named = absurd named
+pub entry_of : (file : List ℕ) (count now : ℕ) (old new : Option (List ℕ)) (name : List ℕ) (entry : Result Entry Fault) → NextName old name new
+    → IfOk entry (IsNamed file count name) → OnOk entry (now ≡ count + 1) → IfOk entry (IsEntry file count now old new)
+entry_of file count now old new name (Err error) next named counted = tt
+entry_of file count now old new name (Ok (entries.Name same)) next named counted = rw named.0 (next, named.1, counted)
+entry_of file count now old new name (Ok (entries.Wrong (Unread error))) next named counted = absurd named
+entry_of file count now old new name (Ok (entries.Wrong (Empty number))) next named counted =
+    ((subst (λ text. NextName old text new) named.0 next, named.1), counted)
+entry_of file count now old new name (Ok (entries.Wrong Input)) next named counted =
+    ((subst (λ text. NextName old text new) named.0 next, named.1), counted)
+entry_of file count now old new name (Ok entries.End) next named counted = absurd named
 
 -- ---- some names
 
@@ -35,16 +39,18 @@ one_more_name file old now new (first ∷ read) name follow next may =
     (follow.0, follow.1, follow.2, one_more_name file follow.0 now new read name follow.3 next may)
 
 -- the names so far are those given and those that were read
-pub record SoFar (file : List ℕ) (old now : Option (List ℕ)) (given names : List (List ℕ)) : Type 0 where
+pub record SoFar (file : List ℕ) (before count : ℕ) (old now : Option (List ℕ)) (given names : List (List ℕ)) : Type 0 where
   pub read : List (List ℕ)
   pub all : names ≡ given ++ read
   pub follow : Follow file old read now
+  pub counted : count ≡ before + length read
 
-pub named : (file : List ℕ) (old now new : Option (List ℕ)) (given : List (List ℕ)) (names : List (Vec ℕ Global)) (name : Vec ℕ Global)
-    → SoFar file old now given (map vec_items names) → NextName now (vec_items name) new → MayHave file (vec_items name)
-    → SoFar file old new given (map vec_items (names ++ name ∷ []))
-named file old now new given names name so_far next may = record {
+pub named : (file : List ℕ) (before count : ℕ) (old now new : Option (List ℕ)) (given : List (List ℕ)) (names : List (Vec ℕ Global)) (name : Vec ℕ Global)
+    → SoFar file before count old now given (map vec_items names) → NextName now (vec_items name) new → MayHave file (vec_items name)
+    → SoFar file before (count + 1) old new given (map vec_items (names ++ name ∷ []))
+named file before count old now new given names name so_far next may = record {
   read = so_far.read ++ vec_items name ∷ [];
   all = rw (map-append vec_items names (name ∷ []), so_far.all) (append_assoc given so_far.read (vec_items name ∷ []));
   follow = one_more_name file old now new so_far.read (vec_items name) so_far.follow next may;
+  counted = rw length-append (omega (arith, so_far.counted));
 }

@@ -1,5 +1,5 @@
 -- The names that a file has, each ended by a byte 0, as they are read.
-use Rattle.std.specs.Prelude.{◌≡◌, ◌≢◌, ◌⊎◌, ℕ, List, [], ◌∷◌, ◌++◌, codes, Option, Some, None, IfSome}
+use Rattle.std.specs.Prelude.{◌≡◌, ◌≢◌, ◌⊎◌, ◌+◌, ℕ, length, List, [], ◌∷◌, ◌++◌, codes, Option, Some, None, IfSome}
 use Rattle.std.specs.Io.KnownBytes.{IsAtEnd}
 use Rattle.std.specs.Io.Buffered.{reader_remaining}
 use Rattle.std.specs.declared.io.buffered.BufReader.{BufReader}
@@ -27,38 +27,47 @@ MayHave file name = (name ≢ []) × (file ≡ codes "-" → name ≢ codes "-")
 abbrev pub Stays : Option (List ℕ) → Option (List ℕ) → Type 0
 Stays old new = IfSome old (λ bytes. new ≡ Some bytes)
 
--- after the names that were read nothing is wrong; a read failed, in the next name, and no more is read; or the next is wrong
-abbrev pub Ends : List ℕ → Option (List ℕ) → Option (List ℕ) → Option Wrong → Type 0
-Ends file old new None = Stays old new
-Ends file old new (Some (Unread error)) =
+-- after so many names nothing is wrong; a read failed, in the next name, and no more is read; or the next is wrong
+abbrev pub Ends : List ℕ → ℕ → Option (List ℕ) → Option (List ℕ) → Option Wrong → Type 0
+Ends file count old new None = Stays old new
+Ends file count old new (Some (Unread error)) =
     (front : List ℕ) × (now : Option (List ℕ)) × IsPiece 0 old now front (Failed error) × IsAtEnd new
-Ends file old new (Some (Empty number)) = NextName old [] new
-Ends file old new (Some Input) = NextName old (codes "-") new × (file ≡ codes "-")
+Ends file count old new (Some (Empty number)) = NextName old [] new × (number ≡ count + 1)
+Ends file count old new (Some Input) = NextName old (codes "-") new × (file ≡ codes "-")
 
--- a name was read, or what is wrong, or there is none
-abbrev pub IsEntry : List ℕ → Option (List ℕ) → Option (List ℕ) → Entry → Type 0
-IsEntry file old new (entries.Name name) = NextName old name.items new × MayHave file name.items
-IsEntry file old new (entries.Wrong wrong) = Ends file old new (Some wrong)
-IsEntry file old new entries.End = Stays old new × IsAtEnd new
+-- how many names were read for this to be wrong
+abbrev pub wrong_names : Option Wrong → ℕ
+wrong_names None = 0
+wrong_names (Some (Unread error)) = 0
+wrong_names (Some (Empty number)) = 1
+wrong_names (Some Input) = 1
 
--- the entry of this name
-abbrev pub IsNamed : List ℕ → List ℕ → Entry → Type 0
-IsNamed file name (entries.Name same) = (same.items ≡ name) × MayHave file name
-IsNamed file name (entries.Wrong (Unread error)) = ⊥
-IsNamed file name (entries.Wrong (Empty number)) = name ≡ []
-IsNamed file name (entries.Wrong Input) = (name ≡ codes "-") × (file ≡ codes "-")
-IsNamed file name entries.End = ⊥
+-- after so many names, and then one at most, a name was read, or what is wrong, or there is none
+abbrev pub IsEntry : List ℕ → ℕ → ℕ → Option (List ℕ) → Option (List ℕ) → Entry → Type 0
+IsEntry file count now old new (entries.Name name) = NextName old name.items new × MayHave file name.items × (now ≡ count + 1)
+IsEntry file count now old new (entries.Wrong wrong) = Ends file count old new (Some wrong) × (now ≡ count + wrong_names (Some wrong))
+IsEntry file count now old new entries.End = Stays old new × IsAtEnd new × (now ≡ count)
+
+-- the entry of the name after so many
+abbrev pub IsNamed : List ℕ → ℕ → List ℕ → Entry → Type 0
+IsNamed file count name (entries.Name same) = (same.items ≡ name) × MayHave file name
+IsNamed file count name (entries.Wrong (Unread error)) = ⊥
+IsNamed file count name (entries.Wrong (Empty number)) = (name ≡ []) × (number ≡ count + 1)
+IsNamed file count name (entries.Wrong Input) = (name ≡ codes "-") × (file ≡ codes "-")
+IsNamed file count name entries.End = ⊥
 
 -- these names were read, one after another
 abbrev pub Follow : List ℕ → Option (List ℕ) → List (List ℕ) → Option (List ℕ) → Type 0
 Follow file old [] new = Stays old new
 Follow file old (name ∷ names) new = (next : Option (List ℕ)) × NextName old name next × MayHave file name × Follow file next names new
 
--- the names are those given and the next ones of the file; there is none, and nothing wrong, only at its end
-pub record Continues (file : List ℕ) (old new : Option (List ℕ)) (given names : List (List ℕ)) (wrong : Option Wrong) : Type 0 where
+-- after so many names of the file, the names are those given and its next ones, all of which are counted; there is none, and
+-- nothing wrong, only at its end
+pub record Continues (file : List ℕ) (count now : ℕ) (old new : Option (List ℕ)) (given names : List (List ℕ)) (wrong : Option Wrong) : Type 0 where
   pub read : List (List ℕ)
   pub between : Option (List ℕ)
   pub all : names ≡ given ++ read
   pub follow : Follow file old read between
-  pub ends : Ends file between new wrong
+  pub ends : Ends file (count + length read) between new wrong
+  pub counted : now ≡ count + length read + wrong_names wrong
   pub last : names ≡ [] → wrong ≡ None → IsAtEnd new

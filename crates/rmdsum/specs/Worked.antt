@@ -153,12 +153,14 @@ pub record WorkedRuns : Type 0 where
 -- ---- names of a file
 
 pub record WorkedNames : Type 0 where
-  pub two : Continues [] (Some (97 ∷ 0 ∷ 98 ∷ [])) (Some []) [] (codes "a" ∷ codes "b" ∷ []) None
-  pub given : Continues [] (Some []) (Some []) (codes "a" ∷ []) (codes "a" ∷ []) None
-  pub empty : Continues [] (Some (97 ∷ 0 ∷ 0 ∷ 98 ∷ [])) (Some (98 ∷ [])) [] (codes "a" ∷ []) (Some (Empty 2))
-  pub input : Continues (codes "f") (Some (codes "-")) (Some []) [] (codes "-" ∷ []) None
-  pub not_ended : ¬ Continues [] (Some (codes "a")) (Some (codes "a")) [] [] None
-  pub dropped : ¬ Continues [] (Some (codes "a")) (Some []) [] [] None
-  pub not_input : ¬ Continues (codes "f") (Some (codes "-")) (Some []) [] [] (Some Input)
-  pub its_input : ¬ Continues (codes "-") (Some (codes "-")) (Some []) [] (codes "-" ∷ []) None
-  pub nameless : ¬ Continues [] (Some (0 ∷ [])) (Some []) [] ([] ∷ []) None
+  pub two : Continues [] 0 2 (Some (97 ∷ 0 ∷ 98 ∷ [])) (Some []) [] (codes "a" ∷ codes "b" ∷ []) None
+  pub given : Continues [] 0 0 (Some []) (Some []) (codes "a" ∷ []) (codes "a" ∷ []) None
+  pub empty : Continues [] 5 7 (Some (97 ∷ 0 ∷ 0 ∷ 98 ∷ [])) (Some (98 ∷ [])) [] (codes "a" ∷ []) (Some (Empty 7))
+  pub input : Continues (codes "f") 0 1 (Some (codes "-")) (Some []) [] (codes "-" ∷ []) None
+  pub not_ended : (count : ℕ) → ¬ Continues [] 0 count (Some (codes "a")) (Some (codes "a")) [] [] None
+  pub dropped : (count : ℕ) → ¬ Continues [] 0 count (Some (codes "a")) (Some []) [] [] None
+  pub not_input : (count : ℕ) → ¬ Continues (codes "f") 0 count (Some (codes "-")) (Some []) [] [] (Some Input)
+  pub its_input : (count : ℕ) → ¬ Continues (codes "-") 0 count (Some (codes "-")) (Some []) [] (codes "-" ∷ []) None
+  pub nameless : (count : ℕ) → ¬ Continues [] 0 count (Some (0 ∷ [])) (Some []) [] ([] ∷ []) None
+  pub other_number : (count : ℕ) → ¬ Continues [] 5 count (Some (0 ∷ [])) (Some []) [] [] (Some (Empty 5))
+  pub uncounted : ¬ Continues [] 0 0 (Some (codes "a")) (Some []) [] (codes "a" ∷ []) None

@@ -1,6 +1,6 @@
 //! The names of files, as they come.
 
-ghost use Rattle.std.specs.Prelude.{◌≡◌, [], ℕ, true, false, IfOk, IfSome, IsSome, IsSomeAnd, None, is_none, map, vec_items, Vec};
+ghost use Rattle.std.specs.Prelude.{◌≡◌, ◌+◌, [], ℕ, true, false, IfOk, OnOk, IfSome, IsSome, IsSomeAnd, None, is_none, map, vec_items, Vec};
 ghost use Rattle.std.specs.Global.{Global};
 ghost use Rattle.rmdsum.specs.declared.request.NameSource.TheVariants.{From, Operands};
 ghost use Rattle.rmdsum.specs.Names.{left_in, Continues, IsEntry, IsNamed};
@@ -25,7 +25,7 @@ pub struct Names<R> {
     file: Vec<u8>,
     // The file, until it is at its end.
     reader: Option<BufReader<R>>,
-    // The number of its last name.
+    // How many names it gave.
     number: u64,
 }
 
@@ -107,7 +107,8 @@ enum Entry {
 impl<R: Read + Drop> Names<R> {
     /// The next names, up to a wrong one or one that has to be waited for.
     pub fn next(&mut self, alloc: Global) -> Result<Batch, Fault>
-        ensures next { IfOk result (λ batch. Continues self.old.file.items (left_in R.remaining self.old.reader) (left_in R.remaining self.new.reader)
+        ensures next { IfOk result (λ batch. Continues self.old.file.items self.old.number self.new.number
+            (left_in R.remaining self.old.reader) (left_in R.remaining self.new.reader)
             (map vec_items self.old.given.items) (map vec_items batch.names.items) batch.wrong) }
         ensures given { IfOk result (λ _. self.new.given.items ≡ []) }
     {
@@ -140,7 +141,8 @@ impl<R: Read + Drop> Names<R> {
 
     // Reads a name of the file.
     fn read_name(&mut self, alloc: Global) -> Result<Entry, Fault>
-        ensures entry { IfOk result (IsEntry self.old.file.items (left_in R.remaining self.old.reader) (left_in R.remaining self.new.reader)) }
+        ensures entry { IfOk result (IsEntry self.old.file.items self.old.number self.new.number
+            (left_in R.remaining self.old.reader) (left_in R.remaining self.new.reader)) }
         ensures given { self.new.given ≡ self.old.given }
         ensures file { self.new.file ≡ self.old.file }
     {
@@ -149,10 +151,10 @@ impl<R: Read + Drop> Names<R> {
         };
         let mut name = Vec::new(alloc);
         match read_piece(reader, 0, &mut name)? {
-            Piece::Whole => Ok(self.entry(name)),
+            Piece::Whole => self.entry(name),
             Piece::Last => {
                 self.reader = None;
-                Ok(self.entry(name))
+                self.entry(name)
             }
             Piece::Nothing => {
                 self.reader = None;
@@ -166,19 +168,20 @@ impl<R: Read + Drop> Names<R> {
     }
 
     // A name that was read, or what is wrong with it.
-    fn entry(&mut self, name: Vec<u8>) -> Entry
-        ensures name { IsNamed self.old.file.items name.items result }
+    fn entry(&mut self, name: Vec<u8>) -> Result<Entry, Fault>
+        ensures name { IfOk result (IsNamed self.old.file.items self.old.number name.items) }
+        ensures number { OnOk result (self.new.number ≡ self.old.number + 1) }
         ensures reader { self.new.reader ≡ self.old.reader }
         ensures given { self.new.given ≡ self.old.given }
         ensures file { self.new.file ≡ self.old.file }
     {
-        self.number = self.number.saturating_add(1);
+        self.number = self.number.checked_add(1).ok_or(Fault::TooManyLines)?;
         if name.is_empty() {
-            Entry::Wrong(Wrong::Empty(self.number))
+            Ok(Entry::Wrong(Wrong::Empty(self.number)))
         } else if is_input(self.file.as_slice()) && is_input(name.as_slice()) {
-            Entry::Wrong(Wrong::Input)
+            Ok(Entry::Wrong(Wrong::Input))
         } else {
-            Entry::Name(name)
+            Ok(Entry::Name(name))
         }
     }
 }

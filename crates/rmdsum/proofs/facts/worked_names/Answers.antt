@@ -1,4 +1,4 @@
-use Rattle.std.proofs.Common.{[], ◌∷◌, codes, Some, inl, inr, refl}
+use Rattle.std.proofs.Common.{arith, [], ◌∷◌, codes, Some, inl, inr, refl}
 use Rattle.rmdsum.proofs.facts.worked_names.Goals as goal
 
 pub returns : goal.returns
@@ -14,15 +14,17 @@ returns c = record {
       (Some [], inr (refl, refl, (λ none. cc none), refl), ((λ none. cc none), (λ is. absurd (cc is))), refl),
     );
     ends = refl;
+    counted = refl;
     last = λ none nothing. cc;
   };
-  given = record { read = []; between = Some []; all = refl; follow = refl; ends = refl; last = λ none nothing. cc };
+  given = record { read = []; between = Some []; all = refl; follow = refl; ends = refl; counted = refl; last = λ none nothing. cc };
   empty = record {
     read = codes "a" ∷ [];
     between = Some (0 ∷ 98 ∷ []);
     all = refl;
     follow = (Some (0 ∷ 98 ∷ []), inl (refl, refl), ((λ none. cc none), (λ is. absurd (cc is))), refl);
-    ends = inl (refl, refl);
+    ends = (inl (refl, refl), refl);
+    counted = refl;
     last = λ none nothing. cc;
   };
   input = record {
@@ -31,11 +33,14 @@ returns c = record {
     all = refl;
     follow = (Some [], inr (refl, refl, (λ none. cc none), refl), ((λ none. cc none), (λ is. absurd (cc is))), refl);
     ends = refl;
+    counted = refl;
     last = λ none nothing. cc;
   };
-  not_ended = λ goes. cc (goes.last refl refl);
-  dropped = λ goes. let none = rw (← goes.all) at goes.follow in cc (rw none at goes.ends);
-  not_input = λ goes. cc goes.ends.1;
-  its_input = λ goes. let name = rw (← goes.all) at goes.follow in name.2.1 refl refl;
-  nameless = λ goes. let name = rw (← goes.all) at goes.follow in name.2.0 refl;
+  not_ended = λ count goes. cc (goes.last refl refl);
+  dropped = λ count goes. let none = rw (← goes.all) at goes.follow in cc (rw none at goes.ends);
+  not_input = λ count goes. cc goes.ends.1;
+  its_input = λ count goes. let name = rw (← goes.all) at goes.follow in name.2.1 refl refl;
+  nameless = λ count goes. let name = rw (← goes.all) at goes.follow in name.2.0 refl;
+  other_number = λ count goes. let none = rw (← goes.all) at goes.ends in omega (arith, none.1);
+  uncounted = λ goes. let one = rw (← goes.all) at goes.counted in omega (arith, one);
 }
