@@ -41,24 +41,16 @@ pub record Breaks {File : Type 0} (IsOpened : File → Type 0) (left : File → 
   pub fails : may_fail now error ⊎ ((2 ^ 61 ≤ length bytes) × (error_kind error ≡ FileTooLarge))
 
 -- What a folder is: which files a name opens there, and which errors opening it gives; what an opened file has
--- left, where that is known, and with which errors a read of it may fail; and which files may be read: until a read
--- fails or finds the end.
+-- left, where that is known, and with which errors a read of it may fail.
 pub record Place (File : Type 0) : Type 1 where
   pub opens : List ℕ → File → Type 0
   pub refuses : List ℕ → Error → Type 0
   pub left : File → Option (List ℕ)
   pub may_fail : File → Error → Type 0
-  pub is_open : File → Type 0
 
 -- a folder of which nothing is known
 abbrev pub any_place : {File : Type 0} → Place File
-any_place = record {
-  opens = λ name file. ⊤;
-  refuses = λ name error. ⊤;
-  left = λ file. None;
-  may_fail = λ file error. ⊤;
-  is_open = λ file. ⊤;
-}
+any_place = record { opens = λ name file. ⊤; refuses = λ name error. ⊤; left = λ file. None; may_fail = λ file error. ⊤ }
 
 -- reading the file of a name comes to this digest or error
 abbrev pub ComesTo : {File : Type 0} → Place File → (List ℕ → List ℕ) → List ℕ → Outcome → Type 0

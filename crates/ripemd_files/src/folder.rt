@@ -1,6 +1,6 @@
 //! Where names are opened as files.
 
-ghost use Rattle.std.specs.Prelude.{◌<◌, ℕ, List, IfOk, IfErr};
+ghost use Rattle.std.specs.Prelude.{◌<◌, ℕ, List, IfOk, IfErr, ⊤};
 ghost use Rattle.std.specs.Io.{ReadsAtMost};
 ghost use Rattle.std.specs.Io.KnownBytes.{ReadConsumes};
 ghost use Rattle.ripemd_files.specs.Files.{Place};
@@ -15,10 +15,13 @@ pub trait Folder {
     // What it is, as contracts see it.
     ghost place: { Self → Place Self.File };
 
+    // Whether a file may be read: until a read of it fails or finds its end.
+    ghost is_open: { Self → Self.File → Type 0 } = { λ folder file. ⊤ };
+
     /// Opens the file of a name.
     fn open(&self, name: &[u8]) -> io::Result<Self::File>
         ensures ok { IfOk result ((place self.now).opens name.now) }
-        ensures open { IfOk result (place self.now).is_open }
+        ensures open { IfOk result (is_open self.now) }
         ensures err { IfErr result ((place self.now).refuses name.now) };
 
     /// Whether the file of a name is, as far as is known before it is opened, a regular one of less than 64 KiB, for
@@ -29,9 +32,9 @@ pub trait Folder {
     /// Reads bytes of a file to the front of the buffer, and answers how many: 0 at its end. After that, and after a
     /// read that failed, the file is not read again.
     fn read(&self, file: &mut Self::File, buffer: &mut [u8]) -> io::Result<usize>
-        requires open { (place self.now).is_open file.old }
+        requires open { is_open self.now file.old }
         ensures bound { ReadsAtMost result buffer.new }
         ensures bytes { ReadConsumes ((place self.now).left file.old) ((place self.now).left file.new) result buffer.new }
-        ensures open { IfOk result (λ count. 0 < count → (place self.now).is_open file.new) }
+        ensures open { IfOk result (λ count. 0 < count → is_open self.now file.new) }
         ensures err { IfErr result ((place self.now).may_fail file.old) };
 }
