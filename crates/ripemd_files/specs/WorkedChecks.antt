@@ -1,6 +1,6 @@
 -- Checks of lists, worked. sha256sum of coreutils 9.1 says, counts and answers the same in these cases, with its own digests
 -- and tag.
-use Rattle.std.specs.Prelude.{◌≡◌, ℕ, List, [], ◌∷◌, ◌++◌, codes, count_by, Bool, true, false, Some, None}
+use Rattle.std.specs.Prelude.{◌≡◌, ℕ, List, [], ◌∷◌, ◌++◌, codes, count_by, Bool, true, false, Some, None, Ok, ⊤}
 use Rattle.std.specs.IoError.{error_kind}
 use Rattle.std.specs.declared.io.Error.{Error}
 use Rattle.std.specs.declared.io.ErrorKind.TheVariants as kinds
@@ -24,6 +24,8 @@ use Rattle.ripemd_files.specs.Said.{about_list, unreadable, written}
 use Rattle.ripemd_files.specs.Printing.{items_on, line_for, remarks_on, was_read}
 use Rattle.ripemd_files.specs.Checking.{Event, IsTally, checked, closing_remarks, counted, is_misformatted, is_success, items_of_event, line_of_event, misformatted, remarks_on_event, verdict_of}
 use Rattle.ripemd_files.specs.Lists.{IsWanted, body_of_line, is_passed_over, layout_after}
+use Rattle.ripemd_files.specs.Files.{Place, any_place}
+use Rattle.ripemd_files.specs.Determined.{IsKnown}
 use Rattle.ripemd_files.specs.Worked.{digits_of, digits_then}
 
 -- ---- verdicts
@@ -263,3 +265,15 @@ pub record PrintedErrors (style : Style) (error : Error) : Type 0 where
   pub remark_broken : remarks_on (codes "a") (Broken error) ≡ unreadable (codes "a") error ∷ []
   pub not_read : was_read (Refused error) ≡ false
   pub not_read_whole : was_read (Broken error) ≡ false
+
+-- ---- folders of which all is known
+
+-- every name opens a file of these bytes, of which a read may fail as said
+abbrev pub one_file : List ℕ → (List ℕ → Error → Type 0) → Place (List ℕ)
+one_file bytes may_fail = record { opens = λ name file. file ≡ bytes; refuses = λ name error. ⊥; left = Some; may_fail = may_fail }
+
+pub record KnownFolders (error : Error) : Type 0 where
+  pub one : IsKnown (one_file (codes "hi") (λ file error. ⊥)) (λ name. Ok (codes "hi"))
+  pub other : ¬ IsKnown (one_file (codes "hi") (λ file error. ⊥)) (λ name. Ok [])
+  pub failing : ¬ IsKnown (one_file (codes "hi") (λ file error. ⊤)) (λ name. Ok (codes "hi"))
+  pub unknown : ¬ IsKnown (any_place {File = List ℕ}) (λ name. Ok (codes "hi"))

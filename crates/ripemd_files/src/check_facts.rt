@@ -13,7 +13,7 @@ ghost use Rattle.ripemd_files.specs.Lists.{ended, failed};
 ghost use Rattle.ripemd_files.specs.Said.{Item};
 ghost use Rattle.ripemd_files.specs.Contents.{IsDigest};
 ghost use Rattle.ripemd_files.specs.Checking.{Event};
-ghost use Rattle.ripemd_files.specs.WorkedChecks.{DigestVerdicts, ErrorVerdicts, ItemsOfEvents, LinesOfEvents, RemarksOnEvents, Tallies, OtherTallies, LongCounts, ClosingRemarks, Answers, PassedOver, Bodies, NextLayouts, Wanted, PrintedLines, PrintedErrors};
+ghost use Rattle.ripemd_files.specs.WorkedChecks.{DigestVerdicts, ErrorVerdicts, ItemsOfEvents, LinesOfEvents, RemarksOnEvents, Tallies, OtherTallies, LongCounts, ClosingRemarks, Answers, PassedOver, Bodies, NextLayouts, Wanted, PrintedLines, PrintedErrors, KnownFolders};
 
 use crate::folder::Folder;
 
@@ -81,4 +81,9 @@ pub fn worked_lists()
 pub fn worked_prints()
     ensures lines { (outcome : Outcome) → IsDigest outcome (0x01 ∷ 0xab ∷ []) → PrintedLines outcome }
     ensures errors { (style : Style) (error : Error) → PrintedErrors style error }
+{}
+
+/// Of which folders all is known.
+pub fn worked_folders()
+    ensures { (error : Error) → KnownFolders error }
 {}
