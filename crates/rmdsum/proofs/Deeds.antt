@@ -66,8 +66,13 @@ one_round work a b c d e names wrong success done sound some so_far gave took to
       so_far.0 ++ Gets names wrong ∷ deeds,
       rw append_assoc at (adds_both a c e _ _ (adds_both a b c _ _ so_far.1 gave) adds),
       λ more others run.
-          rw (and_both, and_both, append_assoc) (so_far.2 (Gets names wrong ∷ (deeds ++ more)) (done && (sound && others)) (refl, inr (some,
-          rw (append-nil, and_both) at (handles [] more others run)))),
+          rw (and_both, and_both, append_assoc) (so_far.2 (Gets names wrong ∷ (deeds ++ more)) (done && (sound && others)) (
+            refl,
+            inr (
+              some,
+              rw (append-nil, and_both) at (handles [] more others run),
+            ),
+          )),
     )
 
 -- no more names come

@@ -14,23 +14,42 @@ ends : (work : Work) → IsRun work (Gets [] None ∷ []) true
 ends work = (refl, inl (refl, refl, refl))
 
 both : (one other : Bool) → IsRun (Check None usual) (two_lists one other) (one && (other && true))
-both one other = (refl, inr ((λ none. cc none), (Name (codes "b") ∷ [], other && true, (refl, refl), refl, refl, ([], true, (refl, refl), refl, refl,
-    ([], true, tt, refl, refl, ends (Check None usual))))))
+both one other = (
+  refl,
+  inr (
+    (λ none. cc none),
+    (
+      Name (codes "b") ∷ [],
+      other && true,
+      (refl, refl),
+      refl,
+      refl,
+      (
+        [],
+        true,
+        (refl, refl),
+        refl,
+        refl,
+        ([], true, tt, refl, refl, ends (Check None usual)),
+      ),
+    ),
+  ),
+)
 
 pub returns : goal.returns
 returns c = record {
   no_name = ends (Check None usual);
   succeeds = both _ _;
   one_fails = both _ _;
-  has_failed = λ success run. elim run.1 [ | inl none ↦ cc none.0 | inr (some, got) ↦ got.4 ];
+  has_failed = λ success run. elim run.1 [ inl none ↦ cc none.0 | inr (some, got) ↦ got.4 ];
   fault = (refl, inr ((λ none. cc none), (_, _, refl, refl, refl, ([], true, tt, refl, refl, ends (Print (plain R160))))));
-  early = λ success run. elim run.1 [ | inl none ↦ cc none.0 | inr (some, got) ↦ cc got.3 ];
-  all_first = λ success run. elim run.1 [ | inl none ↦ cc none.0 | inr (some, got) ↦ cc got.0 ];
-  on = λ success run. elim run.1 [ | inl ended ↦ cc ended.1 | inr goes ↦ goes.0 refl ];
-  not_ended = λ success run. elim run.1 [ | inl none ↦ cc none.0 | inr (some, got) ↦ got.5.5 ];
+  early = λ success run. elim run.1 [ inl none ↦ cc none.0 | inr (some, got) ↦ cc got.3 ];
+  all_first = λ success run. elim run.1 [ inl none ↦ cc none.0 | inr (some, got) ↦ cc got.0 ];
+  on = λ success run. elim run.1 [ inl ended ↦ cc ended.1 | inr goes ↦ goes.0 refl ];
+  not_ended = λ success run. elim run.1 [ inl none ↦ cc none.0 | inr (some, got) ↦ got.5.5 ];
   nothing = λ success run. run;
-  skipped = λ success run. elim run.1 [ | inl none ↦ cc none.0 | inr (some, got) ↦ cc got.3 ];
-  unsaid = λ success run. elim run.1 [ | inl none ↦ cc none.0 | inr (some, got) ↦ cc (got.3, got.5.0) ];
+  skipped = λ success run. elim run.1 [ inl none ↦ cc none.0 | inr (some, got) ↦ cc got.3 ];
+  unsaid = λ success run. elim run.1 [ inl none ↦ cc none.0 | inr (some, got) ↦ cc (got.3, got.5.0) ];
   other_style = λ success run. elim run.1 [
     | inl none ↦ cc none.0
     | inr (some, got) ↦ omega (arith, ap (λ (style : Style). size_of style.variant) got.2)
