@@ -3,7 +3,7 @@ use Rattle.std.specs.Prelude.{◌≡◌, ◌≢◌, ◌⊎◌, ◌+◌, ℕ, len
 use Rattle.std.specs.Io.KnownBytes.{IsAtEnd}
 use Rattle.std.specs.Io.Buffered.{reader_remaining}
 use Rattle.std.specs.declared.io.buffered.BufReader.{BufReader}
-use Rattle.ripemd_files.specs.declared.piece.Piece.TheVariants.{Whole, Last, Failed}
+use Rattle.ripemd_files.specs.declared.piece.Piece.TheVariants.{Whole, Last}
 use Rattle.ripemd_files.specs.Splitting.{IsPiece}
 use Rattle.rmdsum.specs.declared.names.Wrong.{Wrong}
 use Rattle.rmdsum.specs.declared.names.Wrong.TheVariants.{Unread, Empty, Input}
@@ -27,11 +27,10 @@ MayHave file name = (name ≢ []) × (file ≡ codes "-" → name ≢ codes "-")
 abbrev pub Stays : Option (List ℕ) → Option (List ℕ) → Type 0
 Stays old new = IfSome old (λ bytes. new ≡ Some bytes)
 
--- after so many names nothing is wrong; a read failed, in the next name, and no more is read; or the next is wrong
+-- after so many names nothing is wrong; a read failed, and no more is read; or the next name is wrong
 abbrev pub Ends : List ℕ → ℕ → Option (List ℕ) → Option (List ℕ) → Option Wrong → Type 0
 Ends file count old new None = Stays old new
-Ends file count old new (Some (Unread error)) =
-    (front : List ℕ) × (now : Option (List ℕ)) × IsPiece 0 old now front (Failed error) × IsAtEnd new
+Ends file count old new (Some (Unread error)) = IsAtEnd new
 Ends file count old new (Some (Empty number)) = NextName old [] new × (number ≡ count + 1)
 Ends file count old new (Some Input) = NextName old (codes "-") new × (file ≡ codes "-")
 

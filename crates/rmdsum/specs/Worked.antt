@@ -1,6 +1,7 @@
 -- Worked command lines. tests/test_rmdsum.py compares such lines with `sha256sum`.
 use Rattle.std.specs.Prelude.{◌≡◌, ◌↔◌, ℕ, Bool, true, false, List, [], ◌∷◌, map, codes, Some, None, Ok, Err, vec_items, Vec}
 use Rattle.std.specs.Global.{Global}
+use Rattle.std.specs.declared.io.Error.{Error}
 use Rattle.ripemd_files.specs.declared.line.Variant.TheVariants.{R128, R160, R256, R320}
 use Rattle.ripemd_files.specs.declared.line.Form.TheVariants as forms
 use Rattle.ripemd_files.specs.declared.line.Ending.TheVariants as endings
@@ -19,7 +20,7 @@ use Rattle.rmdsum.specs.Arguments.Why.{AsksHelp, AsksVersion, UnknownLong, Ambig
 use Rattle.ripemd_files.specs.declared.line.Variant.{Variant}
 use Rattle.ripemd_files.specs.declared.printing.Style.{Style}
 use Rattle.ripemd_files.specs.declared.verdict.Options.{Options}
-use Rattle.rmdsum.specs.declared.names.Wrong.TheVariants.{Input, Empty}
+use Rattle.rmdsum.specs.declared.names.Wrong.TheVariants.{Unread, Input, Empty}
 use Rattle.rmdsum.specs.declared.request.Work.TheVariants as works
 use Rattle.rmdsum.specs.Names.{Continues}
 use Rattle.rmdsum.specs.Runs.{Deed, IsRun}
@@ -157,6 +158,10 @@ pub record WorkedNames : Type 0 where
   pub given : Continues [] 0 0 (Some []) (Some []) (codes "a" ∷ []) (codes "a" ∷ []) None
   pub empty : Continues [] 5 7 (Some (97 ∷ 0 ∷ 0 ∷ 98 ∷ [])) (Some (98 ∷ [])) [] (codes "a" ∷ []) (Some (Empty 7))
   pub input : Continues (codes "f") 0 1 (Some (codes "-")) (Some []) [] (codes "-" ∷ []) None
+  pub is_input : Continues (codes "-") 0 1 (Some (45 ∷ 0 ∷ 98 ∷ [])) (Some (98 ∷ [])) [] [] (Some Input)
+  pub unread : (error : Error) → Continues [] 0 1 (Some (97 ∷ 0 ∷ 98 ∷ [])) (Some []) [] (codes "a" ∷ []) (Some (Unread error))
+  pub read_on : (count : ℕ) (error : Error) → ¬ Continues [] 0 count (Some (codes "a")) (Some (codes "a")) [] [] (Some (Unread error))
+  pub unsplit : (count : ℕ) → ¬ Continues [] 0 count (Some (97 ∷ 0 ∷ [])) (Some []) [] ((97 ∷ 0 ∷ []) ∷ []) None
   pub not_ended : (count : ℕ) → ¬ Continues [] 0 count (Some (codes "a")) (Some (codes "a")) [] [] None
   pub dropped : (count : ℕ) → ¬ Continues [] 0 count (Some (codes "a")) (Some []) [] [] None
   pub not_input : (count : ℕ) → ¬ Continues (codes "f") 0 count (Some (codes "-")) (Some []) [] [] (Some Input)

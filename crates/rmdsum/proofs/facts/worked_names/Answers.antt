@@ -36,6 +36,18 @@ returns c = record {
     counted = refl;
     last = λ none nothing. cc;
   };
+  is_input = record { read = []; between = Some (45 ∷ 0 ∷ 98 ∷ []); all = refl; follow = refl; ends = (inl (refl, refl), refl); counted = refl; last = λ none nothing. cc };
+  unread = λ error. record {
+    read = codes "a" ∷ [];
+    between = Some (98 ∷ []);
+    all = refl;
+    follow = (Some (98 ∷ []), inl (refl, refl), ((λ none. cc none), (λ is. absurd (cc is))), refl);
+    ends = refl;
+    counted = refl;
+    last = λ none nothing. cc;
+  };
+  read_on = λ count error goes. cc goes.ends;
+  unsplit = λ count goes. let name = rw (← goes.all) at goes.follow in elim name.1 [ inl whole ↦ cc whole.1 | inr last ↦ cc last.3 ];
   not_ended = λ count goes. cc (goes.last refl refl);
   dropped = λ count goes. let none = rw (← goes.all) at goes.follow in cc (rw none at goes.ends);
   not_input = λ count goes. cc goes.ends.1;
