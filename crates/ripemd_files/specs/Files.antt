@@ -24,15 +24,15 @@ pub record Gave {File : Type 0} (IsOpened : File → Type 0) (left : File → Op
   pub is_opened : IsOpened opened
   pub given : Consumes (left opened) (left now) bytes
 
--- a file that was opened so gave this message, to its end, and its length in bits fits into 64 bits
+-- a file that was opened so gave this message and ended; the length of the message in bits fits into 64 bits
 pub record Gives {File : Type 0} (IsOpened : File → Type 0) (left : File → Option (List ℕ)) (message : List ℕ) : Type 0 where
   pub ended : File
   pub gave : Gave IsOpened left message ended
   pub at_end : IsAtEnd (left ended)
   pub fits : length message < 2 ^ 61
 
--- a file that was opened so fails with this error, which, if it gives too many bytes for the length in bits to fit into 64 bits,
--- says so
+-- Reading a file that was opened so ends with this error: the read after these bytes may fail with it; or they are 2^61 or more, and
+-- it says that the file is too large.
 pub record Breaks {File : Type 0} (IsOpened : File → Type 0) (left : File → Option (List ℕ)) (may_fail : File → Error → Type 0) (error : Error)
     : Type 0 where
   pub bytes : List ℕ

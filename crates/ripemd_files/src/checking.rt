@@ -46,6 +46,7 @@ pub fn check_list<F: Folder, R: ReadList, L: Log>(
 ) -> Result<bool, Fault>
     requires told { (L.told log.old).failure ≡ None }
     requires works { (R.state reader.old).failed ≡ false }
+    requires readable { R.is_readable reader.old }
     ensures ok { IfOk result (ChecksList (F.place folder.now) options rules layout.old layout.new
         (R.state reader.old) (R.state reader.new) (L.told log.old) (L.told log.new)) }
     ensures err { IfErr result (StopsList (F.place folder.now) options rules layout.old
@@ -86,6 +87,7 @@ fn check_groups<F: Folder, R: ReadList, L: Log>(
     requires room { 0 < length buffer.old }
     requires start { cursor.old.number ≡ 1 }
     requires works { (R.state reader.old).failed ≡ false }
+    requires readable { R.is_readable reader.old }
     ensures ok { IfOk result (ChecksList (F.place folder.now) options rules cursor.old.layout cursor.new.layout
         (R.state reader.old) (R.state reader.new) (L.told log.old) (L.told log.new)) }
     ensures err { IfErr result (StopsList (F.place folder.now) options rules cursor.old.layout

@@ -38,11 +38,11 @@ enum Content<T> {
 // Reads to the front of the buffer, until the file ends or the buffer is full. How many bytes: if there is room for
 // more, the file has ended.
 fn fill<F: Folder>(folder: &F, file: &mut F::File, buffer: &mut [u8]) -> Result<usize, io::Error>
-    requires open { F.is_open folder.now file.old }
+    requires readable { F.is_readable folder.now file.old }
     ensures ok { IfOk result (λ count. (count ≤ length buffer.new)
         × Consumes ((F.place folder.now).left file.old) ((F.place folder.now).left file.new) (take count buffer.new)
         × (count < length buffer.new → IsAtEnd ((F.place folder.now).left file.new))
-        × (count ≡ length buffer.new → F.is_open folder.now file.new)) }
+        × (count ≡ length buffer.new → F.is_readable folder.now file.new)) }
     ensures err { IfErr result (λ error. (bytes : List ℕ) × (now : F.File) × Consumes ((F.place folder.now).left file.old) ((F.place folder.now).left now) bytes
         × (F.place folder.now).may_fail now error) }
     ensures room { length buffer.new ≡ length buffer.old }
@@ -58,14 +58,14 @@ fn fill<F: Folder>(folder: &F, file: &mut F::File, buffer: &mut [u8]) -> Result<
     Ok(count)
 }
 
-// The digest of a file that gives more bytes than the buffer has room for: of those that fill it, and of the rest.
+// The digest of a file that fills the buffer: of these bytes, and of the rest.
 #[tactic(auto, using(crate::proofs::Pieces::consumed))]
 fn hash_rest<D: Digest, F: Folder>(
     folder: &F,
     file: &mut F::File,
     buffer: &mut [u8],
 ) -> Result<D::Output, io::Error>
-    requires open { F.is_open folder.now file.old }
+    requires readable { F.is_readable folder.now file.old }
     requires room { 0 < length buffer.old }
     ensures ok { IfOk result (λ digest. (rest : List ℕ) × Consumes ((F.place folder.now).left file.old) ((F.place folder.now).left file.new) rest
         × IsAtEnd ((F.place folder.now).left file.new) × (length (buffer.old ++ rest) < 2 ^ 61)

@@ -15,13 +15,13 @@ pub trait Folder {
     // What it is, as contracts see it.
     ghost place: { Self → Place Self.File };
 
-    // Whether a file may be read: until a read of it fails or finds its end.
-    ghost is_open: { Self → Self.File → Type 0 } = { λ folder file. ⊤ };
+    // Whether a file may still be read: not after a read of it failed or found its end.
+    ghost is_readable: { Self → Self.File → Type 0 } = { λ folder file. ⊤ };
 
     /// Opens the file of a name.
     fn open(&self, name: &[u8]) -> io::Result<Self::File>
         ensures ok { IfOk result ((place self.now).opens name.now) }
-        ensures open { IfOk result (is_open self.now) }
+        ensures readable { IfOk result (is_readable self.now) }
         ensures err { IfErr result ((place self.now).refuses name.now) };
 
     /// Whether the file of a name is, as far as is known before it is opened, a regular one of less than 64 KiB, for
@@ -29,12 +29,12 @@ pub trait Folder {
     /// other file all lines are.
     fn is_short(&self, name: &[u8]) -> bool;
 
-    /// Reads bytes of a file to the front of the buffer, and answers how many: 0 at its end. After that, and after a
-    /// read that failed, the file is not read again.
+    /// Reads bytes of a file to the front of the buffer, and answers how many: 0 at its end. No file is read after that,
+    /// nor after a read that failed.
     fn read(&self, file: &mut Self::File, buffer: &mut [u8]) -> io::Result<usize>
-        requires open { is_open self.now file.old }
+        requires readable { is_readable self.now file.old }
         ensures bound { ReadsAtMost result buffer.new }
         ensures bytes { ReadConsumes ((place self.now).left file.old) ((place self.now).left file.new) result buffer.new }
-        ensures open { IfOk result (λ count. 0 < count → is_open self.now file.new) }
+        ensures readable { IfOk result (λ count. 0 < count → is_readable self.now file.new) }
         ensures err { IfErr result ((place self.now).may_fail file.old) };
 }

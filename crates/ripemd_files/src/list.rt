@@ -2,7 +2,7 @@
 
 ghost use Rattle.std.specs.Prelude.{◌≡◌, ◌≢◌, ◌↔◌, ◌+◌, ◌<◌, ◌^◌, ◌++◌, ◌∷◌, [], codes, false, length, IfErr, IfOk, IsFalse, IsTrue, OnOk};
 ghost use Rattle.ripemd_files.specs.Lists.{IsTaken, IsWanted, body_of_line, is_passed_over, layout_after};
-ghost use Rattle.ripemd_files.specs.Groups.{ExplainsReading, IsEntry, ReadsGroup, StopsReading, Takes};
+ghost use Rattle.ripemd_files.specs.Groups.{ExplainsReading, goes_on, IsEntry, ReadsGroup, StopsReading, Takes};
 
 use crate::digests::GROUP;
 use crate::fault::Fault;
@@ -169,8 +169,10 @@ pub(crate) fn read_group<F: Folder, R: ReadList>(
     reader: &mut R,
 ) -> Result<Group, Fault>
     requires works { (R.state reader.old).failed ≡ false }
+    requires readable { R.is_readable reader.old }
     ensures ok { IfOk result (ReadsGroup (F.place folder.now) ignore_missing rules (R.state reader.old) (R.state reader.new)
         cursor.old cursor.new) }
+    ensures readable { IfOk result (λ group. IsTrue (goes_on group.next) → R.is_readable reader.new) }
     ensures err { IfErr result (StopsReading (R.state reader.old).left (R.state reader.new).left cursor.old.number) }
 {
     let mut lines = Vec::with_capacity(alloc, GROUP)?;

@@ -1,9 +1,10 @@
 //! Texts, read piece by piece: lists by lines.
 
-ghost use Rattle.std.specs.Prelude.{◌≡◌, false, IfErr, IfOk};
+ghost use Rattle.std.specs.Prelude.{◌≡◌, false, IfErr, IfOk, ⊤};
 ghost use Rattle.std.specs.Io.Buffered.{reader_remaining};
 ghost use Rattle.std.specs.Io.BufRead.{ends_with_byte, strip_last};
 ghost use Rattle.ripemd_files.specs.Splitting.{IsPiece, ListState, ReadsOn, is_failure};
+ghost use Rattle.ripemd_files.specs.declared.piece.Piece.TheVariants.{Whole};
 
 use std::alloc::AllocError;
 use std::io;
@@ -68,20 +69,25 @@ pub trait ReadList {
     // What is left of it, and whether a read of it failed.
     ghost state: { Self → ListState };
 
+    // Whether it may still be read: not after its end.
+    ghost is_readable: { Self → Type 0 } = { λ list. ⊤ };
+
     /// Whether its next line is at hand, so that reading it does not wait. Before a read that may wait, what the
     /// lines so far say is written.
     fn has_line(&self) -> bool;
 
-    /// Reads the next line to `text`, in place of what stood there, without its newline. After a read that failed
-    /// nothing is read.
+    /// Reads the next line to `text`, in place of what stood there, without its newline. No list is read after its end,
+    /// nor after a read that failed.
     ///
     /// # Errors
     ///
     /// `AllocError` if there is no memory left for it.
     fn read_line(&mut self, text: &mut Vec<u8>) -> Result<Piece, AllocError>
         requires works { (state self.old).failed ≡ false }
+        requires readable { is_readable self.old }
         ensures piece { IfOk result (IsPiece 10 (state self.old).left (state self.new).left text.new.items) }
         ensures failed { IfOk result (λ piece. (state self.new).failed ≡ is_failure piece) }
+        ensures readable { IfOk result (λ piece. piece ≡ Whole → is_readable self.new) }
         ensures err { IfErr result (λ _. ReadsOn (state self.old).left (state self.new).left) };
 }
 

@@ -19,7 +19,7 @@ left_in remaining (Some reader) = reader_remaining remaining reader
 abbrev pub NextName : Option (List ℕ) → List ℕ → Option (List ℕ) → Type 0
 NextName old name new = IsPiece 0 old new name Whole ⊎ IsPiece 0 old new name Last
 
--- a file may have this name: it is not empty, and not that of standard input, where the file is that
+-- a file may have this name: it is not empty, and not `-` if the file itself is `-`
 abbrev pub MayHave : List ℕ → List ℕ → Type 0
 MayHave file name = (name ≢ []) × (file ≡ codes "-" → name ≢ codes "-")
 
@@ -27,27 +27,27 @@ MayHave file name = (name ≢ []) × (file ≡ codes "-" → name ≢ codes "-")
 abbrev pub Stays : Option (List ℕ) → Option (List ℕ) → Type 0
 Stays old new = IfSome old (λ bytes. new ≡ Some bytes)
 
--- after so many names nothing is wrong; a read failed, and no more is read; or the next name is wrong
+-- what is wrong after so many names: nothing, and no more was read; or a read failed, and the file is read no more; or the next name
 abbrev pub Ends : List ℕ → ℕ → Option (List ℕ) → Option (List ℕ) → Option Wrong → Type 0
 Ends file count old new None = Stays old new
 Ends file count old new (Some (Unread error)) = IsAtEnd new
 Ends file count old new (Some (Empty number)) = NextName old [] new × (number ≡ count + 1)
 Ends file count old new (Some Input) = NextName old (codes "-") new × (file ≡ codes "-")
 
--- how many names were read for this to be wrong
+-- how many names that takes: a wrong name counts, a failed read does not
 abbrev pub wrong_names : Option Wrong → ℕ
 wrong_names None = 0
 wrong_names (Some (Unread error)) = 0
 wrong_names (Some (Empty number)) = 1
 wrong_names (Some Input) = 1
 
--- after so many names, and then one at most, a name was read, or what is wrong, or there is none
+-- what comes after so many names: a name, what is wrong, or the end; and how many were read then
 abbrev pub IsEntry : List ℕ → ℕ → ℕ → Option (List ℕ) → Option (List ℕ) → Entry → Type 0
 IsEntry file count now old new (entries.Name name) = NextName old name.items new × MayHave file name.items × (now ≡ count + 1)
 IsEntry file count now old new (entries.Wrong wrong) = Ends file count old new (Some wrong) × (now ≡ count + wrong_names (Some wrong))
 IsEntry file count now old new entries.End = Stays old new × IsAtEnd new × (now ≡ count)
 
--- the entry of the name after so many
+-- what the name after so many others is: one that the file may have, or a wrong one
 abbrev pub IsNamed : List ℕ → ℕ → List ℕ → Entry → Type 0
 IsNamed file count name (entries.Name same) = (same.items ≡ name) × MayHave file name
 IsNamed file count name (entries.Wrong (Unread error)) = ⊥
@@ -60,8 +60,8 @@ abbrev pub Follow : List ℕ → Option (List ℕ) → List (List ℕ) → Optio
 Follow file old [] new = Stays old new
 Follow file old (name ∷ names) new = (next : Option (List ℕ)) × NextName old name next × MayHave file name × Follow file next names new
 
--- after so many names of the file, the names are those given and its next ones, all of which are counted; there is none, and
--- nothing wrong, only at its end
+-- The next names after so many of the file: those given, and then its own; and how many of it were read then, a wrong one too. There is
+-- none, and nothing wrong, only at its end.
 pub record Continues (file : List ℕ) (count now : ℕ) (old new : Option (List ℕ)) (given names : List (List ℕ)) (wrong : Option Wrong) : Type 0 where
   pub read : List (List ℕ)
   pub between : Option (List ℕ)

@@ -16,13 +16,13 @@ pub data Deed : Type 0 where
   Checks : Option Variant → Options → List ℕ → Bool → Deed
   Says : Option Wrong → Bool → Deed
 
--- known deeds grow by such
+-- known deeds grow by some that are such
 abbrev pub Extends : Option (List Deed) → Option (List Deed) → (List Deed → Type 0) → Type 0
 Extends old new P = (deeds : List Deed) × Adds old new deeds × P deeds
 
 -- ---- deeds
 
--- a name, or what is wrong after some
+-- what a run has to handle: a name, or what is wrong after some
 pub data Item : Type 0 where
   Name : List ℕ → Item
   Fault : Wrong → Item
@@ -30,12 +30,14 @@ pub data Item : Type 0 where
 abbrev pub items : List (List ℕ) → Option Wrong → List Item
 items names wrong = map Name names ++ map Fault (option_to_list wrong)
 
+-- what a deed handles
 abbrev pub handled : Deed → List Item
 handled (Gets names wrong) = []
 handled (Prints style names answer) = map Name names
 handled (Checks only options name answer) = Name name ∷ []
 handled (Says wrong answer) = map Fault (option_to_list wrong)
 
+-- whether it succeeds: getting names always does
 abbrev pub succeeded : Deed → Bool
 succeeded (Gets names wrong) = true
 succeeded (Prints style names answer) = answer
@@ -51,7 +53,7 @@ IsOf (Check only options) (Prints style names answer) = ⊥
 IsOf (Check only options) (Checks same alike name answer) = (same ≡ only) × (alike ≡ options)
 IsOf work (Says wrong answer) = ⊤
 
--- What a run does that has some items to handle: it handles them, in order, before it gets more, and ends when it gets none. It
+-- A run that still has these items to handle: it handles them in order, before it gets more, and ends when it gets none. It
 -- succeeds if each deed does.
 abbrev pub Goes : Work → List Item → List Deed → Bool → Type 0
 Goes work waiting [] success = ⊥
@@ -60,11 +62,11 @@ Goes work waiting (Gets names wrong ∷ deeds) success = (waiting ≡ [])
 Goes work waiting (deed ∷ deeds) success = (later : List Item) × (others : Bool) × IsOf work deed × (waiting ≡ handled deed ++ later)
     × (success ≡ (succeeded deed && others)) × Goes work later deeds others
 
--- a run that has nothing to handle yet
+-- a whole run: it begins with nothing to handle
 abbrev pub IsRun : Work → List Deed → Bool → Type 0
 IsRun work deeds success = Goes work [] deeds success
 
--- in a run, these deeds handle such items
+-- these deeds handle these items, however the run goes on
 abbrev pub Handles : Work → List Item → List Deed → Bool → Type 0
 Handles work items deeds success = (later : List Item) (more : List Deed) (others : Bool) → Goes work later more others
     → Goes work (items ++ later) (deeds ++ more) (success && others)

@@ -182,7 +182,7 @@ fn is_closed(fault: &Fault) -> bool {
 fn status(outcome: &Result<bool, Fault>, is_said: bool) -> u8
     ensures done { (result ≡ 0) ↔ (outcome.now ≡ Ok true) }
     ensures not { outcome.now ≡ Ok false → result ≡ 1 }
-    ensures fault { (fault : Fault) → outcome.now ≡ Err fault → result ≡ (if is_said then 1 else CLOSED) }
+    ensures fault { (fault : Fault) → outcome.now ≡ Err fault → result ≡ (if is_said then 1 else 141) }
 {
     match outcome {
         Ok(true) => 0,

@@ -25,7 +25,7 @@ pub struct Names<R> {
     file: Vec<u8>,
     // The file, until it is at its end.
     reader: Option<BufReader<R>>,
-    // How many names it gave.
+    // How many names were read of it, wrong ones too.
     number: u64,
 }
 
@@ -54,9 +54,9 @@ impl Names<Source> {
         names: request::NameSource,
     ) -> Result<Option<Names<Source>>, Fault>
         ensures given { (given : Vec (Vec ℕ Global) Global) → names ≡ Operands given
-            → IfOk result (λ opened. IsSomeAnd opened (λ opened. (opened.given ≡ given) × (opened.reader ≡ None))) }
+            → IfOk result (λ opened. IsSomeAnd opened (λ opened. (opened.given ≡ given) × (opened.reader ≡ None) × (opened.number ≡ 0))) }
         ensures file { (file : Vec ℕ Global) → names ≡ From file
-            → IfOk result (λ opened. IfSome opened (λ opened. (opened.given.items ≡ []) × (opened.file ≡ file) × IsSome opened.reader)) }
+            → IfOk result (λ opened. IfSome opened (λ opened. (opened.given.items ≡ []) × (opened.file ≡ file) × IsSome opened.reader × (opened.number ≡ 0))) }
     {
         let alloc = rt.alloc();
         match names {
@@ -111,6 +111,7 @@ impl<R: Read + Drop> Names<R> {
             (left_in R.remaining self.old.reader) (left_in R.remaining self.new.reader)
             (map vec_items self.old.given.items) (map vec_items batch.names.items) batch.wrong) }
         ensures given { IfOk result (λ _. self.new.given.items ≡ []) }
+        ensures file { OnOk result (self.new.file ≡ self.old.file) }
     {
         let mut names = mem::replace(&mut self.given, Vec::new(alloc));
         for _ in 0..MOST {

@@ -6,6 +6,7 @@ use Rattle.ripemd_files.proofs.checking.check_groups.Goals as goal
 pub groups-init : goal.groups-init
 groups-init g c = record {
   so_far = checks_begin _ _ _ _ _ _ _ c.new-tally.ensures;
+  readable = search rules;
   bounded = omega (arith, c.requires.start);
 }
 
@@ -38,6 +39,7 @@ groups-preserved g c = record {
   so_far = checks_on c.groups.invariant.so_far c.requires.start c.in_ok-group.ensures.ok
       (rw c.as_slice.ensures.value at c.in_ok-check_lines.ensures.ok)
       c.in_ok-check_misformatted.ensures.told c.in_ok-check_misformatted.ensures.counts c.in-More.is;
+  readable = c.in_ok-group.ensures.readable (search (rules, ap goes_on c.in-More.is));
   bounded = c.in_ok-group.ensures.ok.bounded (search (rules, ap goes_on c.in-More.is));
 }
 

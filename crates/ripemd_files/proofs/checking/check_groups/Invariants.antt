@@ -6,6 +6,7 @@ abbrev pub invariant-groups : goal.invariant-groups
 invariant-groups g l = record {
   so_far : ChecksSoFar (g.F.Folder.place l.folder) l.options l.rules l.initial.cursor l.cursor (g.R.ReadList.state l.initial.reader)
       (g.R.ReadList.state l.reader) (g.L.Log.told l.initial.log) (g.L.Log.told l.log) l.tally;
+  readable : g.R.ReadList.is_readable l.reader;
   bounded : l.cursor.number < 2 ^ 64;
 }
 

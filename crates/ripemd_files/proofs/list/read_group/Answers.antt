@@ -7,6 +7,7 @@ pub lines-init : goal.lines-init
 lines-init g c = record {
   reads = rw c.in_ok-lines.ensures.items (reads_nothing _ _ _ _ _);
   works = refl;
+  readable = search rules;
   advanced = λ some. search rules;
   bounded = λ some. search rules;
   behind = omega arith;
@@ -73,6 +74,7 @@ lines-preserved g c =
     record {
       reads = reads_line _ _ _ _ _ _ _ _ _ c.lines.invariant.reads _ _ _ None (rw (c.as_slice-in-Whole.ensures.value, c.in-None.is) at line.takes) line.advances piece;
       works = (rw c.in-Whole.is at c.in_ok-read_line.ensures.failed) ∙ sym c.requires.works;
+      readable = c.in_ok-read_line.ensures.readable c.in-Whole.is;
       advanced = λ _. omega (arith, line.advances, c.lines.invariant.behind);
       bounded = λ _. line.bound;
       behind = omega (arith, line.advances, c.lines.invariant.behind);

@@ -7,6 +7,7 @@ invariant-lines g l = record {
   reads : ReadsLines (g.F.Folder.place l.folder) l.ignore_missing l.rules (g.R.ReadList.state l.initial.reader).left (g.R.ReadList.state l.reader).left
       l.initial.cursor l.cursor l.lines.items [] true [];
   works : (g.R.ReadList.state l.reader).failed ≡ (g.R.ReadList.state l.initial.reader).failed;
+  readable : g.R.ReadList.is_readable l.reader;
   advanced : 0 < length l.lines.items → l.initial.cursor.number < l.cursor.number;
   bounded : 0 < length l.lines.items → l.cursor.number < 2 ^ 64;
   behind : l.initial.cursor.number ≤ l.cursor.number;
