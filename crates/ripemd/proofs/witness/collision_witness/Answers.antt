@@ -1,11 +1,10 @@
-use Rattle.std.proofs.Common.{◌≡◌, ◌≢◌, ◌+◌, inr, refl, arith, sym, ap, ◌∙◌, true}
+use Rattle.std.proofs.Common.{◌≡◌, ◌≢◌, ◌+◌, ◌-◌, length, inr, refl, arith, sym, ap, ◌∙◌, true}
 use Rattle.std.proofs.lemmas.List.{take_all}
 use Rattle.std.proofs.lemmas.Bool.{false≢true}
 use Rattle.ripemd_block.specs.Standard.Hashing.{padded_message, blocks, walk, hash}
 use Rattle.ripemd.specs.declared.witness.Collision.{Collision}
-use Rattle.ripemd.specs.Collisions.{pair_of}
-use Rattle.ripemd.proofs.LastDifference.{IsCommonEnd, pair_met, state_met, found_before, found_now, one_end}
-use Rattle.ripemd.proofs.Reduction.{none_found, some_found, only_found}
+use Rattle.ripemd.specs.Collisions.{pair_at, pair_of}
+use Rattle.ripemd.proofs.LastDifference.{next_state, found_before, found_now, one_end, none_found, some_found, only_found}
 use Rattle.ripemd.proofs.witness.collision_witness.Goals as goal
 use Rattle.ripemd.proofs.witness.collision_witness.Goals.{then-not-same_pair, else-not-same_pair}
 
@@ -18,14 +17,13 @@ loop-i-preserved g c =
     let j = c.saturating_sub-left_ahead.result in
     let k = c.saturating_sub-right_ahead.result in
     let i = c.loop-i.i in
-    let before = c.loop-i.invariant in
     let left = c.meet-left in
     let right = c.meet-right in
-    let left_pair = pair_met start step xs (j + i) left.result before.left left.ensures.state left.ensures.block in
-    let right_pair = pair_met start step ys (k + i) right.result before.right right.ensures.state right.ensures.block in
+    let left_pair : pair_of left.result ≡ pair_at start step xs (j + i) = cc in
+    let right_pair : pair_of right.result ≡ pair_at start step ys (k + i) = cc in
     record {
-      left = state_met start step xs j i left.result (omega arith) left_pair c.step-left_state.ensures.value;
-      right = state_met start step ys k i right.result (omega arith) right_pair c.step-right_state.ensures.value;
+      left = cc (next_state start step xs j i (omega arith));
+      right = cc (next_state start step ys k i (omega arith));
       left_valid = c.step-left_state.ensures.valid_new;
       right_valid = c.step-right_state.ensures.valid_new;
       found = elim c.if-not-same_pair.branch [
@@ -38,7 +36,7 @@ loop-i-preserved g c =
         | else-not-same_pair w ↦
             let same : pair_of left.result ≡ pair_of right.result = c.same_pair.ensures.0 w.if-not-same_pair.false in
             let pairs = sym left_pair ∙ same ∙ right_pair in
-            rw w.last_difference-is (found_before start step xs ys j k i c.loop-i.last_difference before.found pairs)
+            rw w.last_difference-is (found_before start step xs ys j k i c.loop-i.invariant.found pairs)
       ];
     }
 
@@ -54,7 +52,9 @@ returns-then-eq g c =
     let j = c.saturating_sub-left_ahead.result in
     let k = c.saturating_sub-right_ahead.result in
     let i = c.loop-i.i in
-    let ends : IsCommonEnd xs ys j k i = record { left = omega arith; right = omega arith; count = omega arith } in
+    let left : j ≡ length xs - length ys = omega arith in
+    let right : k ≡ length ys - length xs = omega arith in
+    let count : j + i ≡ length xs = omega arith in
     let left_end = rw (take_all (j + i) xs (omega arith)) at c.loop-i.invariant.left in
     let right_end = rw (take_all (k + i) ys (omega arith)) at c.loop-i.invariant.right in
     let equal = sym c.eq.ensures ∙ c.if-eq.true in
@@ -62,10 +62,10 @@ returns-then-eq g c =
     let same_end : walk step start xs ≡ walk step start ys = sym left_end ∙ state_injective ∙ right_end in
     let found = c.loop-i.invariant.found in
     record {
-      none = none_found start step a b j k i ends _ _ (ap g.F.BlockFunction.output_of same_end)
+      none = none_found start step a b j k i left right count _ _ (ap g.F.BlockFunction.output_of same_end)
           c.requires.a_short c.requires.b_short c.loop-i.last_difference found;
-      some = some_found start step a b j k i ends same_end c.loop-i.last_difference found;
-      only = only_found start step a b j k i ends c.loop-i.last_difference found;
+      some = some_found start step a b j k i left right count same_end c.loop-i.last_difference found;
+      only = only_found start step a b j k i left right count c.loop-i.last_difference found;
     }
 
 pub returns-else-eq : goal.returns-else-eq
