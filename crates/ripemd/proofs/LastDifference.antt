@@ -1,7 +1,7 @@
 -- Two walks side by side, from places j and k on: the last places where their pairs differ, and what they say of the
 -- two messages.
 use Rattle.std.proofs.Common.{◌≡◌, ◌≢◌, ◌⊎◌, inl, inr, ◌↔◌, ℕ, ◌+◌, ◌-◌, ◌^◌, ◌<◌, ◌≤◌, refl, sym, ap, ◌∙◌, arith}
-use Rattle.std.proofs.Common.{List, [], length, take, Option, None, Some, IsNone, IfSome}
+use Rattle.std.proofs.Common.{List, [], length, take, get_or, Option, None, Some, IsNone, IfSome}
 use Rattle.std.specs.Option.{MatchOption}
 use Rattle.std.proofs.lemmas.List.{take_all, same_lists, get_or_default}
 use Rattle.std.proofs.lemmas.List.Sums.{fold_more}
@@ -64,11 +64,17 @@ module _ {S : Type 0} (start : S) (step : S → List ℕ → S) (xs ys : List (L
 -- ---- walks
 
 module _ {S : Type 0} (start : S) (step : S → List ℕ → S) where
-  -- a step of the pair at a place gives the state at the next place
-  pub next_state : (bs : List (List ℕ)) (j i : ℕ) → j + i < length bs
-      → walk step start (take (j + (i + 1)) bs) ≡ state_after step (pair_at start step bs (j + i))
-  next_state bs j i h =
-      let place : j + (i + 1) ≡ j + i + 1 = omega arith in rw place (fold_more step start bs (j + i) [] h)
+  -- a step of the state and the block of a place gives the state at the next place
+  pub state_met : (bs : List (List ℕ)) (j i : ℕ) {s t u : S} {block : List ℕ} → s ≡ walk step start (take (j + i) bs)
+      → t ≡ s → block ≡ get_or bs (j + i) [] → u ≡ step t block → j + i < length bs
+      → u ≡ walk step start (take (j + (i + 1)) bs)
+  state_met bs j i walked state of_place step_is within =
+      let place : j + (i + 1) ≡ j + i + 1 = omega arith in rw place (cc (fold_more step start bs (j + i) [] within))
+
+  -- a walk through all blocks
+  pub state_at_end : (bs : List (List ℕ)) (p : ℕ) {s : S} → s ≡ walk step start (take p bs) → length bs ≤ p
+      → s ≡ walk step start bs
+  state_at_end bs p walked all = rw (take_all p bs all) at walked
 
   -- a step of the last pair gives the last state
   last_state : (bs : List (List ℕ)) (p : ℕ) → p + 1 ≡ length bs
@@ -152,18 +158,15 @@ module _ {S : Type 0} (start : S) (step : S → List ℕ → S) (a b : List ℕ)
       let q = c.right.place in
       let later = λ (i : ℕ) (after : 0 < i) (before : i < length xs - p).
       found.agree (p + i) (q + i) (omega arith) (omega arith) (omega arith) in
-      let left : p < length xs = omega arith in
-      let right : q < length ys = omega arith in
-      let rest : length xs - p ≡ length ys - q = omega arith in
       record {
         left = d.left;
         right = d.right;
         collide = record {
-          left_place = left;
-          right_place = right;
-          same_rest = rest;
+          left_place = omega arith;
+          right_place = omega arith;
+          same_rest = omega arith;
           different = λ h. d.different (d.left ∙ h ∙ sym d.right);
-          one_step = (steps_and_ends start step xs ys p q left right rest later).1 same;
+          one_step = (steps_and_ends start step xs ys p q (omega arith) (omega arith) (omega arith) later).1 same;
           later_agree = later;
         };
       }
