@@ -60,22 +60,12 @@ front_put xs part rest at n inside size =
 -- the sizes of a part, and of the list with the part written over
 pub part_size : (xs : List ℕ) (at n : ℕ) → at + n ≤ length xs → length (take (at + n - at) (drop at xs)) ≡ n
 part_size xs at n inside =
-    let count : at + n - at ≡ n = omega arith in
-    let rest : length (drop at xs) ≡ length xs - at = length-drop at xs in
-    rw count (length-take-le n (drop at xs) (omega (arith, rest, inside)))
+    length-take-le (at + n - at) (drop at xs) (omega (arith, length-drop at xs)) ∙ omega arith
 
 pub put_size : (xs part : List ℕ) (at k : ℕ) → length part ≡ k → at + k ≤ length xs
     → length (take at xs ++ (part ++ drop k (drop at xs))) ≡ length xs
 put_size xs part at k many inside =
-    omega (
-      arith,
-      many,
-      length-append (take at xs) (part ++ drop k (drop at xs)),
-      length-append part (drop k (drop at xs)),
-      length-take-le at xs (omega arith),
-      length-drop k (drop at xs),
-      length-drop at xs,
-    )
+    omega (arith, length-append {A = ℕ}, length-take-le at xs (omega arith), length-drop {A = ℕ})
 
 -- the first b blocks are in the key, as far as it reaches: the last one may be cut
 pub record Written (f : ℕ → List ℕ) (h n b : ℕ) (key : List ℕ) : Type 0 where
