@@ -1,6 +1,6 @@
 -- What collisions of the inner and of the outer messages say of the texts.
 use Rattle.std.proofs.Common.{◌≡◌, ◌≢◌, ◌⊎◌, ◌↔◌, ℕ, sym, ap, refl, rules, ◌∙◌, arith}
-use Rattle.std.proofs.Common.{List, ◌++◌, Option, None, Some, Result, Ok, Err, true}
+use Rattle.std.proofs.Common.{List, ◌++◌, Option, None, Some, Result, Ok, Err, true, false}
 use Rattle.std.proofs.lemmas.List.{append_cancel_left}
 use Rattle.std.proofs.lemmas.Bool.{false≢true}
 use Rattle.std.proofs.lemmas.Slice.Eq.{bytes_eq-Decides}
@@ -40,10 +40,12 @@ module _ (hash : List ℕ → List ℕ) (key a b : List ℕ) where
       (cc, cc, (λ same. cc ((bytes_eq-Decides x y).0 same), λ agree. (bytes_eq-Decides x y).1 (cc)))
 
   -- out of memory
-  pub no_memory : {X E : Type 0} (r : Result (Option X) E) → IsErr r → a ≢ b → InnerAgree hash key a b
+  pub no_memory : {X E : Type 0} (r : Result (Option X) E) → IsErr r → bytes_eq a b ≡ false → InnerAgree hash key a b
       → ((r ≡ Ok None) ↔ Nothing) × OnErr r ((a ≢ b) × InnerAgree hash key a b)
-  no_memory (Ok x) refused differ agree = absurd (cc)
-  no_memory (Err e) refused differ agree = (grind (arith, tags_agree agree), (differ, agree))
+  no_memory (Ok x) refused apart agree = absurd (cc)
+  no_memory (Err e) refused apart agree =
+      let differ : a ≢ b = λ same. false≢true (sym apart ∙ (bytes_eq-Decides a b).1 same) in
+      (grind (arith, tags_agree agree), (differ, agree))
 
   module _ {S : Type 0} (start : S) (step : S → List ℕ → S) where
     -- the answer if memory suffices

@@ -1,6 +1,5 @@
-use Rattle.std.proofs.Common.{◌≢◌, ◌∙◌, sym, rules}
+use Rattle.std.proofs.Common.{◌∙◌, sym, rules}
 use Rattle.std.proofs.lemmas.Bool.{false≢true}
-use Rattle.std.proofs.lemmas.Slice.Eq.{bytes_eq-Decides}
 use Rattle.ripemd_mac.proofs.MacReduction.{compared, no_memory, inner_answer, outer_answer}
 use Rattle.ripemd_mac.proofs.reduction.mac_collision.Goals as goal
 
@@ -8,16 +7,16 @@ pub returns-in_err-left : goal.returns-in_err-left
 returns-in_err-left g c =
     let sides = compared _ _ _ _ c.masked_keys-keys.ensures.inner c.prefixed_digest-a_digest.ensures
     c.output_bytes-a_bytes.ensures.bytes c.prefixed_digest-b_digest.ensures c.output_bytes-b_bytes.ensures.bytes in
-    let differ : c.args.a.now ≢ c.args.b.now = λ same. false≢true (sym c.if-eq.false ∙ c.eq.ensures ∙ (bytes_eq-Decides _ _).1 same) in
-    let failed = no_memory _ _ _ _ c.from_residual.result c.from_residual.ensures.0 differ (sides.2.0 (sym c.eq-2.ensures ∙ c.if-eq-2.true)) in
+    let failed = no_memory _ _ _ _ c.from_residual.result c.from_residual.ensures.0 (sym c.eq.ensures ∙ c.if-eq.false)
+    (sides.2.0 (sym c.eq-2.ensures ∙ c.if-eq-2.true)) in
     record { none = failed.0; some = search rules; only = search rules; err = failed.1 }
 
 pub returns-in_err-right : goal.returns-in_err-right
 returns-in_err-right g c =
     let sides = compared _ _ _ _ c.masked_keys-keys.ensures.inner c.prefixed_digest-a_digest.ensures
     c.output_bytes-a_bytes.ensures.bytes c.prefixed_digest-b_digest.ensures c.output_bytes-b_bytes.ensures.bytes in
-    let differ : c.args.a.now ≢ c.args.b.now = λ same. false≢true (sym c.if-eq.false ∙ c.eq.ensures ∙ (bytes_eq-Decides _ _).1 same) in
-    let failed = no_memory _ _ _ _ c.from_residual-in_err-right.result c.from_residual-in_err-right.ensures.0 differ (sides.2.0 (sym c.eq-2.ensures ∙ c.if-eq-2.true)) in
+    let failed = no_memory _ _ _ _ c.from_residual-in_err-right.result c.from_residual-in_err-right.ensures.0
+    (sym c.eq.ensures ∙ c.if-eq.false) (sides.2.0 (sym c.eq-2.ensures ∙ c.if-eq-2.true)) in
     record { none = failed.0; some = search rules; only = search rules; err = failed.1 }
 
 pub returns-then-eq-2 : goal.returns-then-eq-2
