@@ -129,9 +129,8 @@ module _ {S : Type 0} (start : S) (step : S → List ℕ → S) (a b : List ℕ)
       let size : length a ≡ length b = one_length a b ha hb (ap (λ (pair : Pair S). pair.1) last) in
       let same : length xs ≡ length ys = omega (arith, length-padded_blocks a, length-padded_blocks b) in
       one_message_of_blocks a b (same_lists xs ys same (λ i d within.
-      get_or_default xs i d [] within
-      ∙ ap (λ (pair : Pair S). pair.1) (found.agree i i (omega arith) (omega arith) (omega arith))
-      ∙ sym (get_or_default ys i d [] (omega arith))))
+      let block = ap (λ (pair : Pair S). pair.1) (found.agree i i (omega arith) (omega arith) (omega arith)) in
+      cc (get_or_default xs i d [] within, get_or_default ys i d [] (omega arith))))
 
   -- no difference was found exactly if the messages are equal, where their hashes are
   pub none_found : {D : Type 0} (x y : D) → x ≡ y → length a < 2 ^ 61 → length b < 2 ^ 61
@@ -141,10 +140,9 @@ module _ {S : Type 0} (start : S) (step : S → List ℕ → S) (a b : List ℕ)
     λ none. cc,
     λ h. elim h [
       | inl one ↦
-          let d = found.found in
-          let blocks_same : xs ≡ ys = ap (λ (m : List ℕ). blocks (padded_message m)) one in
-          let place : c.left.place ≡ c.right.place = omega (arith, ap length blocks_same) in
-          absurd (d.different (d.left ∙ rw (blocks_same, place) refl ∙ sym d.right))
+          let size = ap (λ (m : List ℕ). length (blocks (padded_message m))) one in
+          let place : c.left.place ≡ c.right.place = omega arith in
+          absurd (found.found.different (cc))
       | inr different ↦ absurd (different same)
     ],
   )
@@ -153,19 +151,18 @@ module _ {S : Type 0} (start : S) (step : S → List ℕ → S) (a b : List ℕ)
       → IfSome last (IsCollision start step a b)
   some_found same None found = tt
   some_found same (Some c) found =
-      let d = found.found in
       let p = c.left.place in
       let q = c.right.place in
       let later = λ (i : ℕ) (after : 0 < i) (before : i < length xs - p).
       found.agree (p + i) (q + i) (omega arith) (omega arith) (omega arith) in
       record {
-        left = d.left;
-        right = d.right;
+        left = found.found.left;
+        right = found.found.right;
         collide = record {
           left_place = omega arith;
           right_place = omega arith;
           same_rest = omega arith;
-          different = λ h. d.different (d.left ∙ h ∙ sym d.right);
+          different = λ h. found.found.different (cc);
           one_step = (steps_and_ends start step xs ys p q (omega arith) (omega arith) (omega arith) later).1 same;
           later_agree = later;
         };
@@ -182,20 +179,17 @@ module _ {S : Type 0} (start : S) (step : S → List ℕ → S) (a b : List ℕ)
   only_found None found other h =
       absurd (h.collide.different (found.agree other.left.place other.right.place (omega arith) (omega arith) (omega arith)))
   only_found (Some c) found other h =
-      let d = found.found in
       elim (cases_order found.from (other.left.place + 1)) [
         | inl same ↦
             let left : c.left.place ≡ other.left.place = omega arith in
             let right : c.right.place ≡ other.right.place = omega arith in
             let one : collision_of c.left.place (pair_of c.left) c.right.place (pair_of c.right)
-            ≡ collision_of other.left.place (pair_of other.left) other.right.place (pair_of other.right) = cc in
-            ap Some one
+            ≡ collision_of other.left.place (pair_of other.left) other.right.place (pair_of other.right) = cc in ap Some one
         | inr (inl before) ↦
             absurd (h.collide.different (found.agree other.left.place other.right.place (omega arith) (omega arith) (omega arith)))
         | inr (inr after) ↦
             let i = c.left.place - other.left.place in
             let left : other.left.place + i ≡ c.left.place = omega arith in
             let right : other.right.place + i ≡ c.right.place = omega arith in
-            let same = rw (left, right) at (h.collide.later_agree i (omega arith) (omega arith)) in
-            absurd (d.different (d.left ∙ same ∙ sym d.right))
+            absurd (found.found.different (cc (h.collide.later_agree i (omega arith) (omega arith))))
       ]
