@@ -1,227 +1,195 @@
--- Two walks side by side, from places j and k on: the last places where their pairs differ.
-use Rattle.std.proofs.Common.{◌≡◌, ◌≢◌, inl, inr, ℕ, zero, suc, ◌+◌, ◌-◌, ◌<◌, refl, sym, ap, ◌∙◌, arith}
-use Rattle.std.proofs.Common.{List, [], length, take, get_or, Option, None, Some}
+-- Two walks side by side, from places j and k on: the last places where their pairs differ, and what they say of the
+-- two messages.
+use Rattle.std.proofs.Common.{◌≡◌, ◌≢◌, ◌⊎◌, inl, inr, ◌↔◌, ℕ, ◌+◌, ◌-◌, ◌^◌, ◌<◌, ◌≤◌, refl, sym, ap, ◌∙◌, arith}
+use Rattle.std.proofs.Common.{List, [], length, take, get_or, Option, None, Some, IsNone, IfSome}
 use Rattle.std.specs.Option.{MatchOption}
-use Rattle.std.proofs.lemmas.List.{take_all}
+use Rattle.std.proofs.lemmas.List.{take_all, same_lists, get_or_default}
 use Rattle.std.proofs.lemmas.List.Sums.{fold_more}
-use Rattle.std.proofs.Math.Nat.{eq-or-lt_of_le}
-use Rattle.std.proofs.lemmas.Bool.{cases_order}
-use borrow.Author.Count.{below_more}
-use Rattle.ripemd_block.specs.Standard.Hashing.{walk}
-use Rattle.ripemd.specs.declared.witness.Meeting.{Meeting}
+use Rattle.std.proofs.lemmas.Bool.{cases_lt, cases_order}
+use Rattle.ripemd_block.specs.Standard.Hashing.{padded_message, blocks, walk}
+use Rattle.ripemd_block.proofs.PaddedBlocks.{length-padded_blocks, one_length, one_message_of_blocks}
 use Rattle.ripemd.specs.declared.witness.Collision.{Collision}
-use Rattle.ripemd.specs.Collisions.{Pair, state_after, pair_at, pair_of, CollideAt}
+use Rattle.ripemd.specs.Collisions.{Pair, state_after, pair_at, pair_of, CollideAt, IsCollision, IsOnlyCollision}
 
--- the first n pairs from places j and k on agree
-pub record Agree {S : Type 0} (start : S) (step : S → List ℕ → S) (xs ys : List (List ℕ)) (j k n : ℕ) : Type 0 where
-  pub each : (i : ℕ) → i < n → pair_at start step xs (j + i) ≡ pair_at start step ys (k + i)
-
--- c has the last pairs that differ among the first n from places j and k on
-pub record IsLastDifference {S : Type 0} (start : S) (step : S → List ℕ → S) (xs ys : List (List ℕ)) (j k n : ℕ)
+-- c has the pairs right before a place of the first walk, and those beside them, and they differ
+pub record IsDifference {S : Type 0} (start : S) (step : S → List ℕ → S) (xs ys : List (List ℕ)) (j k from : ℕ)
     (c : Collision S) : Type 0 where
-  pub index : ℕ
-  pub within : index < n
-  pub left_place : c.left.place ≡ j + index
-  pub right_place : c.right.place ≡ k + index
-  pub left : pair_of c.left ≡ pair_at start step xs (j + index)
-  pub right : pair_of c.right ≡ pair_at start step ys (k + index)
+  pub next : c.left.place + 1 ≡ from
+  pub beside : c.left.place + k ≡ c.right.place + j
+  pub left : pair_of c.left ≡ pair_at start step xs c.left.place
+  pub right : pair_of c.right ≡ pair_at start step ys c.right.place
   pub different : pair_of c.left ≢ pair_of c.right
-  pub later_agree : (i : ℕ) → i < n → index < i → pair_at start step xs (j + i) ≡ pair_at start step ys (k + i)
 
--- what was found among the first n pairs: the last difference, or none, if all agree
-abbrev pub HasFound : {S : Type 0} → S → (S → List ℕ → S) → List (List ℕ) → List (List ℕ) → ℕ → ℕ → ℕ
-    → Option (Collision S) → Type 0
-HasFound start step xs ys j k n last =
-    MatchOption last (Agree start step xs ys j k n) (IsLastDifference start step xs ys j k n)
+-- what was found among the first n pairs: from some place of the first walk on all agree. It is the first place if
+-- nothing was found, and else the one after the pairs that were found
+pub record HasFound {S : Type 0} (start : S) (step : S → List ℕ → S) (xs ys : List (List ℕ)) (j k n : ℕ)
+    (last : Option (Collision S)) : Type 0 where
+  pub from : ℕ
+  pub within : from ≤ j + n
+  pub agree : (p q : ℕ) → p + k ≡ q + j → from ≤ p → p < j + n → pair_at start step xs p ≡ pair_at start step ys q
+  pub found : MatchOption last (from ≡ j) (IsDifference start step xs ys j k from)
 
 module _ {S : Type 0} (start : S) (step : S → List ℕ → S) (xs ys : List (List ℕ)) (j k : ℕ) where
-  pub nothing_found : HasFound start step xs ys j k 0 None
-  nothing_found = record { each = λ i h. absurd (omega arith) }
-
-  pub found_before : (n : ℕ) (last : Option (Collision S)) → HasFound start step xs ys j k n last
+  pub found_before : (n : ℕ) {last : Option (Collision S)} → HasFound start step xs ys j k n last
       → pair_at start step xs (j + n) ≡ pair_at start step ys (k + n) → HasFound start step xs ys j k (n + 1) last
-  found_before n None before same = record {
-    each = below_more (λ i. pair_at start step xs (j + i) ≡ pair_at start step ys (k + i)) n before.each same;
-  }
-  found_before n (Some c) before same = record {
-    index = before.index;
+  found_before n before same = record {
+    from = before.from;
     within = omega arith;
-    left_place = before.left_place;
-    right_place = before.right_place;
-    left = before.left;
-    right = before.right;
-    different = before.different;
-    later_agree = below_more (λ i. before.index < i → pair_at start step xs (j + i) ≡ pair_at start step ys (k + i)) n
-        before.later_agree (λ h. same);
+    agree = λ p q beside low high. elim (cases_lt p (j + n)) [
+      | inl less ↦ before.agree p q beside low less
+      | inr most ↦
+          let left : p ≡ j + n = omega arith in
+          let right : q ≡ k + n = omega arith in
+          rw (left, right) same
+    ];
+    found = before.found;
   }
 
   pub found_now : (n : ℕ) (c : Collision S) → c.left.place ≡ j + n → c.right.place ≡ k + n
       → pair_of c.left ≡ pair_at start step xs (j + n) → pair_of c.right ≡ pair_at start step ys (k + n)
       → pair_of c.left ≢ pair_of c.right → HasFound start step xs ys j k (n + 1) (Some c)
   found_now n c left_place right_place left right different = record {
-    index = n;
+    from = j + (n + 1);
     within = omega arith;
-    left_place = left_place;
-    right_place = right_place;
-    left = left;
-    right = right;
-    different = different;
-    later_agree = λ i h later. absurd (omega arith);
+    agree = λ p q beside low high. absurd (omega arith);
+    found = record {
+      next = omega arith;
+      beside = omega arith;
+      left = rw left_place left;
+      right = rw right_place right;
+      different = different;
+    };
   }
 
 -- ---- walks
 
 module _ {S : Type 0} (start : S) (step : S → List ℕ → S) where
-  -- the pair of a meeting that has the state and the block of a place
-  pub pair_met : (bs : List (List ℕ)) (p : ℕ) {s : S} (m : Meeting S) → s ≡ walk step start (take p bs)
-      → m.state ≡ s → m.block ≡ get_or bs p [] → pair_of m ≡ pair_at start step bs p
-  pair_met bs p m walked state block = rw (state, walked, block) refl
+  -- a step of the state and the block of a place gives the state at the next place
+  pub state_met : (bs : List (List ℕ)) (j i : ℕ) {s t u : S} {block : List ℕ} → s ≡ walk step start (take (j + i) bs)
+      → t ≡ s → block ≡ get_or bs (j + i) [] → u ≡ step t block → j + i < length bs
+      → u ≡ walk step start (take (j + (i + 1)) bs)
+  state_met bs j i walked state of_place step_is within =
+      let place : j + (i + 1) ≡ j + i + 1 = omega arith in rw place (cc (fold_more step start bs (j + i) [] within))
 
-  -- a step of the pair at a place gives the state at the next place
-  next_state : (bs : List (List ℕ)) (p : ℕ) → p < length bs
-      → walk step start (take (p + 1) bs) ≡ state_after step (pair_at start step bs p)
-  next_state bs p h = fold_more step start bs p [] h
-
-  -- so does a step of a meeting that has this pair
-  pub state_met : (bs : List (List ℕ)) (j i : ℕ) {s : S} (m : Meeting S) → j + i < length bs
-      → pair_of m ≡ pair_at start step bs (j + i) → s ≡ step m.state m.block
-      → s ≡ walk step start (take (j + (i + 1)) bs)
-  state_met bs j i m within pair_is step_is =
-      let place : j + (i + 1) ≡ j + i + 1 = omega arith in
-      step_is ∙ ap (state_after step) pair_is ∙ rw place (sym (next_state bs (j + i) within))
+  -- a walk through all blocks
+  pub state_at_end : (bs : List (List ℕ)) (p : ℕ) {s : S} → s ≡ walk step start (take p bs) → length bs ≤ p
+      → s ≡ walk step start bs
+  state_at_end bs p walked all = rw (take_all p bs all) at walked
 
   -- a step of the last pair gives the last state
   last_state : (bs : List (List ℕ)) (p : ℕ) → p + 1 ≡ length bs
       → walk step start bs ≡ state_after step (pair_at start step bs p)
-  last_state bs p h = rw (take_all (p + 1) bs (omega arith)) at (next_state bs p (omega arith))
+  last_state bs p h = rw (take_all (p + 1) bs (omega arith)) at (fold_more step start bs p [] (omega arith))
+
+  -- where all pairs after places p and q agree, the steps at these lead to one state exactly if the walks do
+  steps_and_ends : (xs ys : List (List ℕ)) (p q : ℕ) → p < length xs → q < length ys → length xs - p ≡ length ys - q
+      → ((i : ℕ) → 0 < i → i < length xs - p → pair_at start step xs (p + i) ≡ pair_at start step ys (q + i))
+      → (state_after step (pair_at start step xs p) ≡ state_after step (pair_at start step ys q))
+      ↔ (walk step start xs ≡ walk step start ys)
+  steps_and_ends xs ys p q left right rest later =
+      elim (cases_lt 1 (length xs - p)) [
+        | inl more ↦
+            let m = length xs - p - 1 in
+            let next = ap (λ (pair : Pair S). pair.0) (later 1 (omega arith) more) in
+            let last = ap (state_after step) (later m (omega arith) (omega arith)) in (
+              λ h. last_state xs (p + m) (omega arith) ∙ last ∙ sym (last_state ys (q + m) (omega arith)),
+              λ h. sym (fold_more step start xs p [] left) ∙ next ∙ fold_more step start ys q [] right,
+            )
+        | inr one ↦
+            let left_end = last_state xs p (omega arith) in
+            let right_end = last_state ys q (omega arith) in
+            (λ h. left_end ∙ h ∙ sym right_end, λ h. sym left_end ∙ h ∙ right_end)
+      ]
 
   pub one_end : (xs ys : List (List ℕ)) (p q : ℕ) → CollideAt start step xs ys p q
       → walk step start xs ≡ walk step start ys
   one_end xs ys p q c =
-      let size : 0 < length xs - p = omega arith in
-      last_state xs (p + (length xs - p - 1)) (omega arith) ∙ last_steps (length xs - p - 1) (omega arith)
-      ∙ sym (last_state ys (q + (length xs - p - 1)) (omega arith))
-    where
-      last_steps : (m : ℕ) → m + 1 ≡ length xs - p
-          → state_after step (pair_at start step xs (p + m)) ≡ state_after step (pair_at start step ys (q + m))
-      last_steps zero size =
-          let left : p + 0 ≡ p = omega arith in
-          let right : q + 0 ≡ q = omega arith in
-          rw (left, right) c.one_step
-      last_steps (suc m) size = ap (state_after step) (c.later_agree (suc m) (omega arith) (omega arith))
+      (steps_and_ends xs ys p q c.left_place c.right_place c.same_rest c.later_agree).0 c.one_step
 
--- ---- meetings and collisions with the same parts
+-- ---- the walks of two messages, from j and k on to their ends: all the blocks of the shorter walk
 
-module _ {S : Type 0} where
-  -- meetings with equal places and pairs are equal
-  one_meeting : (m other : Meeting S) → m.place ≡ other.place → pair_of m ≡ pair_of other → m ≡ other
-  one_meeting m other place pair =
-      ap (λ (p : ℕ). meeting_of p (pair_of m)) place ∙ ap (meeting_of other.place) pair
-    where
-      meeting_of : ℕ → Pair S → Meeting S
-      meeting_of p pair = record { place = p; state = pair.0; block = pair.1 }
+module _ {S : Type 0} (start : S) (step : S → List ℕ → S) (a b : List ℕ) (j k n : ℕ)
+    (ahead : j ≡ length (blocks (padded_message a)) - length (blocks (padded_message b)))
+    (other_ahead : k ≡ length (blocks (padded_message b)) - length (blocks (padded_message a)))
+    (count : j + n ≡ length (blocks (padded_message a))) where
+  abbrev xs : List (List ℕ)
+  xs = blocks (padded_message a)
 
-  -- collisions with equal meetings are equal
-  one_collision : (c other : Collision S) → c.left ≡ other.left → c.right ≡ other.right → c ≡ other
-  one_collision c other left right =
-      ap (λ (m : Meeting S). collision_of m c.right) left ∙ ap (collision_of other.left) right
-    where
-      collision_of : Meeting S → Meeting S → Collision S
-      collision_of left right = record { left = left; right = right }
+  abbrev ys : List (List ℕ)
+  ys = blocks (padded_message b)
 
--- ---- all pairs from places j and k on, n of each walk
+  abbrev Found : Option (Collision S) → Type 0
+  Found = HasFound start step xs ys j k n
 
--- from places j and k on both walks have n more blocks, all the blocks of the shorter walk
-pub record IsCommonEnd (xs ys : List (List ℕ)) (j k n : ℕ) : Type 0 where
-  pub left : j ≡ length xs - length ys
-  pub right : k ≡ length ys - length xs
-  pub count : n ≡ length xs - j
+  -- short messages whose pairs all agree are equal, since the last block has their length
+  same_message : length a < 2 ^ 61 → length b < 2 ^ 61 → Found None → a ≡ b
+  same_message ha hb found =
+      let some : 0 < n = omega (arith, length-padded_blocks a, length-padded_blocks b) in
+      let last = found.agree (length xs - 1) (length ys - 1) (omega arith) (omega arith) (omega arith) in
+      let size : length a ≡ length b = one_length a b ha hb (ap (λ (pair : Pair S). pair.1) last) in
+      let same : length xs ≡ length ys = omega (arith, length-padded_blocks a, length-padded_blocks b) in
+      one_message_of_blocks a b (same_lists xs ys same (λ i d within.
+      let block = ap (λ (pair : Pair S). pair.1) (found.agree i i (omega arith) (omega arith) (omega arith)) in
+      cc (get_or_default xs i d [] within, get_or_default ys i d [] (omega arith))))
 
-module _ {S : Type 0} (start : S) (step : S → List ℕ → S) (xs ys : List (List ℕ)) (j k n : ℕ)
-    (ends : IsCommonEnd xs ys j k n) where
-  -- where walks end in one state, their last difference is a collision
-  pub collision_found : (c : Collision S) → walk step start xs ≡ walk step start ys
-      → IsLastDifference start step xs ys j k n c → CollideAt start step xs ys c.left.place c.right.place
-  collision_found c same d = rw (d.left_place, d.right_place) record {
-    left_place = omega arith;
-    right_place = omega arith;
-    same_rest = omega arith;
-    different = λ h. d.different (d.left ∙ h ∙ sym d.right);
-    one_step = sym (next_state start step xs (j + d.index) (omega arith))
-        ∙ next_states d.index d.within d.later_agree
-        ∙ next_state start step ys (k + d.index) (omega arith);
-    later_agree = λ i after before.
-        let left : j + (d.index + i) ≡ j + d.index + i = omega arith in
-        let right : k + (d.index + i) ≡ k + d.index + i = omega arith in
-        rw (left, right) at (d.later_agree (d.index + i) (omega arith) (omega arith));
+  -- no difference was found exactly if the messages are equal, where their hashes are
+  pub none_found : {D : Type 0} (x y : D) → x ≡ y → length a < 2 ^ 61 → length b < 2 ^ 61
+      → (last : Option (Collision S)) → Found last → IsNone last ↔ ((a ≡ b) ⊎ (x ≢ y))
+  none_found x y same ha hb None found = (λ none. inl (same_message ha hb found), λ h. refl)
+  none_found x y same ha hb (Some c) found = (
+    λ none. cc,
+    λ h. elim h [
+      | inl one ↦
+          let size = ap (λ (m : List ℕ). length (blocks (padded_message m))) one in
+          let place : c.left.place ≡ c.right.place = omega arith in
+          absurd (found.found.different (cc))
+      | inr different ↦ absurd (different same)
+    ],
+  )
+
+  pub some_found : walk step start xs ≡ walk step start ys → (last : Option (Collision S)) → Found last
+      → IfSome last (IsCollision start step a b)
+  some_found same None found = tt
+  some_found same (Some c) found =
+      let p = c.left.place in
+      let q = c.right.place in
+      let later = λ (i : ℕ) (after : 0 < i) (before : i < length xs - p).
+      found.agree (p + i) (q + i) (omega arith) (omega arith) (omega arith) in
+      record {
+        left = found.found.left;
+        right = found.found.right;
+        collide = record {
+          left_place = omega arith;
+          right_place = omega arith;
+          same_rest = omega arith;
+          different = λ h. found.found.different (cc);
+          one_step = (steps_and_ends start step xs ys p q (omega arith) (omega arith) (omega arith) later).1 same;
+          later_agree = later;
+        };
+      }
+
+  -- the collision with these places and pairs
+  abbrev collision_of : ℕ → Pair S → ℕ → Pair S → Collision S
+  collision_of p x q y = record {
+    left = record { place = p; state = x.0; block = x.1 };
+    right = record { place = q; state = y.0; block = y.1 };
   }
-    where
-      next_states : (index : ℕ) → index < n
-          → ((i : ℕ) → i < n → index < i → pair_at start step xs (j + i) ≡ pair_at start step ys (k + i))
-          → walk step start (take (j + index + 1) xs) ≡ walk step start (take (k + index + 1) ys)
-      next_states index within later =
-          elim (eq-or-lt_of_le {n = index + 1} {m = n} (omega arith)) [
-            | inr h ↦
-                let left : j + (index + 1) ≡ j + index + 1 = omega arith in
-                let right : k + (index + 1) ≡ k + index + 1 = omega arith in
-                let pairs = rw (left, right) at (later (index + 1) h (omega arith)) in
-                ap (λ (pair : Pair S). pair.0) pairs
-            | inl h ↦
-                rw (take_all (j + index + 1) xs (omega arith), take_all (k + index + 1) ys (omega arith)) same
-          ]
 
-  module _ (p q : ℕ) (collide : CollideAt start step xs ys p q) where
-    index : ℕ
-    index = n - (length xs - p)
-
-    index_within : index < n
-    unfolding index
-    index_within = omega arith
-
-    index_left : p ≡ j + index
-    unfolding index
-    index_left = omega arith
-
-    index_right : q ≡ k + index
-    unfolding index
-    index_right = omega arith
-
-    no_agreement : pair_at start step xs (j + index) ≡ pair_at start step ys (k + index) → ⊥
-    no_agreement same = collide.different
-        (ap (pair_at start step xs) index_left ∙ same ∙ sym (ap (pair_at start step ys) index_right))
-
-    pub no_collision : Agree start step xs ys j k n → ⊥
-    no_collision agree = no_agreement (agree.each index index_within)
-
-    -- and all pairs after them agree
-    agree_after : (i : ℕ) → index < i → i < n → pair_at start step xs (j + i) ≡ pair_at start step ys (k + i)
-    agree_after i after within =
-        let left : p + (i - index) ≡ j + i = omega (arith, index_left) in
-        let right : q + (i - index) ≡ k + i = omega (arith, index_right) in
-        rw (left, right) at (collide.later_agree (i - index) (omega arith) (omega arith))
-
-  -- a collision of the walks is the last difference
-  pub only_collision : (c other : Collision S) → IsLastDifference start step xs ys j k n c
-      → pair_of other.left ≡ pair_at start step xs other.left.place
-      → pair_of other.right ≡ pair_at start step ys other.right.place
-      → CollideAt start step xs ys other.left.place other.right.place → c ≡ other
-  only_collision c other d left right collide =
-      let i = index other.left.place other.right.place collide in
-      let left_place : other.left.place ≡ j + i = index_left other.left.place other.right.place collide in
-      let right_place : other.right.place ≡ k + i = index_right other.left.place other.right.place collide in
-      elim (cases_order d.index i) [
+  pub only_found : (last : Option (Collision S)) → Found last → IsOnlyCollision start step a b last
+  only_found None found other h =
+      absurd (h.collide.different (found.agree other.left.place other.right.place (omega arith) (omega arith) (omega arith)))
+  only_found (Some c) found other h =
+      elim (cases_order found.from (other.left.place + 1)) [
         | inl same ↦
-            let same_left : c.left.place ≡ other.left.place = omega arith in
-            let same_right : c.right.place ≡ other.right.place = omega arith in
-            one_collision c other
-            (one_meeting c.left other.left same_left
-            (d.left ∙ ap (pair_at start step xs) (sym d.left_place ∙ same_left) ∙ sym left))
-            (one_meeting c.right other.right same_right
-            (d.right ∙ ap (pair_at start step ys) (sym d.right_place ∙ same_right) ∙ sym right))
+            let left : c.left.place ≡ other.left.place = omega arith in
+            let right : c.right.place ≡ other.right.place = omega arith in
+            let one : collision_of c.left.place (pair_of c.left) c.right.place (pair_of c.right)
+            ≡ collision_of other.left.place (pair_of other.left) other.right.place (pair_of other.right) = cc in ap Some one
         | inr (inl before) ↦
-            absurd (no_agreement other.left.place other.right.place collide
-            (d.later_agree i (index_within other.left.place other.right.place collide) before))
+            absurd (h.collide.different (found.agree other.left.place other.right.place (omega arith) (omega arith) (omega arith)))
         | inr (inr after) ↦
-            absurd (d.different (d.left
-            ∙ agree_after other.left.place other.right.place collide d.index after d.within ∙ sym d.right))
+            let i = c.left.place - other.left.place in
+            let left : other.left.place + i ≡ c.left.place = omega arith in
+            let right : other.right.place + i ≡ c.right.place = omega arith in
+            absurd (found.found.different (cc (h.collide.later_agree i (omega arith) (omega arith))))
       ]

@@ -1,4 +1,3 @@
 pub mod LastDifference
-pub mod Reduction
 pub mod Replaying
 pub mod Saved

@@ -1,7 +1,8 @@
 -- Saved bytes of a core and a tail, put together and taken apart.
 use Rattle.std.proofs.Common.{◌≡◌, ℕ, ◌+◌, ◌-◌, ◌<◌, suc, refl, sym, ap, ◌∙◌, arith, rules}
 use Rattle.std.proofs.Common.{List, [], ◌∷◌, ◌++◌, length, take, drop, get_or, replicate}
-use Rattle.std.proofs.lemmas.List.{length-drop, length-take-le, take-append-drop, drop_at}
+use Rattle.std.proofs.lemmas.List.{length-drop, length-take-le, length-replicate, take-append-drop, drop_at}
+use Rattle.ripemd_block.proofs.Absorbing.{slice_from}
 use Rattle.std.proofs.Math.Seq.{take-append_seam, drop-append_seam}
 use Rattle.ripemd_block.specs.States.{HashState, IsTail, IsHashState, IsWithoutTail, with_tail}
 use Rattle.ripemd_block.specs.States.{output_and_count, tail_bytes, core_and_tail}
@@ -10,24 +11,29 @@ use Rattle.ripemd_block.specs.Laws.Saved.{length-output_and_count, length-core_a
 
 -- ---- the saved bytes of a tail: its length, the tail, and zeros
 
-module _ (tail saved : List ℕ) (is : tail_bytes tail ≡ saved) where
-  pub tail_length : get_or saved 0 0 ≡ length tail
-  tail_length = ap (λ (bs : List ℕ). get_or bs 0 0) (sym is)
+-- the bytes after as many as the first says, as a slice of code has them
+abbrev pub behind_tail : List ℕ → List ℕ
+behind_tail saved = take (length saved - (1 + get_or saved 0 0)) (drop (1 + get_or saved 0 0) saved)
 
-  pub zeros_behind : length tail < 64 → drop (suc (length tail)) saved ≡ replicate (63 - length tail) 0
-  zeros_behind short = ap (drop (suc (length tail))) (sym is) ∙ drop_at (length tail ∷ tail) _ (suc (length tail)) refl
+pub zeros_behind : (tail saved : List ℕ) → tail_bytes tail ≡ saved
+    → behind_tail saved ≡ replicate (length (behind_tail saved)) 0
+zeros_behind tail saved is =
+    let zeros : List ℕ = replicate (63 - length tail) 0 in
+    let behind : drop (1 + length tail) (length tail ∷ tail ++ zeros) ≡ zeros =
+    drop_at (length tail ∷ tail) zeros (1 + length tail) (omega arith) in
+    rw (slice_from (1 + get_or saved 0 0) saved, ← is, behind, length-replicate {A = ℕ} (63 - length tail) 0) refl
 
 -- a length below 64, as many bytes, and zeros: the saved bytes of a tail
 pub tail_of_zeros : (saved : List ℕ) → length saved ≡ 64 → get_or saved 0 0 < 64
-    → drop (suc (get_or saved 0 0)) saved ≡ replicate (length (drop (suc (get_or saved 0 0)) saved)) 0
-    → tail_bytes (take (get_or saved 0 0) (drop 1 saved)) ≡ saved
-tail_of_zeros [] size short zeros = absurd (omega (arith, size))
+    → behind_tail saved ≡ replicate (length (behind_tail saved)) 0
+    → tail_bytes (take (get_or saved 0 0) (take (length saved - 1) (drop 1 saved))) ≡ saved
+tail_of_zeros [] size short zeros = absurd (omega arith)
 tail_of_zeros (n ∷ behind) size short zeros =
-    let left : length behind ≡ 63 = omega (arith, size) in
-    let held : length (take n behind) ≡ n = length-take-le n behind (omega (arith, left, short)) in
-    let none : replicate {A = ℕ} (63 - n) 0 ≡ drop n behind =
-    ap (λ (k : ℕ). replicate {A = ℕ} k 0) (sym (length-drop n behind ∙ ap (λ (k : ℕ). k - n) left)) ∙ sym zeros in
-    rw (held, none) (ap (λ (bs : List ℕ). n ∷ bs) (take-append-drop n behind))
+    let held : length (take n behind) ≡ n = length-take-le n behind (omega arith) in
+    let left : 63 - n ≡ length (drop n behind) = omega (arith, length-drop n behind) in
+    let place : 1 + n ≡ suc n = omega arith in
+    let none = rw (slice_from (1 + n) (n ∷ behind), place) at zeros in
+    rw (slice_from 1 (n ∷ behind), held, left, ← none) (ap (λ (bs : List ℕ). n ∷ bs) (take-append-drop n behind))
 
 -- ---- the saved bytes of a hasher: a core, and then a tail
 

@@ -175,6 +175,7 @@ impl<F: ListBlockFunction> Digest for BlockHasher<F> {
         self.buffer.absorb(&mut self.core, bytes);
     }
 
+    #[tactic(auto, using(crate::specs::Laws::hashing_done))]
     fn finalize_reset(&mut self) -> F::Digest {
         let mut digest = F::Digest::zeros();
         self.core.finalize_fixed_core(&mut self.buffer, &mut digest);

@@ -1,5 +1,5 @@
 -- The blocks of a derived key, one U after another, and how they lie in the key.
-use Rattle.std.proofs.Common.{◌≡◌, ℕ, zero, suc, ◌+◌, ◌-◌, ◌*◌, ◌<◌, ◌≤◌, ◌⊎◌, inl, inr, min, arith, refl, ap, ap₂, sym, ◌∙◌, length-append}
+use Rattle.std.proofs.Common.{◌≡◌, ℕ, zero, suc, ◌+◌, ◌-◌, ◌*◌, ◌<◌, ◌≤◌, inl, inr, min, arith, refl, ap, ap₂, sym, ◌∙◌, length-append}
 use Rattle.std.proofs.Common.{List, [], ◌∷◌, ◌++◌, length, map, replicate, take, drop}
 use Rattle.std.specs.Int.Bits.{bit_xor}
 use Rattle.std.specs.Simd.Lanes.{zip2}
@@ -60,28 +60,33 @@ front_put xs part rest at n inside size =
 -- the sizes of a part, and of the list with the part written over
 pub part_size : (xs : List ℕ) (at n : ℕ) → at + n ≤ length xs → length (take (at + n - at) (drop at xs)) ≡ n
 part_size xs at n inside =
-    let count : at + n - at ≡ n = omega arith in
-    let rest : length (drop at xs) ≡ length xs - at = length-drop at xs in
-    rw count (length-take-le n (drop at xs) (omega (arith, rest, inside)))
+    length-take-le (at + n - at) (drop at xs) (omega (arith, length-drop at xs)) ∙ omega arith
 
 pub put_size : (xs part : List ℕ) (at k : ℕ) → length part ≡ k → at + k ≤ length xs
     → length (take at xs ++ (part ++ drop k (drop at xs))) ≡ length xs
 put_size xs part at k many inside =
-    omega (
-      arith,
-      many,
-      length-append (take at xs) (part ++ drop k (drop at xs)),
-      length-append part (drop k (drop at xs)),
-      length-take-le at xs (omega arith),
-      length-drop k (drop at xs),
-      length-drop at xs,
-    )
+    omega (arith, length-append {A = ℕ}, length-take-le at xs (omega arith), length-drop {A = ℕ})
 
 -- the first b blocks are in the key, as far as it reaches: the last one may be cut
 pub record Written (f : ℕ → List ℕ) (h n b : ℕ) (key : List ℕ) : Type 0 where
   pub len : length key ≡ n
   pub many : length (flat_map f (range_with_len 1 b)) ≡ h * b
   pub so_far : take (h * b) key ≡ take n (flat_map f (range_with_len 1 b))
+
+-- a part that has the front of the next block, as far as m bytes reach, and what follows it in these
+part_put : (next part rest : List ℕ) (h m n : ℕ) → length next ≡ h → n ≡ min m h → part ≡ take n next → length rest ≡ m - n
+    → take h (part ++ rest) ≡ take m next
+part_put next part rest h m n whole is_n cut behind =
+    elim (cases_lt m h) [
+      | inl last ↦
+          let same : n ≡ m = omega arith in
+          let nothing : rest ≡ [] = nil_from_length rest (omega arith) in
+          let size : length part ≤ h = omega (arith, ap length cut, length-take-le n next (omega arith)) in
+          rw (nothing, append-nil part) (take_all h part size ∙ rw same at cut)
+      | inr full ↦
+          let all : part ≡ next = cut ∙ take_all n next (omega arith) in
+          rw (all, ← whole) (take-append_seam next rest) ∙ sym (take_all m next (omega arith))
+    ]
 
 pub one_more : (f : ℕ → List ℕ) (h n b end : ℕ) (key part rest block : List ℕ) → Written f h n b key → h * b < n
     → end ≡ min n (h * b + h) → length part ≡ end - h * b → length rest ≡ n - end
@@ -91,38 +96,19 @@ one_more f h n b end key part rest block before inside is_end size behind writte
     let front : List ℕ = take (h * b) key in
     let next : List ℕ = f (b + 1) in
     let all : List ℕ = flat_map f (range_with_len 1 b) in
-    let place : length front ≡ h * b = length-take-le (h * b) key (omega (arith, before.len, inside)) in
-    let is_front : front ≡ all = before.so_far ∙ take_all n all (omega (arith, before.many, inside)) in
-    let cut : part ≡ take (end - h * b) next =
-    written ∙ ap (λ k. take k block) size ∙ ap (take (end - h * b)) filled_block
-    ∙ take-append-le (end - h * b) next (replicate (64 - length next) 0) (omega (arith, is_end, whole)) in
-    let more : h * (b + 1) ≡ h * b + h = omega arith in
-    let joined : flat_map f (range_with_len 1 (b + 1)) ≡ all ++ next = next_joined f 1 b (b + 1) (omega arith) in
-    let blocks : n ≡ length all + (n - h * b) = omega (arith, before.many, inside) in
-    let wanted : take n (flat_map f (range_with_len 1 (b + 1))) ≡ all ++ take (n - h * b) next =
-    ap (take n) joined ∙ ap (λ k. take k (all ++ next)) blocks ∙ take-append-add all next (n - h * b) in
+    let place : length front ≡ h * b = length-take-le (h * b) key (omega (arith, before.len)) in
+    let is_front : front ≡ all = before.so_far ∙ take_all n all (omega (arith, before.many)) in
+    let fits = take-append-le (end - h * b) next (replicate (64 - length next) 0) (omega arith) in
+    let put = part_put next part rest h (n - h * b) (end - h * b) whole (omega arith)
+    (rw (size, filled_block, fits) at written) (omega arith) in
+    let joined = next_joined f 1 b (b + 1) (omega arith) in
+    let more : h * (b + 1) ≡ length front + h = omega arith in
+    let reach : n ≡ length all + (n - h * b) = omega (arith, before.many) in
     record {
-      len = omega (arith, length-append front (part ++ rest), length-append part rest, place, size, behind, is_end, inside);
-      many = ap length joined ∙ omega (arith, length-append all next, before.many, whole);
-      so_far = rw more (so_far is_front cut (cases_lt n (h * b + h)) ∙ sym wanted);
+      len = omega (arith, length-append front (part ++ rest), length-append part rest);
+      many = ap length joined ∙ omega (arith, length-append all next, before.many);
+      so_far = cc (take-append-add front (part ++ rest) h, take-append-add all next (n - h * b));
     }
-  where
-    so_far : take (h * b) key ≡ flat_map f (range_with_len 1 b) → part ≡ take (end - h * b) (f (b + 1))
-        → (n < h * b + h) ⊎ (h * b + h ≤ n)
-        → take (h * b + h) (take (h * b) key ++ (part ++ rest)) ≡ flat_map f (range_with_len 1 b) ++ take (n - h * b) (f (b + 1))
-    so_far is_front cut (inl last) =
-        let same : end ≡ n = omega (arith, is_end, last) in
-        let nothing : rest ≡ [] = nil_from_length rest (omega (arith, behind, same)) in
-        let place : length (take (h * b) key) ≡ h * b = length-take-le (h * b) key (omega (arith, before.len, inside)) in
-        rw (nothing, append-nil part)
-        (take_all (h * b + h) (take (h * b) key ++ part) (omega (arith, length-append (take (h * b) key) part, place, size, same, last))
-        ∙ ap (λ x. x ++ part) is_front ∙ ap (λ x. flat_map f (range_with_len 1 b) ++ x) (cut ∙ ap (λ e. take (e - h * b) (f (b + 1))) same))
-    so_far is_front cut (inr full) =
-        let same : end ≡ h * b + h = omega (arith, is_end, full) in
-        front_put key part rest (h * b) (h * b + h) (omega (arith, before.len, inside)) (omega (arith, size, same))
-        ∙ ap (λ x. x ++ part) is_front
-        ∙ ap (λ x. flat_map f (range_with_len 1 b) ++ x) (cut ∙ take_all (end - h * b) (f (b + 1)) (omega (arith, whole, same))
-        ∙ sym (take_all (n - h * b) (f (b + 1)) (omega (arith, whole, full))))
 
 -- a block begins in the key
 pub block_begins : (n h i : ℕ) → 0 < h → i < div_ceil n h → h * i < n

@@ -1,6 +1,6 @@
 -- Bytes compared by the bitwise or of their differences.
 use Rattle.std.proofs.Common.{◌≡◌, ℕ, ◌+◌, ◌≤◌, ◌<◌, ◌↔◌, IsTrue, nat_eq}
-use Rattle.std.proofs.Common.{List, length, get_or, bit_or, sym, ap, ◌∙◌, arith, rules}
+use Rattle.std.proofs.Common.{List, length, get_or, bit_or, ap, ◌∙◌, arith, rules}
 use Rattle.std.specs.Int.Bits.{bit_xor, xor_assoc, xor_self, xor_zero_l, xor_zero_r, or_zero_l}
 use borrow.Author.Count.{below_more}
 use Rattle.std.proofs.lemmas.List.{same_lists, get_or_default}
@@ -11,9 +11,7 @@ abbrev pub AgreeTo : ℕ → List ℕ → List ℕ → Type 0
 AgreeTo n a b = (j : ℕ) → j < n → get_or a j 0 ≡ get_or b j 0
 
 no_difference : (x y : ℕ) → bit_xor x y ≡ 0 → x ≡ y
-no_difference x y none =
-    sym (xor_zero_r x) ∙ ap (bit_xor x) (sym (xor_self y)) ∙ sym (xor_assoc x y y)
-    ∙ ap (λ (d : ℕ). bit_xor d y) none ∙ xor_zero_l y
+no_difference x y none = cc (xor_zero_r x, xor_self y, xor_assoc x y y, xor_zero_l y)
 
 -- one place more
 pub difference_more : (d n : ℕ) (a b : List ℕ) → (d ≡ 0) ↔ AgreeTo n a b
@@ -25,9 +23,7 @@ difference_more d n a b before =
           let so_far : d ≡ 0 = omega (arith, none, le_or_l d (bit_xor x y)) in
           let here : bit_xor x y ≡ 0 = omega (arith, none, le_or_r d (bit_xor x y)) in
           below_more (λ j. get_or a j 0 ≡ get_or b j 0) n (before.0 so_far) (no_difference x y here)),
-      (λ agree.
-          let so_far : d ≡ 0 = before.1 (λ j less. agree j (omega arith)) in
-          rw (so_far, agree n (omega arith), xor_self y) (or_zero_l 0)),
+      (λ agree. cc (before.1 (λ j less. agree j (omega arith)), agree n (omega arith), xor_self y, or_zero_l 0)),
     )
 
 -- equal lengths, compared to the end
@@ -38,7 +34,5 @@ same_or_none d n a b size end agree = (
       let zero : d ≡ 0 = search (rules, none) in
       same_lists a b size (λ j x within.
       get_or_default a j x 0 within ∙ agree.0 zero j (omega arith) ∙ get_or_default b j 0 x (omega arith))),
-  (λ same.
-      let zero : d ≡ 0 = agree.1 (λ j less. ap (λ (l : List ℕ). get_or l j 0) same) in
-      search (rules, zero)),
+  (λ same. search (rules, agree.1 (λ j less. ap (λ (l : List ℕ). get_or l j 0) same))),
 )

@@ -3,7 +3,7 @@ use Rattle.std.proofs.Common.{◌≡◌, ℕ, ◌+◌, List, [], ◌++◌, lengt
 use Rattle.std.proofs.lemmas.List.{append-nil}
 use Rattle.std.proofs.Math.Seq.{take-append_seam, drop-append_seam}
 use Rattle.ripemd.specs.Standard.Hashing.{hash}
-use Rattle.ripemd.specs.States.{HashState, initial_state, fed, finish, core_and_tail}
+use Rattle.ripemd.specs.States.{HashState, initial_state, fed, core_and_tail}
 use Rattle.ripemd.specs.OverLists.{IsInjectiveOutput}
 use Rattle.ripemd.specs.Laws as laws
 use Rattle.ripemd.specs.SavedLaws.{length-core_and_tail, core_and_tail_injective}
@@ -43,15 +43,15 @@ module _ (start : List ℕ) (step : List ℕ → List ℕ → List ℕ) (output 
       → tag_of step output (fed_text step (keyed_state start step output key) text) ≡ hmac (hash start step output) key text
   unfolding keyed_state hmac outer_message inner_message
   tag_of_text text =
-      let block : List ℕ = key_block (hash start step output) key in
-      let first : finish step output (fed step (fed step (initial_state start) (masked 0x36 block)) text)
-      ≡ hash start step output (masked 0x36 block ++ text) =
-      ap (finish step output) (laws.fed_twice step (initial_state start) (masked 0x36 block) text)
-      ∙ laws.finish_fed start step output (masked 0x36 block ++ text) in
-      ap (λ (bytes : List ℕ). finish step output (fed step (fed step (initial_state start) (masked 0x5c block)) bytes)) first
-      ∙ ap (finish step output)
-      (laws.fed_twice step (initial_state start) (masked 0x5c block) (hash start step output (masked 0x36 block ++ text)))
-      ∙ laws.finish_fed start step output (masked 0x5c block ++ hash start step output (masked 0x36 block ++ text))
+      let inner : List ℕ = masked 0x36 (key_block (hash start step output) key) in
+      let outer : List ℕ = masked 0x5c (key_block (hash start step output) key) in
+      let digest : List ℕ = hash start step output (inner ++ text) in
+      cc (
+        laws.fed_twice step (initial_state start) inner text,
+        laws.finish_fed start step output (inner ++ text),
+        laws.fed_twice step (initial_state start) outer digest,
+        laws.finish_fed start step output (outer ++ digest),
+      )
 
   -- states that stand for the key and a text: with no text yet, after one more piece, and their tag
   pub stands_for_nothing : {state : KeyedState} → state ≡ keyed_state start step output key

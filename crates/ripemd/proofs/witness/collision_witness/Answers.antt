@@ -1,99 +1,75 @@
-use Rattle.std.proofs.Common.{◌≡◌, ◌≢◌, ◌+◌, inr, refl, arith, sym, ap, ◌∙◌, true}
-use Rattle.std.proofs.lemmas.List.{take_all}
+use Rattle.std.proofs.Common.{◌≡◌, ◌≢◌, ◌+◌, ◌-◌, length, inr, refl, arith, sym, ap, ◌∙◌}
 use Rattle.std.proofs.lemmas.Bool.{false≢true}
-use Rattle.ripemd_block.specs.Standard.Hashing.{padded_message, blocks, walk, hash}
-use Rattle.ripemd.specs.declared.witness.Collision.{Collision}
-use Rattle.ripemd.specs.Collisions.{pair_of}
-use Rattle.ripemd.proofs.LastDifference.{IsCommonEnd, pair_met, state_met, found_before, found_now, one_end}
-use Rattle.ripemd.proofs.Reduction.{none_found, some_found, only_found}
+use Rattle.ripemd_block.specs.Standard.Hashing.{padded_message, blocks, hash}
+use Rattle.ripemd.proofs.LastDifference.{state_met, state_at_end, found_before, found_now}
+use Rattle.ripemd.proofs.LastDifference.{one_end, none_found, some_found, only_found}
 use Rattle.ripemd.proofs.witness.collision_witness.Goals as goal
 use Rattle.ripemd.proofs.witness.collision_witness.Goals.{then-not-same_pair, else-not-same_pair}
 
 pub loop-i-preserved : goal.loop-i-preserved
 loop-i-preserved g c =
-    let start = g.F.BlockFunction.start_of in
-    let step = g.F.BlockFunction.step_of in
-    let xs = blocks (padded_message c.args.a.now) in
-    let ys = blocks (padded_message c.args.b.now) in
     let j = c.saturating_sub-left_ahead.result in
     let k = c.saturating_sub-right_ahead.result in
     let i = c.loop-i.i in
     let before = c.loop-i.invariant in
-    let left = c.meet-left in
-    let right = c.meet-right in
-    let left_pair = pair_met start step xs (j + i) left.result before.left left.ensures.state left.ensures.block in
-    let right_pair = pair_met start step ys (k + i) right.result before.right right.ensures.state right.ensures.block in
+    let left = c.meet-left.ensures in
+    let right = c.meet-right.ensures in
     record {
-      left = state_met start step xs j i left.result (omega arith) left_pair c.step-left_state.ensures.value;
-      right = state_met start step ys k i right.result (omega arith) right_pair c.step-right_state.ensures.value;
+      left = state_met _ _ _ j i before.left left.state left.block c.step-left_state.ensures.value (omega arith);
+      right = state_met _ _ _ k i before.right right.state right.block c.step-right_state.ensures.value (omega arith);
       left_valid = c.step-left_state.ensures.valid_new;
       right_valid = c.step-right_state.ensures.valid_new;
       found = elim c.if-not-same_pair.branch [
         | then-not-same_pair w ↦
-            let differ : pair_of left.result ≢ pair_of right.result =
-            λ same. false≢true (sym w.if-not-same_pair.true ∙ c.same_pair.ensures.1 same) in
-            let collision : Collision g.row.F-State.Denot = record { left = left.result; right = right.result } in
-            rw w.last_difference-is (found_now start step xs ys j k i collision
-            left.ensures.place right.ensures.place left_pair right_pair differ)
+            rw w.last_difference-is (found_now _ _ _ _ _ _ _ _ left.place right.place (cc) (cc)
+            (λ same. false≢true (sym w.if-not-same_pair.true ∙ c.same_pair.ensures.1 same)))
         | else-not-same_pair w ↦
-            let same : pair_of left.result ≡ pair_of right.result = c.same_pair.ensures.0 w.if-not-same_pair.false in
-            let pairs = sym left_pair ∙ same ∙ right_pair in
-            rw w.last_difference-is (found_before start step xs ys j k i c.loop-i.last_difference before.found pairs)
+            let same = c.same_pair.ensures.0 w.if-not-same_pair.false in
+            rw w.last_difference-is (found_before _ _ _ _ _ _ _ before.found (cc))
       ];
     }
 
 pub returns-then-eq : goal.returns-then-eq
 unfolding hash
 returns-then-eq g c =
-    let start = g.F.BlockFunction.start_of in
-    let step = g.F.BlockFunction.step_of in
-    let a = c.args.a.now in
-    let b = c.args.b.now in
-    let xs = blocks (padded_message a) in
-    let ys = blocks (padded_message b) in
+    let xs = blocks (padded_message c.args.a.now) in
+    let ys = blocks (padded_message c.args.b.now) in
     let j = c.saturating_sub-left_ahead.result in
     let k = c.saturating_sub-right_ahead.result in
     let i = c.loop-i.i in
-    let ends : IsCommonEnd xs ys j k i = record { left = omega arith; right = omega arith; count = omega arith } in
-    let left_end = rw (take_all (j + i) xs (omega arith)) at c.loop-i.invariant.left in
-    let right_end = rw (take_all (k + i) ys (omega arith)) at c.loop-i.invariant.right in
-    let equal = sym c.eq.ensures ∙ c.if-eq.true in
-    let state_injective = g.met.F.BlockFunction.same_state c.loop-i.left_state c.loop-i.right_state equal in
-    let same_end : walk step start xs ≡ walk step start ys = sym left_end ∙ state_injective ∙ right_end in
+    let left : j ≡ length xs - length ys = omega arith in
+    let right : k ≡ length ys - length xs = omega arith in
+    let count : j + i ≡ length xs = omega arith in
+    let left_end = state_at_end _ _ xs (j + i) c.loop-i.invariant.left (omega arith) in
+    let right_end = state_at_end _ _ ys (k + i) c.loop-i.invariant.right (omega arith) in
+    let same_end = sym left_end ∙ g.met.F.BlockFunction.same_state _ _ (sym c.eq.ensures ∙ c.if-eq.true) ∙ right_end in
     let found = c.loop-i.invariant.found in
     record {
-      none = none_found start step a b j k i ends _ _ (ap g.F.BlockFunction.output_of same_end)
-          c.requires.a_short c.requires.b_short c.loop-i.last_difference found;
-      some = some_found start step a b j k i ends same_end c.loop-i.last_difference found;
-      only = only_found start step a b j k i ends c.loop-i.last_difference found;
+      none = none_found _ _ _ _ _ _ _ left right count _ _ (ap g.F.BlockFunction.output_of same_end)
+          c.requires.a_short c.requires.b_short _ found;
+      some = some_found _ _ _ _ _ _ _ left right count same_end _ found;
+      only = only_found _ _ _ _ _ _ _ left right count _ found;
     }
 
 pub returns-else-eq : goal.returns-else-eq
 unfolding hash
 returns-else-eq g c =
-    let start = g.F.BlockFunction.start_of in
-    let step = g.F.BlockFunction.step_of in
     let xs = blocks (padded_message c.args.a.now) in
     let ys = blocks (padded_message c.args.b.now) in
     let j = c.saturating_sub-left_ahead.result in
     let k = c.saturating_sub-right_ahead.result in
-    let left = c.loop-i.left_state in
-    let right = c.loop-i.right_state in
-    let left_end = rw (take_all (j + c.loop-i.i) xs (omega arith)) at c.loop-i.invariant.left in
-    let right_end = rw (take_all (k + c.loop-i.i) ys (omega arith)) at c.loop-i.invariant.right in
-    let different : left ≢ right = λ same.
-    let equal : g.F.State.PartialEq.eq left right ≡ true =
-    rw same (g.met.F.State.Eq.laws.refl right) in
-    false≢true (sym c.if-eq.false ∙ c.eq.ensures ∙ equal) in
+    let i = c.loop-i.i in
+    let left_end = state_at_end _ _ xs (j + i) c.loop-i.invariant.left (omega arith) in
+    let right_end = state_at_end _ _ ys (k + i) c.loop-i.invariant.right (omega arith) in
+    let different : c.loop-i.left_state ≢ c.loop-i.right_state = λ same.
+    false≢true (sym c.if-eq.false ∙ c.eq.ensures ∙ rw same (g.met.F.State.Eq.laws.refl _)) in
     record {
       none = (
         λ none. inr (λ same. different
-            (g.met.F.BlockFunction.output_injective left right c.loop-i.invariant.left_valid c.loop-i.invariant.right_valid
+            (g.met.F.BlockFunction.output_injective _ _ c.loop-i.invariant.left_valid c.loop-i.invariant.right_valid
             (rw (left_end, right_end) same))),
         λ h. refl,
       );
       some = tt;
-      only = λ other h.
-          let same_end = one_end start step xs ys other.left.place other.right.place h.collide in
-          absurd (different (left_end ∙ same_end ∙ sym right_end));
+      only = λ other h. absurd (different (left_end ∙ one_end _ _ xs ys _ _ h.collide ∙ sym right_end));
     }

@@ -1,15 +1,9 @@
-use Rattle.std.proofs.Common.{◌≡◌, ℕ, ◌+◌, List, [], refl, ap, subst, arith}
+use Rattle.std.proofs.Common.{◌≡◌, ℕ, List, refl, ap, arith}
 use Rattle.std.specs.Prelude.{slice_index}
-use Rattle.ripemd.specs.Standard.Hashing.{padded_message, blocks, with_padding, hash}
-use Rattle.ripemd.specs.Collisions.{Pair, pair_at}
-use Rattle.ripemd.specs.Worked.{block_of}
+use Rattle.ripemd.specs.Standard.Hashing.{blocks, with_padding, hash}
+use Rattle.ripemd.specs.Collisions.{Pair}
 use Rattle.ripemd_mac.specs.Hmac.{key_block, inner_message, outer_message}
-use Rattle.ripemd_mac.specs.Worked.{even_sum, small_hash}
 use Rattle.ripemd_mac.proofs.facts.mac_collisions.Goals as goal
-
--- the pair at a place of the walk through the inner message of such a text
-abbrev walked : ℕ → ℕ → Pair ℕ
-walked a place = pair_at 0 even_sum (blocks (padded_message (inner_message small_hash [] (block_of a)))) place
 
 pub returns : goal.returns
 unfolding with_padding blocks hash key_block inner_message outer_message
@@ -29,8 +23,7 @@ returns c = record {
         different = λ same. omega (arith, ap (λ (pair : Pair ℕ). slice_index pair.1 0) same);
         one_step = refl;
         later_agree = λ i some less.
-            let one : 1 ≡ i = omega (arith, some, less) in
-            subst (λ (i : ℕ). walked 1 (1 + i) ≡ walked 3 (1 + i)) one refl;
+            let one : i ≡ 1 = omega arith in rw one refl;
       };
     },
   );
@@ -45,7 +38,7 @@ returns c = record {
         same_rest = refl;
         different = λ same. omega (arith, ap (λ (pair : Pair ℕ). slice_index pair.1 0) same);
         one_step = refl;
-        later_agree = λ i some less. absurd (omega (arith, some, less));
+        later_agree = λ i some less. absurd (omega arith);
       };
     },
   );
