@@ -72,17 +72,17 @@ start-padded_message m =
     rw (take-append-le (length m) (m ++ mark) end fits) (take_at m mark (length m) refl)
 
 -- it ends in the length in bits
-pub end-padded_message : (m : List ℕ)
+pub end_padded_message : (m : List ℕ)
     → drop (length (padded_message m) - 8) (padded_message m) ≡ eight_bytes (8 * length m % 2 ^ 64)
 unfolding with_padding
-end-padded_message m =
+end_padded_message m =
     let front : List ℕ = m ++ 0x80 ∷ replicate (zero_count (length m)) 0 in
     let end : List ℕ = eight_bytes (8 * length m % 2 ^ 64) in
     let place : length front ≡ length (front ++ end) - 8 = omega (arith, length-append front end) in
     drop_at front end (length (front ++ end) - 8) place
 
-pub whole-padded_message : (m : List ℕ) → length (padded_message m) ≡ 64 * length (blocks (padded_message m))
-whole-padded_message m = omega (arith, length-padded_message m, length-padded_blocks m)
+pub whole_padded_message : (m : List ℕ) → length (padded_message m) ≡ 64 * length (blocks (padded_message m))
+whole_padded_message m = omega (arith, length-padded_message m, length-padded_blocks m)
 
 get_or-first_chunks : (k i : ℕ) (xs : List ℕ) → i < k → get_or (first_chunks 64 k xs) i [] ≡ take 64 (drop (64 * i) xs)
 get_or-first_chunks zero i xs h = absurd (omega arith)
@@ -126,7 +126,7 @@ pub one_message : (a b : List ℕ) → padded_message a ≡ padded_message b →
 one_message a b same =
     let size : length (padded_message a) ≡ length (padded_message b) = ap length same in
     let ends : eight_bytes (8 * length a % 2 ^ 64) ≡ eight_bytes (8 * length b % 2 ^ 64) =
-    sym (end-padded_message a) ∙ rw same (end-padded_message b) in
+    sym (end_padded_message a) ∙ rw same (end_padded_message b) in
     let numbers = one_number (8 * length a % 2 ^ 64) (8 * length b % 2 ^ 64) (omega arith) (omega arith) ends in
     let count : length a ≡ length b = omega (arith, length-padded_message a, length-padded_message b) in
     sym (start-padded_message a) ∙ rw (same, count) (start-padded_message b)
@@ -136,8 +136,8 @@ pub one_message_of_blocks : (a b : List ℕ) → blocks (padded_message a) ≡ b
 unfolding blocks
 one_message_of_blocks a b same =
     let n = length (blocks (padded_message a)) in
-    let size : length (padded_message a) ≡ 64 * n = whole-padded_message a in
-    let size_b : length (padded_message b) ≡ 64 * n = rw same (whole-padded_message b) in
+    let size : length (padded_message a) ≡ 64 * n = whole_padded_message a in
+    let size_b : length (padded_message b) ≡ 64 * n = rw same (whole_padded_message b) in
     let count_a : length (padded_message a) / 64 ≡ n = omega arith in
     let count_b : length (padded_message b) / 64 ≡ n = omega arith in
     let chunks = rw (count_a, count_b) at same in
@@ -156,7 +156,7 @@ one_length a b ha hb same =
     end_of : (m : List ℕ) → drop 56 (get_or (blocks (padded_message m)) (length (blocks (padded_message m)) - 1) [])
         ≡ eight_bytes (8 * length m % 2 ^ 64)
     end_of m =
-        let size = whole-padded_message m in
+        let size = whole_padded_message m in
         let some : 0 < length (blocks (padded_message m)) = omega (arith, length-padded_message m) in
         end_of_last_block (padded_message m) (length (blocks (padded_message m)) - 1) (omega arith)
-        ∙ end-padded_message m
+        ∙ end_padded_message m

@@ -1,13 +1,14 @@
 -- A line, step by step and round by round, of any variant.
-use Rattle.std.proofs.Common.{◌≡◌, ℕ, zero, suc, ◌<◌, ◌+◌, ◌^◌, add-one, ap, ◌∙◌, refl, arith}
-use Rattle.std.proofs.Common.{List, [], ◌∷◌, get_or, slice_get}
+use Rattle.std.proofs.Common.{◌≡◌, ℕ, zero, suc, ◌<◌, ◌+◌, ◌-◌, ◌^◌, add-one, ap, ◌∙◌, refl, arith}
+use Rattle.std.proofs.Common.{List, [], ◌∷◌, length, get_or, slice_get}
 use Rattle.std.specs.List.{All}
+use Rattle.std.proofs.lemmas.List.{take_all}
 use Rattle.ripemd_block.specs.Standard.Words.{◌⊞◌, message_word}
 use Rattle.ripemd_block.specs.Standard.Schedule.{Line, left_line, right_line, rotation}
 use Rattle.ripemd_block.specs.Standard.Compression.{Parameters, Lines, step, registers_after, round}
 use Rattle.ripemd_block.specs.Standard.Compression.{word_sums, exchange, lines_after, lines_from, compress}
-use Rattle.ripemd_block.specs.Code.Lines.{message_words, words_with, words_of_rounds}
-use Rattle.ripemd_block.proofs.Tables.{value_at}
+use Rattle.ripemd_block.specs.Code.Lines.{both_lines, message_words, words_with, words_of_rounds}
+use Rattle.ripemd_block.proofs.Tables.{value_at, entry_at}
 
 -- the message word that a step takes
 pub word_of_step : {words : List ℕ} (block : List ℕ) (i n d : ℕ) → words ≡ message_words block → i < 16 → i ≡ n
@@ -21,9 +22,7 @@ pub word_with_constant : {rows : List (List ℕ)} (line : Line) (rounds : ℕ) (
     → get_or (get_or rows r []) j d ≡ message_word block j ⊞ line.constant r
 unfolding words_of_rounds words_with message_words
 word_with_constant line rounds block r j d all round word =
-    rw all
-    (ap (λ (row : List ℕ). get_or row j d) (value_at (λ r. words_with (line.constant r) block) rounds r [] round)
-    ∙ value_at (λ j. message_word block j ⊞ line.constant r) 16 j d word)
+    rw all (entry_at (λ r j. message_word block j ⊞ line.constant r) rounds 16 r j d round word)
 
 same_sum : (u x k : ℕ) → u ⊞ (x ⊞ k) ⊞ 0 ≡ u ⊞ x ⊞ k
 same_sum u x k = omega arith
@@ -75,6 +74,13 @@ pub no_rounds : {lines : Lines} (v : Parameters) (state block : List ℕ) → li
     → AfterRounds v (lines_from v state) block 0 lines
 unfolding lines_after
 no_rounds v state block start = record { same = start }
+
+-- where both lines start from the whole state
+pub lines_of_whole : (v : Parameters) (state : List ℕ) → length state ≡ v.registers
+    → both_lines state state ≡ lines_from v state
+lines_of_whole v state size =
+    let none : length state - v.registers ≡ 0 = omega arith in
+    rw (take_all v.registers state (omega arith), none) refl
 
 -- one more round of both lines on the block whose words the code has, and the exchange after it
 pub next_round : {v : Parameters} {start : Lines} {block left right : List ℕ} {n : ℕ} {before after : Lines}

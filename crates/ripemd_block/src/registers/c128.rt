@@ -5,16 +5,19 @@ ghost use Rattle.ripemd_block.specs.Standard.Compression.{compress, ripemd128};
 ghost use Rattle.ripemd_block.specs.States.{AreWords};
 
 use super::lines::{Lines, round, words_of_four_rounds};
-use crate::chaining::{joint_state_of_four, lines_of_128};
+use crate::chaining::joint_state_of_four;
 
 /// The state after a block.
+#[tactic(auto, using(crate::proofs::Stepping::word_sums_fit))]
 pub(crate) fn compress(state: [u32; 4], block: &[u8; 64]) -> [u32; 4]
     ensures value { result ≡ compress ripemd128 state block.now }
     ensures words { AreWords 4 result }
 {
     let words = words_of_four_rounds(block);
-    let (left, right) = lines_of_128(state);
-    let lines = Lines { left, right };
+    let lines = Lines {
+        left: state,
+        right: state,
+    };
     let lines = round(0, &words, lines);
     let lines = round(1, &words, lines);
     let lines = round(2, &words, lines);

@@ -8,6 +8,7 @@ use super::lines::{Lines, exchange, round, words_of_four_rounds};
 use crate::chaining::{double_state_of_four, lines_of_256};
 
 /// The state after a block. The registers that are exchanged are A, B, C and D in turn.
+#[tactic(auto, using(crate::proofs::Stepping::word_sums_fit))]
 pub(crate) fn compress(state: [u32; 8], block: &[u8; 64]) -> [u32; 8]
     ensures value { result ≡ compress ripemd256 state block.now }
     ensures words { AreWords 8 result }

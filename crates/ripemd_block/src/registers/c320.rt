@@ -8,6 +8,7 @@ use super::lines::{Lines, exchange, round, words_of_five_rounds};
 use crate::chaining::{double_state_of_five, lines_of_320};
 
 /// The state after a block. The registers that are exchanged are B, D, A, C and E in turn.
+#[tactic(auto, using(crate::proofs::Stepping::word_sums_fit))]
 pub(crate) fn compress(state: [u32; 10], block: &[u8; 64]) -> [u32; 10]
     ensures value { result ≡ compress ripemd320 state block.now }
     ensures words { AreWords 10 result }
