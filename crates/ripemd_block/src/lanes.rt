@@ -120,6 +120,7 @@ impl Registers for [u32x2; 4] {
         [d, t, b, c]
     }
 
+    #[tactic(auto, using(crate::proofs::TwoLanes::lane_is))]
     #[inline(always)]
     fn exchange(self, i: usize) -> [u32x2; 4] {
         let [a, b, c, d] = self;
@@ -151,6 +152,7 @@ impl Registers for [u32x2; 5] {
         [e, sum(t, e), b, rotate(c, u32x2::splat(10)), d]
     }
 
+    #[tactic(auto, using(crate::proofs::TwoLanes::lane_is))]
     #[inline(always)]
     fn exchange(self, i: usize) -> [u32x2; 5] {
         let [a, b, c, d, e] = self;
