@@ -3,7 +3,7 @@ use Rattle.std.proofs.lemmas.List.{nil_from_length}
 use Rattle.ripemd_block.specs.Standard.Words.{eight_bytes}
 use Rattle.ripemd_block.specs.Standard.Hashing.{walk}
 use Rattle.ripemd_block.specs.States.{HashState, IsHashState, output_and_count}
-use Rattle.ripemd_block.specs.Laws.Saved.{eight_bytes_injective, output_back, output_front}
+use Rattle.ripemd_block.specs.Laws.Saved.{eight_bytes_injective, output_parts}
 use Rattle.ripemd_block.proofs.block_core.update_saved.Goals as goal
 use Rattle.ripemd_block.proofs.block_core.update_saved.Goals.{then-not-is_empty, else-not-is_empty}
 
@@ -18,7 +18,7 @@ returns g c =
     let walked : (core : HashState) → IsHashState f.are_words core → output_and_count f.output core ≡ saved
     → (f.output (walk f.step core.words blocks) ≡ c.if-not-is_empty.output) × f.are_words (walk f.step core.words blocks) =
     λ core valid same. let of_words : f.output core.words ≡ parts.result.0.now =
-    output_front told core saved valid same ∙ rw (← c.LEN.ensures) (sym parts.ensures.front) in
+    (output_parts told core saved valid same).0 ∙ rw (← c.LEN.ensures) (sym parts.ensures.front) in
     elim c.if-not-is_empty.branch [
       | then-not-is_empty w ↦
           let after = w.walk_output.ensures in
@@ -29,7 +29,7 @@ returns g c =
     ] in
     record {
       saved = λ core valid same. let of_count : eight_bytes c.read_count.result ≡ eight_bytes core.count =
-          c.read_count.ensures ∙ parts.ensures.back ∙ rw c.LEN.ensures (sym (output_back told core saved valid same)) in
+          c.read_count.ensures ∙ parts.ensures.back ∙ rw c.LEN.ensures (sym (output_parts told core saved valid same).1) in
           let count = eight_bytes_injective c.read_count.result core.count (omega arith) valid.count of_count in
           rw (c.copy_from_slice.ensures.after, c.to_le_bytes.ensures, count)
           (ap (λ (o : List ℕ). o ++ eight_bytes ((core.count + length blocks) % 2 ^ 64)) (walked core valid same).0);

@@ -2,7 +2,7 @@ use Rattle.std.proofs.Common.{◌≡◌, ◌++◌, ap, sym, ◌∙◌, arith, le
 use Rattle.std.proofs.lemmas.List.{take-append-drop}
 use Rattle.ripemd_block.specs.Standard.Words.{eight_bytes}
 use Rattle.ripemd_block.specs.States.{output_and_count}
-use Rattle.ripemd_block.specs.Laws.Saved.{length-output_and_count, output_front}
+use Rattle.ripemd_block.specs.Laws.Saved.{length-output_and_count, output_parts}
 use Rattle.ripemd_block.proofs.block_core.BlockCoreSerializableState.load_slice.Goals as goal
 
 -- another number of bytes
@@ -17,7 +17,7 @@ pub returns-in-None-clause-err : goal.returns-in-None-clause-err
 returns-in-None-clause-err g c h valid same =
     let read : g.F.Digest.ByteArray.bytes c.unwrap-output.result ≡ c.split_at.result.0.now =
     rw c.unwrap-output.ensures at c.from_slice.ensures.same in
-    let front = output_front g.met.F.ResumableFunction.injective_output h c.args.bytes.now valid.state same in
+    let front = (output_parts g.met.F.ResumableFunction.injective_output h c.args.bytes.now valid.state same).0 in
     c.in-None.ensures.none h.words valid.state.words
     (front ∙ rw (← c.LEN-2.ensures) (sym c.split_at.ensures.front) ∙ sym read)
 
