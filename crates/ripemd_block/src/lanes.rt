@@ -250,6 +250,7 @@ fn round<R: Registers>(r: usize, words: &[u32; 16], start: R) -> R
 /// Both lines through their rounds on a block, with an exchange of one register after each round where
 /// `exchanges` has one for it.
 #[inline(always)]
+#[tactic(auto, unfolding(crate::specs::Standard::Compression::lines_after))]
 pub(crate) fn lines_after<R: Registers>(exchanges: &[usize], block: &[u8; 64], start: R) -> R
     requires exchanges { All (λ i. i < R.ROUNDS) exchanges.now }
     requires most { R.ROUNDS ≤ 5 }
