@@ -1,6 +1,7 @@
-use Rattle.std.proofs.Common.{◌≡◌, ◌+◌, ◌<◌, length, drop, arith, refl, sym, ◌∙◌}
+use Rattle.std.proofs.Common.{◌≡◌, ◌+◌, ◌<◌, ◌++◌, length, length-append, drop, arith, refl, sym, ◌∙◌}
 use Rattle.std.proofs.lemmas.List.{length-take-le}
-use Rattle.ripemd_block.proofs.Absorbing.{take_put, blocks_unfilled, left_over_unfilled}
+use Rattle.ripemd_block.specs.Laws.Blocks.{blocks_of_short, left_over_of_short}
+use Rattle.ripemd_block.proofs.Absorbing.{take_put}
 use Rattle.ripemd_block.proofs.buffer.Buffer.absorb.Goals as goal
 use Rattle.ripemd_block.proofs.buffer.Buffer.absorb.Goals.{then-bytes-len, else-bytes-len}
 
@@ -13,7 +14,7 @@ returns-clause-core g c =
     let size : length tail ≡ own.len = rw (← c.self.view_is) (length-take-le own.len own.bytes (omega arith)) in
     elim c.if-bytes-len.branch [
       | then-bytes-len w ↦
-          rw (w.core-is, w.update_blocks.ensures.after, blocks_unfilled tail bytes (omega (arith, w.if-bytes-len.true))) refl
+          rw (w.core-is, w.update_blocks.ensures.after, blocks_of_short (tail ++ bytes) (omega (arith, length-append tail bytes, w.if-bytes-len.true))) refl
       | else-bytes-len w ↦ rw (w.core-is, w.take_blocks-rest.ensures.core, c.self.view_is) refl
     ]
 
@@ -26,7 +27,7 @@ returns-clause-buffer g c =
     let size : length tail ≡ own.len = rw (← c.self.view_is) (length-take-le own.len own.bytes (omega arith)) in
     rw c.put_behind.ensures elim c.if-bytes-len.branch [
       | then-bytes-len w ↦
-          let whole = left_over_unfilled tail bytes (omega (arith, w.if-bytes-len.true)) in
+          let whole = left_over_of_short (tail ++ bytes) (omega (arith, length-append tail bytes, w.if-bytes-len.true)) in
           rw (w.len-is, w.rest-is)
           (take_put own.len own.bytes bytes (drop (own.len + length bytes) own.bytes) (omega arith) ∙ rw c.self.view_is (sym whole))
       | else-bytes-len w ↦
