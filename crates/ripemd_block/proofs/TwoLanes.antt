@@ -1,6 +1,6 @@
 -- Vectors of two lanes.
 use Rattle.std.proofs.Common.{◌≡◌, ℕ, zero, suc, ◌<◌, ap, ◌∙◌, arith}
-use Rattle.std.proofs.Common.{List, [], length, get_or, map, refl}
+use Rattle.std.proofs.Common.{List, [], length, get_or, map}
 use Rattle.std.specs.List.{range_with_len}
 use Rattle.std.proofs.lemmas.List.{length-map, get_or-map}
 use Rattle.std.proofs.lemmas.List.FromFn.{fill_by_all}

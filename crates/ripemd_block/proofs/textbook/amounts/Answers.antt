@@ -1,5 +1,5 @@
 -- The table lists the amounts of both lines, which compute.
-use Rattle.std.proofs.Common.{◌≡◌, ◌<◌, ℕ, [], ◌∷◌, List, get_or, map}
+use Rattle.std.proofs.Common.{ℕ, [], ◌∷◌, List, map}
 use Rattle.std.specs.List.{range_with_len}
 use Rattle.ripemd_block.specs.Standard.Schedule.{Line, left_line, right_line, rotation}
 use Rattle.ripemd_block.proofs.Tables.{value_at}
