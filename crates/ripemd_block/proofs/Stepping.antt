@@ -1,6 +1,6 @@
 -- A line, step by step and round by round, of any variant.
 use Rattle.std.proofs.Common.{◌≡◌, ℕ, zero, suc, ◌<◌, ◌+◌, ◌-◌, ◌^◌, add-one, ap, ◌∙◌, refl, arith}
-use Rattle.std.proofs.Common.{List, [], ◌∷◌, length, get_or, slice_get}
+use Rattle.std.proofs.Common.{List, [], ◌∷◌, Option, length, get_or, slice_get}
 use Rattle.std.specs.List.{All}
 use Rattle.std.proofs.lemmas.List.{take_all}
 use Rattle.ripemd_block.specs.Standard.Words.{◌⊞◌, message_word}
@@ -82,6 +82,11 @@ lines_of_whole v state size =
     let none : length state - v.registers ≡ 0 = omega arith in
     rw (take_all v.registers state (omega arith), none) refl
 
+same_exchange : {a b : Lines} {left right : List ℕ} (f g : List ℕ → List ℕ) (e : Option ℕ)
+    → left ≡ f a.left → right ≡ g a.right → a ≡ b
+    → exchange e (both_lines left right) ≡ exchange e (both_lines (f b.left) (g b.right))
+same_exchange f g e of_left of_right same = cc
+
 -- one more round of both lines on the block whose words the code has, and the exchange after it
 pub next_round : {v : Parameters} {start : Lines} {block left right : List ℕ} {n : ℕ} {before after : Lines}
     {HasWords : List ℕ → Type 0} → AfterRounds v start block n before
@@ -90,17 +95,11 @@ pub next_round : {v : Parameters} {start : Lines} {block left right : List ℕ} 
     → after ≡ exchange (slice_get v.exchanges n) (record { left = left; right = right })
     → HasWords block → AfterRounds v start block (suc n) after
 unfolding lines_after
-next_round {v = v} {block = block} {right = right} {n = n} {before = before} so_far of_left of_right made words =
-    let exchanged : List ℕ → List ℕ → Lines =
-    λ l r. exchange (slice_get v.exchanges n) (record { left = l; right = r }) in
-    let next : Lines → Lines =
-    λ l. exchanged (round left_line block n l.left) (round (right_line v.rounds) block n l.right) in
-    record {
-      same = made
-          ∙ ap (λ (l : List ℕ). exchanged l right) (of_left block words)
-          ∙ ap (λ (r : List ℕ). exchanged (round left_line block n before.left) r) (of_right block words)
-          ∙ ap next so_far.same;
-    }
+next_round {v = v} {block = block} {n = n} so_far of_left of_right made words =
+    let left = round left_line block n in
+    let right = round (right_line v.rounds) block n in
+    let same = same_exchange left right (slice_get v.exchanges n) (of_left block words) (of_right block words) so_far.same in
+    record { same = made ∙ same }
 
 -- the state after a block, from the lines after all rounds
 pub compress_from : {v : Parameters} {state block : List ℕ} {end : Lines}

@@ -24,15 +24,9 @@ pub compress_in_lanes : {state left right last_left last_right : List ℕ}
     ≡ lines_after v block v.rounds (both_lines (lane start 0) (lane start 1))
     → last_left ≡ lane end 0 → last_right ≡ lane end 1
     → v.combination state last_left last_right ≡ compress v state block
-compress_in_lanes {state = state} {left = left} {last_right = last_right} v block start end from
-    left_start right_start after left_end right_end =
-    ap (λ l. v.combination state l last_right) left_end
-    ∙ ap (v.combination state (lane end 0)) right_end
-    ∙ compress_from (record {
-      same = after
-          ∙ ap (lines_after v block v.rounds)
-          (ap (λ l. both_lines l (lane start 1)) left_start ∙ ap (both_lines left) right_start ∙ from);
-    })
+compress_in_lanes v block start end from left_start right_start after left_end right_end =
+    let same = after ∙ ap (lines_after v block v.rounds) (rw (left_start, right_start) from) in
+    rw (left_end, right_end) (compress_from (record { same = same }))
 
 -- the words of registers in a lane, one by one
 pub lane_is : (registers : List (List ℕ)) (j : ℕ)
