@@ -190,6 +190,7 @@ fn walk_tail<F: ListBlockFunction>(state: &mut F::State, tail: &[u8], bit_len: u
 }
 
 /// The digest of a whole message.
+#[tactic(auto, unfolding(crate::specs::Standard::Hashing::hash))]
 pub fn digest_message<F: ListBlockFunction>(message: &[u8]) -> F::Digest
     ensures digest { F.Digest.bytes result
         ≡ hash (F.list F.start_of) F.step F.output message.now }
@@ -243,6 +244,7 @@ impl<F: ResumableFunction> SerializableState for BlockCore<F> {
 
     ghost state_bytes = { output_and_count F.output };
 
+    #[tactic(auto, unfolding(crate::specs::States::output_and_count))]
     fn serialize(&self) -> F::SavedCore {
         let output = F::output(self.state);
         let count = self.block_count.to_le_bytes();
