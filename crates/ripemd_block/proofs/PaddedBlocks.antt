@@ -24,6 +24,8 @@ pub length-padded_blocks : (m : List ℕ)
     → length (blocks (padded_message m)) ≡ (length m + 9 + zero_count (length m)) / 64
 length-padded_blocks m = length-blocks (padded_message m) ∙ ap (λ n. n / 64) (length-padded_message m)
 
+pub ruleset counts = (length-padded_blocks, length-blocks)
+
 -- ---- the block at a place
 
 -- a whole block of the message

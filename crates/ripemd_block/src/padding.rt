@@ -32,6 +32,7 @@ pub fn whole_blocks(message: &[u8]) -> (&[[u8; 64]], &[u8])
 
 /// How many blocks a message has with its padding (RFC 1320, section 3.1): its whole blocks
 /// and one more, or two more if its tail has 56 bytes or more.
+#[tactic(auto, using(crate::proofs::PaddedBlocks::counts))]
 pub fn block_count(message: &[u8]) -> usize
     ensures { result ≡ length (blocks (padded_message message.now)) }
 {
@@ -41,6 +42,7 @@ pub fn block_count(message: &[u8]) -> usize
 
 /// The block at a place, counted from 0, of a message with its padding (RFC 1320, section
 /// 3.1); `None` exactly if there is no block at that place, so from `block_count(message)` on.
+#[tactic(auto, using(crate::proofs::PaddedBlocks::whole_block))]
 pub fn pad_block(message: &[u8], place: usize) -> Option<[u8; 64]>
     ensures { result ≡ slice_get (blocks (padded_message message.now)) place }
 {
