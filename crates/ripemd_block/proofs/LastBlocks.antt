@@ -1,27 +1,20 @@
 -- The one or two blocks that end a padded message.
 use Rattle.std.proofs.Common.{◌≡◌, ℕ, zero, suc, ◌+◌, ◌-◌, ◌*◌, ◌<◌, ◌≤◌, refl, sym, ap, ◌∙◌, arith}
 use Rattle.std.proofs.Common.{List, [], ◌∷◌, ◌++◌, length, take, drop, set, replicate, slice_set}
-use Rattle.std.proofs.lemmas.List.{length-append, length-replicate, append_assoc, append-nil}
-use Rattle.std.proofs.lemmas.List.{take_at, drop_all, set_at, drop-drop, drop-replicate, take-replicate, replicate-append-replicate}
-use borrow.Rule.Slice.PartMut.{put_mid}
+use Rattle.std.proofs.lemmas.List.{length-append, length-replicate, append_assoc}
+use Rattle.std.proofs.lemmas.List.{take_at, set_at, drop-replicate, take-replicate, replicate-append-replicate}
 use Rattle.std.specs.Int.{w32, to_le_bytes}
 use Rattle.std.proofs.lemmas.Grind.{flat_map-append}
 use Rattle.ripemd_block.specs.Standard.Words.{eight_bytes, word_bytes}
 use Rattle.ripemd_block.specs.Laws.Blocks.{blocks_of_one, blocks_of_two}
 use Rattle.ripemd_block.specs.Standard.Hashing.{with_padding, blocks, zero_count}
 
--- a list with its last part written over
-pub put_mid_end : (a k : ℕ) (xs ys : List ℕ) → length xs ≤ a + k → put_mid a k xs ys ≡ take a xs ++ ys
-put_mid_end a k xs ys h = rw (drop-drop k a xs, drop_all (a + k) xs h, append-nil ys) refl
-
 -- a tail at the front of zero bytes, with one byte written after it
-pub marked_block : (tail ys : List ℕ) (byte : ℕ) → length tail < 64 → ys ≡ tail
-    → set (ys ++ drop (length tail) (replicate 64 0)) (length tail) byte
-    ≡ tail ++ byte ∷ replicate (63 - length tail) 0
-marked_block tail ys byte short same =
-    let zeros : List ℕ = replicate (63 - length tail) 0 in
+pub marked_block : (tail : List ℕ) (byte : ℕ) → length tail < 64
+    → set (tail ++ drop (length tail) (replicate 64 0)) (length tail) byte ≡ tail ++ byte ∷ replicate (63 - length tail) 0
+marked_block tail byte short =
     let room : 64 - length tail ≡ suc (63 - length tail) = omega arith in
-    rw (same, drop-replicate {X = ℕ} (length tail) 64 0, room) (set_at tail 0 zeros byte (length tail) refl)
+    rw (drop-replicate {X = ℕ} (length tail) 64 0, room) (set_at tail 0 (replicate (63 - length tail) 0) byte (length tail) refl)
 
 -- ---- a tail with its padding
 
@@ -88,7 +81,5 @@ pub words_marked : (n k : ℕ) (behind : List ℕ) → n < 14 → k ≡ 14 - n �
     → slice_set behind 0 0x80 ≡ 0x80 ∷ replicate (13 - n) 0
 words_marked n k behind few count is =
     let left : k ≡ suc (13 - n) = omega (arith, count, few) in
-    let zeros : behind ≡ replicate (suc (13 - n)) 0 =
-    is ∙ ap (take k) (drop-replicate {X = ℕ} n 16 0) ∙ take-replicate {X = ℕ} k (16 - n) 0 (omega (arith, count))
-    ∙ ap (λ (i : ℕ). replicate {A = ℕ} i 0) left in
-    rw zeros refl
+    let zeros = take-replicate {X = ℕ} k (16 - n) 0 (omega (arith, count)) in
+    rw (is, drop-replicate {X = ℕ} n 16 0, zeros, left) refl

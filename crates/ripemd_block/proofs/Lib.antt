@@ -1,6 +1,5 @@
 pub mod Absorbing
 pub mod Factoring
-pub mod Finishing
 pub mod LastBlocks
 pub mod PaddedBlocks
 pub mod Reading

@@ -1,19 +1,15 @@
 -- Message words, read as vectors.
-use Rattle.std.proofs.Common.{◌≡◌, ℕ, ◌<◌, ◌≤◌, ◌+◌, ◌*◌, ◌-◌, List, [], ◌∷◌, length, take, drop, ap, ◌∙◌, sym, arith, w32}
+use Rattle.std.proofs.Common.{◌≡◌, ℕ, ◌<◌, ◌≤◌, ◌+◌, ◌*◌, ◌-◌, List, length, take, drop, ap, ◌∙◌, sym, arith, w32}
 use Rattle.std.specs.Int.{from_le_bytes}
 use Rattle.std.specs.Simd.Lanes.{number_l, chunk}
 use Rattle.std.proofs.lemmas.Simd.{length-chunk}
 use Rattle.std.proofs.lemmas.List.{drop-take, take-take, drop-drop}
 use Rattle.ripemd_block.specs.Standard.Words.{message_word}
+use Rattle.ripemd_block.proofs.Tables.{elements}
 
 -- the number that four bytes write, least first, as vectors and as words have it
 four_bytes : (xs : List ℕ) → length xs ≡ 4 → number_l 256 xs ≡ from_le_bytes w32 xs
-four_bytes [] s = absurd (omega arith)
-four_bytes (a ∷ []) s = absurd (omega arith)
-four_bytes (a ∷ b ∷ []) s = absurd (omega arith)
-four_bytes (a ∷ b ∷ c ∷ []) s = absurd (omega arith)
-four_bytes (a ∷ b ∷ c ∷ d ∷ []) s = omega arith
-four_bytes (a ∷ b ∷ c ∷ d ∷ e ∷ xs) s = absurd (omega arith)
+four_bytes xs size = rw (elements 4 0 xs size) (omega arith)
 
 -- bytes 4 k to 4 k + 3 of those from 16 i on
 within : (block : List ℕ) (i k : ℕ) → k < 4

@@ -1,13 +1,14 @@
 -- A line, step by step and round by round, of any variant.
-use Rattle.std.proofs.Common.{◌≡◌, ℕ, zero, suc, ◌<◌, ◌+◌, ◌^◌, add-one, ap, ◌∙◌, refl, arith}
-use Rattle.std.proofs.Common.{List, [], ◌∷◌, get_or, slice_get}
+use Rattle.std.proofs.Common.{◌≡◌, ℕ, zero, suc, ◌<◌, ◌+◌, ◌-◌, ◌^◌, add-one, ap, ◌∙◌, refl, arith}
+use Rattle.std.proofs.Common.{List, [], ◌∷◌, Option, length, get_or, slice_get}
 use Rattle.std.specs.List.{All}
+use Rattle.std.proofs.lemmas.List.{take_all}
 use Rattle.ripemd_block.specs.Standard.Words.{◌⊞◌, message_word}
 use Rattle.ripemd_block.specs.Standard.Schedule.{Line, left_line, right_line, rotation}
 use Rattle.ripemd_block.specs.Standard.Compression.{Parameters, Lines, step, registers_after, round}
 use Rattle.ripemd_block.specs.Standard.Compression.{word_sums, exchange, lines_after, lines_from, compress}
-use Rattle.ripemd_block.specs.Code.Lines.{message_words, words_with, words_of_rounds}
-use Rattle.ripemd_block.proofs.Tables.{value_at}
+use Rattle.ripemd_block.specs.Code.Lines.{both_lines, message_words, words_with, words_of_rounds}
+use Rattle.ripemd_block.proofs.Tables.{value_at, entry_at}
 
 -- the message word that a step takes
 pub word_of_step : {words : List ℕ} (block : List ℕ) (i n d : ℕ) → words ≡ message_words block → i < 16 → i ≡ n
@@ -21,9 +22,7 @@ pub word_with_constant : {rows : List (List ℕ)} (line : Line) (rounds : ℕ) (
     → get_or (get_or rows r []) j d ≡ message_word block j ⊞ line.constant r
 unfolding words_of_rounds words_with message_words
 word_with_constant line rounds block r j d all round word =
-    rw all
-    (ap (λ (row : List ℕ). get_or row j d) (value_at (λ r. words_with (line.constant r) block) rounds r [] round)
-    ∙ value_at (λ j. message_word block j ⊞ line.constant r) 16 j d word)
+    rw all (entry_at (λ r j. message_word block j ⊞ line.constant r) rounds 16 r j d round word)
 
 same_sum : (u x k : ℕ) → u ⊞ (x ⊞ k) ⊞ 0 ≡ u ⊞ x ⊞ k
 same_sum u x k = omega arith
@@ -76,6 +75,18 @@ pub no_rounds : {lines : Lines} (v : Parameters) (state block : List ℕ) → li
 unfolding lines_after
 no_rounds v state block start = record { same = start }
 
+-- where both lines start from the whole state
+pub lines_of_whole : (v : Parameters) (state : List ℕ) → length state ≡ v.registers
+    → both_lines state state ≡ lines_from v state
+lines_of_whole v state size =
+    let none : length state - v.registers ≡ 0 = omega arith in
+    rw (take_all v.registers state (omega arith), none) refl
+
+same_exchange : {a b : Lines} {left right : List ℕ} (f g : List ℕ → List ℕ) (e : Option ℕ)
+    → left ≡ f a.left → right ≡ g a.right → a ≡ b
+    → exchange e (both_lines left right) ≡ exchange e (both_lines (f b.left) (g b.right))
+same_exchange f g e of_left of_right same = cc
+
 -- one more round of both lines on the block whose words the code has, and the exchange after it
 pub next_round : {v : Parameters} {start : Lines} {block left right : List ℕ} {n : ℕ} {before after : Lines}
     {HasWords : List ℕ → Type 0} → AfterRounds v start block n before
@@ -84,17 +95,11 @@ pub next_round : {v : Parameters} {start : Lines} {block left right : List ℕ} 
     → after ≡ exchange (slice_get v.exchanges n) (record { left = left; right = right })
     → HasWords block → AfterRounds v start block (suc n) after
 unfolding lines_after
-next_round {v = v} {block = block} {right = right} {n = n} {before = before} so_far of_left of_right made words =
-    let exchanged : List ℕ → List ℕ → Lines =
-    λ l r. exchange (slice_get v.exchanges n) (record { left = l; right = r }) in
-    let next : Lines → Lines =
-    λ l. exchanged (round left_line block n l.left) (round (right_line v.rounds) block n l.right) in
-    record {
-      same = made
-          ∙ ap (λ (l : List ℕ). exchanged l right) (of_left block words)
-          ∙ ap (λ (r : List ℕ). exchanged (round left_line block n before.left) r) (of_right block words)
-          ∙ ap next so_far.same;
-    }
+next_round {v = v} {block = block} {n = n} so_far of_left of_right made words =
+    let left = round left_line block n in
+    let right = round (right_line v.rounds) block n in
+    let same = same_exchange left right (slice_get v.exchanges n) (of_left block words) (of_right block words) so_far.same in
+    record { same = made ∙ same }
 
 -- the state after a block, from the lines after all rounds
 pub compress_from : {v : Parameters} {state block : List ℕ} {end : Lines}

@@ -1,6 +1,9 @@
 -- Vectors of two lanes.
 use Rattle.std.proofs.Common.{◌≡◌, ℕ, zero, suc, ◌<◌, ap, ◌∙◌, arith}
-use Rattle.std.proofs.Common.{List}
+use Rattle.std.proofs.Common.{List, [], length, get_or, map}
+use Rattle.std.specs.List.{range_with_len}
+use Rattle.std.proofs.lemmas.List.{length-map, get_or-map}
+use Rattle.std.proofs.lemmas.List.FromFn.{fill_by_all}
 use Rattle.ripemd_block.specs.Standard.Compression.{Parameters, lines_after, lines_from, compress}
 use Rattle.ripemd_block.specs.Code.Lines.{both_lines}
 use Rattle.ripemd_block.specs.Code.Lanes.{lane}
@@ -21,12 +24,13 @@ pub compress_in_lanes : {state left right last_left last_right : List ℕ}
     ≡ lines_after v block v.rounds (both_lines (lane start 0) (lane start 1))
     → last_left ≡ lane end 0 → last_right ≡ lane end 1
     → v.combination state last_left last_right ≡ compress v state block
-compress_in_lanes {state = state} {left = left} {last_right = last_right} v block start end from
-    left_start right_start after left_end right_end =
-    ap (λ l. v.combination state l last_right) left_end
-    ∙ ap (v.combination state (lane end 0)) right_end
-    ∙ compress_from (record {
-      same = after
-          ∙ ap (lines_after v block v.rounds)
-          (ap (λ l. both_lines l (lane start 1)) left_start ∙ ap (both_lines left) right_start ∙ from);
-    })
+compress_in_lanes v block start end from left_start right_start after left_end right_end =
+    let same = after ∙ ap (lines_after v block v.rounds) (rw (left_start, right_start) from) in
+    rw (left_end, right_end) (compress_from (record { same = same }))
+
+-- the words of registers in a lane, one by one
+pub lane_is : (registers : List (List ℕ)) (j : ℕ)
+    → lane registers j ≡ map (λ i. get_or (get_or registers i []) j 0) (range_with_len 0 (length registers))
+lane_is registers j =
+    fill_by_all (λ i. get_or (get_or registers i []) j 0) (lane registers j) (length registers) 0
+    (length-map registers (λ v. get_or v j 0)) (λ k within. get_or-map (λ v. get_or v j 0) registers k [] 0 within)

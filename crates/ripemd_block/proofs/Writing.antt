@@ -35,9 +35,5 @@ words_narrowed (w ∷ words) fit =
     let third : all / 256 / 256 % 256 ≡ w / 65536 % 256 = omega (arith, small) in
     let fourth : all / 256 / 256 / 256 % 256 ≡ w / 16777216 % 256 = omega (arith, small) in
     let last : all / 256 / 256 / 256 / 256 ≡ left = omega (arith, small) in
-    rw next
-    (ap (λ (b : ℕ). b ∷ all / 256 % 256 ∷ all / 256 / 256 % 256 ∷ all / 256 / 256 / 256 % 256 ∷ rest (all / 256 / 256 / 256 / 256)) first
-    ∙ ap (λ (b : ℕ). w % 256 ∷ b ∷ all / 256 / 256 % 256 ∷ all / 256 / 256 / 256 % 256 ∷ rest (all / 256 / 256 / 256 / 256)) second
-    ∙ ap (λ (b : ℕ). w % 256 ∷ w / 256 % 256 ∷ b ∷ all / 256 / 256 / 256 % 256 ∷ rest (all / 256 / 256 / 256 / 256)) third
-    ∙ ap (λ (b : ℕ). w % 256 ∷ w / 256 % 256 ∷ w / 65536 % 256 ∷ b ∷ rest (all / 256 / 256 / 256 / 256)) fourth
-    ∙ ap (λ (bs : List ℕ). w % 256 ∷ w / 256 % 256 ∷ w / 65536 % 256 ∷ w / 16777216 % 256 ∷ bs) (ap rest last ∙ words_narrowed words fit.1))
+    let more : rest (all / 256 / 256 / 256 / 256) ≡ word_bytes words = ap rest last ∙ words_narrowed words fit.1 in
+    rw next (cc)

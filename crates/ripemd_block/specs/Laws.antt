@@ -2,7 +2,6 @@
 -- specs/.
 pub mod Arrays
 pub mod WordBytes
-pub mod Starting
 pub mod Saved
 pub mod Walking
 pub mod Blocks

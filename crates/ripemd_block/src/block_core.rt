@@ -149,6 +149,7 @@ impl<F: ListBlockFunction> UpdateCore for BlockCore<F> {
 impl<F: ListBlockFunction> FixedOutputCore for BlockCore<F> {
     ghost digest_of = { λ core tail. finish F.step F.output (with_tail core tail) };
 
+    #[tactic(auto, using(crate::specs::OverLists::walk_over_lists), unfolding(crate::specs::States::finish))]
     fn finalize_fixed_core(&mut self, buffer: &mut Buffer, out: &mut F::Digest) {
         let tail = buffer.get_data();
         let bit_len = self
@@ -190,6 +191,7 @@ fn walk_tail<F: ListBlockFunction>(state: &mut F::State, tail: &[u8], bit_len: u
 }
 
 /// The digest of a whole message.
+#[tactic(auto, unfolding(crate::specs::Standard::Hashing::hash))]
 pub fn digest_message<F: ListBlockFunction>(message: &[u8]) -> F::Digest
     ensures digest { F.Digest.bytes result
         ≡ hash (F.list F.start_of) F.step F.output message.now }
@@ -243,6 +245,7 @@ impl<F: ResumableFunction> SerializableState for BlockCore<F> {
 
     ghost state_bytes = { output_and_count F.output };
 
+    #[tactic(auto, unfolding(crate::specs::States::output_and_count))]
     fn serialize(&self) -> F::SavedCore {
         let output = F::output(self.state);
         let count = self.block_count.to_le_bytes();
@@ -253,6 +256,7 @@ impl<F: ResumableFunction> SerializableState for BlockCore<F> {
         BlockCore::load_slice(saved.as_bytes())
     }
 
+    #[tactic(auto, using(crate::specs::Laws::Saved::output_parts), unfolding(crate::specs::States::output_and_count))]
     fn load_slice(bytes: &[u8]) -> Result<BlockCore<F>, DeserializeStateError> {
         if bytes.len() != <F::SavedCore as ByteArray>::LEN {
             return Err(DeserializeStateError);

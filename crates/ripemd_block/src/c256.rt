@@ -9,6 +9,7 @@ use crate::chaining::{double_state_of_four, lines_of_256};
 use crate::lanes::{lane_of_four, lanes_of_four, lines_after};
 
 /// Takes one block into the state. The registers that are exchanged are A, B, C and D in turn.
+#[tactic(auto, using(crate::proofs::Stepping::word_sums_fit))]
 pub(crate) fn compress(state: &mut [u32; 8], block: &[u8; 64])
     ensures state { state.new ≡ compress ripemd256 state.old block.now }
     ensures old_words { AreWords 8 state.old }

@@ -9,6 +9,7 @@ use crate::chaining::{double_state_of_five, lines_of_320};
 use crate::lanes::{lane_of_five, lanes_of_five, lines_after};
 
 /// Takes one block into the state. The registers that are exchanged are B, D, A, C and E in turn.
+#[tactic(auto, using(crate::proofs::Stepping::word_sums_fit))]
 pub(crate) fn compress(state: &mut [u32; 10], block: &[u8; 64])
     ensures state { state.new ≡ compress ripemd320 state.old block.now }
     ensures old_words { AreWords 10 state.old }

@@ -3,24 +3,10 @@
 
 ghost use Rattle.std.specs.Prelude.{◌≡◌};
 ghost use Rattle.ripemd_block.specs.Standard.Compression.{lines_from, joint_state, double_state};
-ghost use Rattle.ripemd_block.specs.Standard.Compression.{ripemd128, ripemd160, ripemd256, ripemd320};
+ghost use Rattle.ripemd_block.specs.Standard.Compression.{ripemd256, ripemd320};
 ghost use Rattle.ripemd_block.specs.Code.Lines.{both_lines};
 
 use std::simd::prelude::*;
-
-#[inline(always)]
-pub(crate) fn lines_of_128(state: [u32; 4]) -> ([u32; 4], [u32; 4])
-    ensures { both_lines result.0 result.1 ≡ lines_from ripemd128 state }
-{
-    (state, state)
-}
-
-#[inline(always)]
-pub(crate) fn lines_of_160(state: [u32; 5]) -> ([u32; 5], [u32; 5])
-    ensures { both_lines result.0 result.1 ≡ lines_from ripemd160 state }
-{
-    (state, state)
-}
 
 #[inline(always)]
 pub(crate) fn lines_of_256(state: [u32; 8]) -> ([u32; 4], [u32; 4])

@@ -38,6 +38,7 @@ pub fn published_tables()
 
 /// The definitions give the saved bytes of new cores of the four variants, of a RIPEMD-160 hasher
 /// that was fed "abc", and of one that was fed 65 bytes.
+#[tactic(auto, unfolding(crate::specs::Standard::Compression::registers_after, crate::specs::Standard::Compression::lines_after, crate::specs::Standard::Compression::compress, crate::specs::Standard::Hashing::blocks, crate::specs::Standard::Hashing::partial_block, crate::specs::States::fed, crate::specs::States::output_and_count, crate::specs::States::core_and_tail))]
 pub fn saved_states()
     ensures cores { SavedCores }
     ensures hasher { SavedHasher }
@@ -46,6 +47,7 @@ pub fn saved_states()
 
 /// Where the length in bits passes 2^64, and where the count of blocks does, the definitions give the
 /// digest that OpenSSL gives.
+#[tactic(auto, unfolding(crate::specs::Standard::Compression::registers_after, crate::specs::Standard::Compression::lines_after, crate::specs::Standard::Compression::compress, crate::specs::Standard::Hashing::with_padding, crate::specs::Standard::Hashing::blocks, crate::specs::Standard::Hashing::partial_block, crate::specs::States::fed, crate::specs::States::finish))]
 pub fn long_messages()
     ensures { EndsOfLongMessages }
 {}
@@ -67,6 +69,7 @@ pub fn start_words()
 /// block, a padded message is whole blocks, and its last 8 bytes are the message's length in bits,
 /// as long as that is below 2^64. Different messages have different padded messages, and those of
 /// different lengths below 2^61 bytes differ in the last block.
+#[tactic(auto, using(crate::proofs::PaddedBlocks::whole_padded_message, crate::proofs::PaddedBlocks::end_padded_message, crate::proofs::PaddedBlocks::one_message, crate::proofs::PaddedBlocks::one_length))]
 pub fn padding_laws()
     ensures zeros { (n : ℕ) → (n + 1 + zero_count n) % block_size ≡ length_place }
     ensures fewest { (n : ℕ) → zero_count n < block_size }
@@ -84,6 +87,7 @@ pub fn padding_laws()
 /// However a message is cut into pieces, its state is that of the whole message, and finishing that state gives its
 /// hash: for every block function over lists of numbers and messages of every length. For the four variants this is
 /// the digest.
+#[tactic(auto, using(crate::specs::Laws::Pieces::fed_nothing, crate::specs::Laws::Pieces::fed_twice, crate::specs::Laws::Pieces::finish_fed))]
 pub fn state_laws()
     ensures nothing { (step : List ℕ → List ℕ → List ℕ) (h : HashState)
         → h.count < 2 ^ 64 → length h.tail < block_size → fed step h [] ≡ h }

@@ -120,6 +120,7 @@ impl Registers for [u32x2; 4] {
         [d, t, b, c]
     }
 
+    #[tactic(auto, using(crate::proofs::TwoLanes::lane_is))]
     #[inline(always)]
     fn exchange(self, i: usize) -> [u32x2; 4] {
         let [a, b, c, d] = self;
@@ -151,6 +152,7 @@ impl Registers for [u32x2; 5] {
         [e, sum(t, e), b, rotate(c, u32x2::splat(10)), d]
     }
 
+    #[tactic(auto, using(crate::proofs::TwoLanes::lane_is))]
     #[inline(always)]
     fn exchange(self, i: usize) -> [u32x2; 5] {
         let [a, b, c, d, e] = self;
@@ -248,6 +250,7 @@ fn round<R: Registers>(r: usize, words: &[u32; 16], start: R) -> R
 /// Both lines through their rounds on a block, with an exchange of one register after each round where
 /// `exchanges` has one for it.
 #[inline(always)]
+#[tactic(auto, unfolding(crate::specs::Standard::Compression::lines_after))]
 pub(crate) fn lines_after<R: Registers>(exchanges: &[usize], block: &[u8; 64], start: R) -> R
     requires exchanges { All (λ i. i < R.ROUNDS) exchanges.now }
     requires most { R.ROUNDS ≤ 5 }

@@ -21,6 +21,7 @@ pub struct Padded {
 
 /// The whole blocks of a message, in order, and its tail, the 0 to 63 bytes after them. Neither is copied.
 #[inline(always)]
+#[tactic(auto, unfolding(crate::specs::Standard::Hashing::blocks, crate::specs::Standard::Hashing::partial_block))]
 pub fn whole_blocks(message: &[u8]) -> (&[[u8; 64]], &[u8])
     ensures whole { result.0.now ≡ blocks message.now }
     ensures tail { result.1.now ≡ partial_block message.now }
@@ -31,6 +32,7 @@ pub fn whole_blocks(message: &[u8]) -> (&[[u8; 64]], &[u8])
 
 /// How many blocks a message has with its padding (RFC 1320, section 3.1): its whole blocks
 /// and one more, or two more if its tail has 56 bytes or more.
+#[tactic(auto, using(crate::proofs::PaddedBlocks::counts))]
 pub fn block_count(message: &[u8]) -> usize
     ensures { result ≡ length (blocks (padded_message message.now)) }
 {
@@ -40,6 +42,7 @@ pub fn block_count(message: &[u8]) -> usize
 
 /// The block at a place, counted from 0, of a message with its padding (RFC 1320, section
 /// 3.1); `None` exactly if there is no block at that place, so from `block_count(message)` on.
+#[tactic(auto, using(crate::proofs::PaddedBlocks::whole_block))]
 pub fn pad_block(message: &[u8], place: usize) -> Option<[u8; 64]>
     ensures { result ≡ slice_get (blocks (padded_message message.now)) place }
 {
@@ -62,6 +65,7 @@ pub fn pad_block(message: &[u8], place: usize) -> Option<[u8; 64]>
 /// zero bytes that leave room for the length, and the length in 8 bytes, least first (RFC 1320, sections 3.1 and
 /// 3.2). They are made in place of two blocks of zero bytes.
 #[inline(always)]
+#[tactic(auto, using(crate::proofs::LastBlocks::with_padding_short, crate::proofs::LastBlocks::with_padding_long))]
 pub fn last_blocks<'a>(tail: &[u8], bit_len: u64, zeros: &'a mut [[u8; 64]; 2]) -> &'a [[u8; 64]]
     requires short { length tail.now < block_size }
     requires zeros { zeros.old ≡ replicate 2 (replicate block_size 0) }
@@ -81,6 +85,7 @@ pub fn last_blocks<'a>(tail: &[u8], bit_len: u64, zeros: &'a mut [[u8; 64]; 2]) 
 
 // Writes a tail and the byte 0x80 to the front of a block of zero bytes.
 #[inline(always)]
+#[tactic(auto, using(crate::proofs::LastBlocks::marked_block))]
 fn write_marked(block: &mut [u8; 64], tail: &[u8])
     requires short { length tail.now < block_size }
     requires zeros { block.old ≡ replicate block_size 0 }

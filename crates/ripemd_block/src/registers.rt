@@ -4,14 +4,15 @@
 ghost use Rattle.std.specs.Prelude.{◌≡◌};
 ghost use Rattle.ripemd_block.specs.Standard.Hashing.{walk};
 
-mod c128;
-mod c160;
-mod c256;
-mod c320;
 mod lines;
 
+use crate::chaining::{
+    double_state_of_five, double_state_of_four, joint_state_of_five, joint_state_of_four,
+    lines_of_256, lines_of_320,
+};
 use crate::traits::BlockFunction;
 use crate::variants::{Ripemd128Function, Ripemd160Function, Ripemd256Function, Ripemd320Function};
+use lines::{Lines, exchange, round, words_of_five_rounds, words_of_four_rounds};
 use std::simd::prelude::*;
 
 /// A block function that has a step in general registers, too.
@@ -43,16 +44,37 @@ pub(crate) fn walk_on<F: InRegisters>(first: &mut F::State, blocks: &[[u8; 64]])
 }
 
 impl InRegisters for Ripemd128Function {
+    #[tactic(auto, using(crate::proofs::Stepping::word_sums_fit))]
     #[inline(always)]
     fn compress(state: [u32; 4], block: &[u8; 64]) -> [u32; 4] {
-        c128::compress(state, block)
+        let words = words_of_four_rounds(block);
+        let lines = Lines {
+            left: state,
+            right: state,
+        };
+        let lines = round(0, &words, lines);
+        let lines = round(1, &words, lines);
+        let lines = round(2, &words, lines);
+        let lines = round(3, &words, lines);
+        joint_state_of_four(state, lines.left, lines.right)
     }
 }
 
 impl InRegisters for Ripemd160Function {
+    #[tactic(auto, using(crate::proofs::Stepping::word_sums_fit))]
     #[inline(always)]
     fn compress(state: [u32; 5], block: &[u8; 64]) -> [u32; 5] {
-        c160::compress(state, block)
+        let words = words_of_five_rounds(block);
+        let lines = Lines {
+            left: state,
+            right: state,
+        };
+        let lines = round(0, &words, lines);
+        let lines = round(1, &words, lines);
+        let lines = round(2, &words, lines);
+        let lines = round(3, &words, lines);
+        let lines = round(4, &words, lines);
+        joint_state_of_five(state, lines.left, lines.right)
     }
 
     // One store of four words: otherwise the compiler keeps them in a vector from block to block, and the next block
@@ -65,16 +87,35 @@ impl InRegisters for Ripemd160Function {
     }
 }
 
+// The registers that are exchanged are A, B, C and D in turn.
 impl InRegisters for Ripemd256Function {
+    #[tactic(auto, using(crate::proofs::Stepping::word_sums_fit))]
     #[inline(always)]
     fn compress(state: [u32; 8], block: &[u8; 64]) -> [u32; 8] {
-        c256::compress(state, block)
+        let words = words_of_four_rounds(block);
+        let (left, right) = lines_of_256(state);
+        let lines = Lines { left, right };
+        let lines = exchange(0, round(0, &words, lines));
+        let lines = exchange(1, round(1, &words, lines));
+        let lines = exchange(2, round(2, &words, lines));
+        let lines = exchange(3, round(3, &words, lines));
+        double_state_of_four(state, lines.left, lines.right)
     }
 }
 
+// The registers that are exchanged are B, D, A, C and E in turn.
 impl InRegisters for Ripemd320Function {
+    #[tactic(auto, using(crate::proofs::Stepping::word_sums_fit))]
     #[inline(always)]
     fn compress(state: [u32; 10], block: &[u8; 64]) -> [u32; 10] {
-        c320::compress(state, block)
+        let words = words_of_five_rounds(block);
+        let (left, right) = lines_of_320(state);
+        let lines = Lines { left, right };
+        let lines = exchange(1, round(0, &words, lines));
+        let lines = exchange(3, round(1, &words, lines));
+        let lines = exchange(0, round(2, &words, lines));
+        let lines = exchange(2, round(3, &words, lines));
+        let lines = exchange(4, round(4, &words, lines));
+        double_state_of_five(state, lines.left, lines.right)
     }
 }

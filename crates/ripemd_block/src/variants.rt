@@ -49,7 +49,6 @@ impl BlockFunction for Ripemd128Function {
 
     ghost output_of = { word_bytes };
 
-    #[tactic(auto, using(crate::specs::Laws::Starting::start_words_128))]
     fn start() -> [u32; 4] {
         [0x6745_2301, 0xefcd_ab89, 0x98ba_dcfe, 0x1032_5476]
     }
@@ -145,7 +144,6 @@ impl BlockFunction for Ripemd160Function {
 
     ghost output_of = { word_bytes };
 
-    #[tactic(auto, using(crate::specs::Laws::Starting::start_words_160))]
     fn start() -> [u32; 5] {
         [
             0x6745_2301,
@@ -247,7 +245,6 @@ impl BlockFunction for Ripemd256Function {
 
     ghost output_of = { word_bytes };
 
-    #[tactic(auto, using(crate::specs::Laws::Starting::start_words_256))]
     fn start() -> [u32; 8] {
         [
             0x6745_2301,
@@ -352,7 +349,6 @@ impl BlockFunction for Ripemd320Function {
 
     ghost output_of = { word_bytes };
 
-    #[tactic(auto, using(crate::specs::Laws::Starting::start_words_320))]
     fn start() -> [u32; 10] {
         [
             0x6745_2301,

@@ -15,12 +15,6 @@ use Rattle.ripemd_block.specs.Laws.Walking.{after_joined_blocks}
 -- ---- bytes
 
 module _ (step : List ℕ → List ℕ → List ℕ) (h : HashState) where
-  pub fed_nothing : h.count < 2 ^ 64 → length h.tail < 64 → fed step h [] ≡ h
-  unfolding fed
-  fed_nothing count short =
-      let same : (h.count + 0) % 2 ^ 64 ≡ h.count = omega arith in
-      rw (append-nil h.tail, blocks_of_short h.tail short, left_over_of_short h.tail short, same) refl
-
   pub fed_twice : (x y : List ℕ) → fed step (fed step h x) y ≡ fed step h (x ++ y)
   unfolding fed
   fed_twice x y =
@@ -37,6 +31,9 @@ module _ (step : List ℕ → List ℕ → List ℕ) (h : HashState) where
   fed_short x count short =
       let same : (h.count + 0) % 2 ^ 64 ≡ h.count = omega arith in
       rw (blocks_of_short (h.tail ++ x) short, left_over_of_short (h.tail ++ x) short, same) refl
+
+  pub fed_nothing : h.count < 2 ^ 64 → length h.tail < 64 → fed step h [] ≡ h
+  fed_nothing count short = rw append-nil at (fed_short [] count (rw append-nil short))
 
   -- bytes that fill a block
   pub fed_block : (x : List ℕ) → length (h.tail ++ x) ≡ 64

@@ -3,8 +3,9 @@ use Rattle.std.proofs.Common.{◌≡◌, ◌≢◌, ℕ, ◌+◌, ◌*◌, ◌-�
 use Rattle.std.proofs.Common.{List, [], ◌∷◌, ◌++◌, length, take, drop, get_or, replicate, length-append}
 use Rattle.std.specs.Int.{w64, from_le_bytes}
 use Rattle.std.proofs.Common.{Result, Ok, Err, IfErr, IsOk}
-use Rattle.std.proofs.lemmas.List.{append_assoc, length-replicate}
+use Rattle.std.proofs.lemmas.List.{append_assoc, length-replicate, take_at, drop_at}
 use Rattle.std.proofs.lemmas.List.{length-drop, get_or-drop, take-append-drop}
+use Rattle.std.proofs.lemmas.List.FromFn.{fill_by_all}
 use Rattle.std.proofs.Math.Seq.{take-append_seam, drop-append_seam}
 use Rattle.std.proofs.lemmas.Nat.{le_bytes_8, from_le_bytes-to_le_bytes_8}
 use Rattle.ripemd_block.specs.Standard.Words.{word_bytes, eight_bytes}
@@ -23,12 +24,16 @@ pub eight_bytes_injective : (m n : ℕ) → m < 2 ^ 64 → n < 2 ^ 64 → eight_
 eight_bytes_injective m n of_m of_n same =
     sym (from_le_bytes-to_le_bytes_8 m of_m) ∙ ap (from_le_bytes w64) same ∙ from_le_bytes-to_le_bytes_8 n of_n
 
+same_parts : (a b x y : List ℕ) → length a ≡ length b → a ++ x ≡ b ++ y → (a ≡ b) × (x ≡ y)
+same_parts a b x y size same = (
+  sym (take-append_seam a x) ∙ ap (take (length a)) same ∙ rw size (take-append_seam b y),
+  sym (drop-append_seam a x) ∙ ap (drop (length a)) same ∙ rw size (drop-append_seam b y),
+)
+
 tail_bytes_injective : (s t : List ℕ) → tail_bytes s ≡ tail_bytes t → s ≡ t
 tail_bytes_injective s t same =
     let size : length s ≡ length t = ap (λ (bs : List ℕ). get_or bs 0 0) same in
-    let behind : s ++ replicate (63 - length s) 0 ≡ t ++ replicate (63 - length t) 0 = ap (drop 1) same in
-    sym (take-append_seam s (replicate (63 - length s) 0)) ∙ ap (take (length s)) behind
-    ∙ rw size (take-append_seam t (replicate (63 - length t) 0))
+    (same_parts s t (replicate (63 - length s) 0) (replicate (63 - length t) 0) size (ap (drop 1) same)).0
 
 pub core_and_tail-split : (output : List ℕ → List ℕ) (h : HashState)
     → core_and_tail output h ≡ output_and_count output h ++ tail_bytes h.tail
@@ -42,37 +47,18 @@ same_meaning g h words count tail =
     ∙ ap (λ (t : List ℕ). record h { tail = t }) tail
 
 module _ {are_words : List ℕ → Type 0} {output : List ℕ → List ℕ} {n : ℕ} (tells : IsInjectiveOutput are_words output n) where
-  -- ---- two states whose cores are saved as the beginning of the same bytes
-
-  module _ (g h : HashState) (a b : List ℕ) (of_g : IsHashState are_words g) (of_h : IsHashState are_words h)
-      (same : output_and_count output g ++ a ≡ output_and_count output h ++ b) where
-    parted : output g.words ++ (eight_bytes g.count ++ a) ≡ output h.words ++ (eight_bytes h.count ++ b)
-    unfolding output_and_count
-    parted =
-        sym (append_assoc (output g.words) (eight_bytes g.count) a) ∙ same
-        ∙ append_assoc (output h.words) (eight_bytes h.count) b
-
-    same_size : length (output g.words) ≡ length (output h.words)
-    same_size = tells.size g.words of_g.words ∙ sym (tells.size h.words of_h.words)
-
-    same_words : g.words ≡ h.words
-    same_words =
-        let same_output : output g.words ≡ output h.words =
-        sym (take-append_seam (output g.words) (eight_bytes g.count ++ a)) ∙ ap (take (length (output g.words))) parted
-        ∙ rw same_size (take-append_seam (output h.words) (eight_bytes h.count ++ b)) in
-        tells.injective g.words h.words of_g.words of_h.words same_output
-
-    after_words : eight_bytes g.count ++ a ≡ eight_bytes h.count ++ b
-    after_words =
-        sym (drop-append_seam (output g.words) (eight_bytes g.count ++ a)) ∙ ap (drop (length (output g.words))) parted
-        ∙ rw same_size (drop-append_seam (output h.words) (eight_bytes h.count ++ b))
-
-    same_count : g.count ≡ h.count
-    same_count =
-        eight_bytes_injective g.count h.count of_g.count of_h.count (ap (take 8) after_words)
-
-    same_rest : a ≡ b
-    same_rest = ap (drop 8) after_words
+  -- two states whose cores are saved as the beginning of the same bytes, if they have one tail
+  same_state : (g h : HashState) (a b : List ℕ) → IsHashState are_words g → IsHashState are_words h
+      → (a ≡ b → g.tail ≡ h.tail) → output_and_count output g ++ a ≡ output_and_count output h ++ b → g ≡ h
+  unfolding output_and_count
+  same_state g h a b of_g of_h tails same =
+      let size = tells.size g.words of_g.words ∙ sym (tells.size h.words of_h.words) in
+      let parts =
+      same_parts (output g.words) (output h.words) (eight_bytes g.count ++ a) (eight_bytes h.count ++ b) size
+      (sym (append_assoc (output g.words) (eight_bytes g.count) a) ∙ same ∙ append_assoc (output h.words) (eight_bytes h.count) b) in
+      let words = tells.injective g.words h.words of_g.words of_h.words parts.0 in
+      let count = eight_bytes_injective g.count h.count of_g.count of_h.count (ap (take 8) parts.1) in
+      same_meaning g h words count (tails (ap (drop 8) parts.1))
 
   -- ---- cores
 
@@ -82,55 +68,36 @@ module _ {are_words : List ℕ → Type 0} {output : List ℕ → List ℕ} {n :
       let both = length-append (output h.words) (eight_bytes h.count) in
       omega (arith, both, tells.size h.words valid.words)
 
-  pub output_front : (h : HashState) (bytes : List ℕ) → IsHashState are_words h → output_and_count output h ≡ bytes
-      → output h.words ≡ take n bytes
+  pub output_parts : (h : HashState) (bytes : List ℕ) → IsHashState are_words h → output_and_count output h ≡ bytes
+      → (output h.words ≡ take n bytes) × (eight_bytes h.count ≡ drop n bytes)
   unfolding output_and_count
-  output_front h bytes valid same =
-      let size = tells.size h.words valid.words in
-      sym (take-append_seam (output h.words) (eight_bytes h.count)) ∙ rw (size, same) refl
-
-  pub output_back : (h : HashState) (bytes : List ℕ) → IsHashState are_words h → output_and_count output h ≡ bytes
-      → eight_bytes h.count ≡ drop n bytes
-  unfolding output_and_count
-  output_back h bytes valid same =
-      let size = tells.size h.words valid.words in
-      sym (drop-append_seam (output h.words) (eight_bytes h.count)) ∙ rw (size, same) refl
+  output_parts h bytes valid same =
+      let size = tells.size h.words valid.words in (
+        sym (take_at (output h.words) (eight_bytes h.count) n size) ∙ ap (take n) same,
+        sym (drop_at (output h.words) (eight_bytes h.count) n size) ∙ ap (drop n) same,
+      )
 
   pub output_and_count_injective : (g h : HashState) → IsWithoutTail are_words g → IsWithoutTail are_words h
       → output_and_count output g ≡ output_and_count output h → g ≡ h
   output_and_count_injective g h of_g of_h same =
-      let behind : output_and_count output g ++ [] ≡ output_and_count output h ++ [] =
-      ap (λ (bs : List ℕ). bs ++ []) same in
-      let words = same_words g h [] [] of_g.state of_h.state behind in
-      let count = same_count g h [] [] of_g.state of_h.state behind in
-      same_meaning g h words count (of_g.no_tail ∙ sym of_h.no_tail)
+      same_state g h [] [] of_g.state of_h.state (λ both. of_g.no_tail ∙ sym of_h.no_tail)
+      (ap (λ (bs : List ℕ). bs ++ []) same)
 
   -- ---- hashers
 
   pub length-core_and_tail : (h : HashState) → IsHashState are_words h → length (core_and_tail output h) ≡ n + 8 + 64
   length-core_and_tail h valid =
-      let core : length (output_and_count output h) ≡ n + 8 = length-output_and_count h valid in
-      let zeros : length (replicate {A = ℕ} (63 - length h.tail) 0) ≡ 63 - length h.tail =
-      length-replicate (63 - length h.tail) 0 in
+      let zeros = length-replicate {A = ℕ} (63 - length h.tail) 0 in
       let both = length-append (length h.tail ∷ h.tail) (replicate (63 - length h.tail) 0) in
       let tail : length (tail_bytes h.tail) ≡ 64 = omega (arith, both, zeros, valid.tail.short) in
-      omega (
-        arith,
-        ap length (core_and_tail-split output h),
-        length-append (output_and_count output h) (tail_bytes h.tail),
-        core,
-        tail,
-      )
+      let all = length-append (output_and_count output h) (tail_bytes h.tail) in
+      omega (arith, ap length (core_and_tail-split output h), all, length-output_and_count h valid, tail)
 
   pub core_and_tail_injective : (g h : HashState) → IsHashState are_words g → IsHashState are_words h
       → core_and_tail output g ≡ core_and_tail output h → g ≡ h
   core_and_tail_injective g h of_g of_h same =
-      let both : output_and_count output g ++ tail_bytes g.tail ≡ output_and_count output h ++ tail_bytes h.tail =
-      sym (core_and_tail-split output g) ∙ same ∙ core_and_tail-split output h in
-      let words = same_words g h (tail_bytes g.tail) (tail_bytes h.tail) of_g of_h both in
-      let count = same_count g h (tail_bytes g.tail) (tail_bytes h.tail) of_g of_h both in
-      let rest = same_rest g h (tail_bytes g.tail) (tail_bytes h.tail) of_g of_h both in
-      same_meaning g h words count (tail_bytes_injective g.tail h.tail rest)
+      same_state g h (tail_bytes g.tail) (tail_bytes h.tail) of_g of_h (tail_bytes_injective g.tail h.tail)
+      (sym (core_and_tail-split output g) ∙ same ∙ core_and_tail-split output h)
 
 -- ---- the four variants
 
@@ -139,17 +106,9 @@ hasher_bytes_injective v = core_and_tail_injective (word_bytes_output (length v.
 
 -- the number of eight bytes is below 2 ^ 64
 count_of_eight : (bs : List ℕ) → length bs ≡ 8 → ((i : ℕ) → get_or bs i 0 < 256) → from_le_bytes w64 bs < 2 ^ 64
-count_of_eight [] size small = absurd (omega arith)
-count_of_eight (a ∷ []) size small = absurd (omega arith)
-count_of_eight (a ∷ b ∷ []) size small = absurd (omega arith)
-count_of_eight (a ∷ b ∷ c ∷ []) size small = absurd (omega arith)
-count_of_eight (a ∷ b ∷ c ∷ d ∷ []) size small = absurd (omega arith)
-count_of_eight (a ∷ b ∷ c ∷ d ∷ e ∷ []) size small = absurd (omega arith)
-count_of_eight (a ∷ b ∷ c ∷ d ∷ e ∷ f ∷ []) size small = absurd (omega arith)
-count_of_eight (a ∷ b ∷ c ∷ d ∷ e ∷ f ∷ g ∷ []) size small = absurd (omega arith)
-count_of_eight (a ∷ b ∷ c ∷ d ∷ e ∷ f ∷ g ∷ h ∷ []) size small =
-    omega (arith, small 0, small 1, small 2, small 3, small 4, small 5, small 6, small 7)
-count_of_eight (a ∷ b ∷ c ∷ d ∷ e ∷ f ∷ g ∷ h ∷ i ∷ bs) size small = absurd (omega arith)
+count_of_eight bs size small =
+    rw (fill_by_all (λ i. get_or bs i 0) bs 8 0 size (λ i within. refl))
+    (omega (arith, small 0, small 1, small 2, small 3, small 4, small 5, small 6, small 7))
 
 -- bytes of this number are those of some core: not of none
 every_core : (v : Parameters) (bytes : List ℕ) → length bytes ≡ 4 * length v.start + 8

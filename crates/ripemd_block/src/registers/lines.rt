@@ -73,6 +73,7 @@ impl LineRegisters for [u32; 5] {
 // The sum of `u` and Boolean function `k` of three words, modulo 2^32 (1996, Boolean functions). The two parts of
 // function 3 have no bit in common and are added one after the other, so that less waits for `x`, the newest word.
 #[inline(always)]
+#[tactic(auto, using(crate::proofs::Factoring::f3_in_parts))]
 fn sum(u: u32, k: usize, x: u32, y: u32, z: u32) -> u32
     requires { k < 5 }
     ensures { result ≡ u ⊞ boolean_function k x y z }
@@ -104,6 +105,7 @@ fn words_with(block: &[u8; 64], k: u32) -> [u32; 16]
 /// The words of lines of four rounds. Not inlined: inside the steps the compiler would add the constants last, where
 /// the next step waits for them.
 #[inline(never)]
+#[tactic(auto, unfolding(crate::specs::Code::Lines::words_of_rounds))]
 pub(crate) fn words_of_four_rounds(block: &[u8; 64]) -> Words<4>
     ensures { HasWords 4 result.left result.right block.now }
 {
@@ -125,6 +127,7 @@ pub(crate) fn words_of_four_rounds(block: &[u8; 64]) -> Words<4>
 
 /// The words of lines of five rounds, not inlined for the same reason.
 #[inline(never)]
+#[tactic(auto, unfolding(crate::specs::Code::Lines::words_of_rounds))]
 pub(crate) fn words_of_five_rounds(block: &[u8; 64]) -> Words<5>
     ensures { HasWords 5 result.left result.right block.now }
 {

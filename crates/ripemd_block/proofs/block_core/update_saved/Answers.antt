@@ -2,49 +2,36 @@ use Rattle.std.proofs.Common.{◌≡◌, ℕ, ◌+◌, ◌%◌, ◌^◌, List, �
 use Rattle.std.proofs.lemmas.List.{nil_from_length}
 use Rattle.ripemd_block.specs.Standard.Words.{eight_bytes}
 use Rattle.ripemd_block.specs.Standard.Hashing.{walk}
-use Rattle.ripemd_block.specs.States.{output_and_count}
-use Rattle.ripemd_block.specs.Laws.Saved.{eight_bytes_injective, output_back, output_front}
+use Rattle.ripemd_block.specs.States.{HashState, IsHashState, output_and_count}
+use Rattle.ripemd_block.specs.Laws.Saved.{eight_bytes_injective, output_parts}
 use Rattle.ripemd_block.proofs.block_core.update_saved.Goals as goal
 use Rattle.ripemd_block.proofs.block_core.update_saved.Goals.{then-not-is_empty, else-not-is_empty}
 
-pub returns-clause-saved : goal.returns-clause-saved
+pub returns : goal.returns
 unfolding output_and_count
-returns-clause-saved g c core valid same =
+returns g c =
     let f = g.F.ListBlockFunction in
     let told = g.met.F.ResumableFunction.injective_output in
     let saved = c.args.saved.now in
     let blocks = c.args.blocks.now in
     let parts = c.split_at_mut-output in
-    let of_words : f.output core.words ≡ parts.result.0.now =
-    output_front told core saved valid same ∙ rw (← c.LEN.ensures) (sym parts.ensures.front) in
-    let of_count : eight_bytes c.read_count.result ≡ eight_bytes core.count =
-    c.read_count.ensures ∙ parts.ensures.back ∙ rw c.LEN.ensures (sym (output_back told core saved valid same)) in
-    let count : c.read_count.result ≡ core.count =
-    eight_bytes_injective c.read_count.result core.count (omega arith) valid.count of_count in
-    let walked : f.output (walk f.step core.words blocks) ≡ c.if-not-is_empty.output = elim c.if-not-is_empty.branch [
-      | then-not-is_empty w ↦ rw w.output-is (w.walk_output.ensures.value core.words valid.words of_words)
-      | else-not-is_empty w ↦
-          let none : length blocks ≡ 0 = search (rules, w.if-not-is_empty.ensures) in
-          rw (w.output-is, nil_from_length blocks none) of_words
-    ] in
-    rw (c.copy_from_slice.ensures.after, c.to_le_bytes.ensures, count)
-    (ap (λ (o : List ℕ). o ++ eight_bytes ((core.count + length blocks) % 2 ^ 64)) walked)
-
-pub returns-clause-valid : goal.returns-clause-valid
-returns-clause-valid g c core valid same =
-    let told = g.met.F.ResumableFunction.injective_output in
-    let saved = c.args.saved.now in
-    let blocks = c.args.blocks.now in
-    let parts = c.split_at_mut-output in
-    let of_words : g.F.ListBlockFunction.output core.words ≡ parts.result.0.now =
-    output_front told core saved valid same ∙ rw (← c.LEN.ensures) (sym parts.ensures.front) in
+    let walked : (core : HashState) → IsHashState f.are_words core → output_and_count f.output core ≡ saved
+    → (f.output (walk f.step core.words blocks) ≡ c.if-not-is_empty.output) × f.are_words (walk f.step core.words blocks) =
+    λ core valid same. let of_words : f.output core.words ≡ parts.result.0.now =
+    (output_parts told core saved valid same).0 ∙ rw (← c.LEN.ensures) (sym parts.ensures.front) in
     elim c.if-not-is_empty.branch [
-      | then-not-is_empty w ↦ record {
-        words = w.walk_output.ensures.valid core.words valid.words of_words;
-        count = omega arith;
-        tail = valid.tail;
-      }
+      | then-not-is_empty w ↦
+          let after = w.walk_output.ensures in
+          (rw w.output-is (after.value core.words valid.words of_words), after.valid core.words valid.words of_words)
       | else-not-is_empty w ↦
           let none : length blocks ≡ 0 = search (rules, w.if-not-is_empty.ensures) in
-          rw (nil_from_length blocks none) (record { words = valid.words; count = omega arith; tail = valid.tail })
-    ]
+          rw (w.output-is, nil_from_length blocks none) (of_words, valid.words)
+    ] in
+    record {
+      saved = λ core valid same. let of_count : eight_bytes c.read_count.result ≡ eight_bytes core.count =
+          c.read_count.ensures ∙ parts.ensures.back ∙ rw c.LEN.ensures (sym (output_parts told core saved valid same).1) in
+          let count = eight_bytes_injective c.read_count.result core.count (omega arith) valid.count of_count in
+          rw (c.copy_from_slice.ensures.after, c.to_le_bytes.ensures, count)
+          (ap (λ (o : List ℕ). o ++ eight_bytes ((core.count + length blocks) % 2 ^ 64)) (walked core valid same).0);
+      valid = λ core valid same. record { words = (walked core valid same).1; count = omega arith; tail = valid.tail };
+    }

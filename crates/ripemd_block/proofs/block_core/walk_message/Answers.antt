@@ -1,8 +1,21 @@
 use Rattle.std.proofs.Common.{◌≡◌, ℕ, ◌+◌, ◌*◌, ◌%◌, ◌^◌, List, length, arith, ap, ◌∙◌, refl}
-use Rattle.ripemd_block.specs.Standard.Hashing.{blocks, walk, with_padding}
+use Rattle.std.proofs.lemmas.List.Sums.{fold-append}
+use Rattle.ripemd_block.specs.Standard.Hashing.{blocks, partial_block, walk, with_padding}
 use Rattle.ripemd_block.specs.OverLists.{walk_over_lists}
-use Rattle.ripemd_block.proofs.Finishing.{walk_of_blocks}
+use Rattle.ripemd_block.specs.Laws.Pieces.{with_padding_rest}
 use Rattle.ripemd_block.proofs.block_core.walk_message.Goals as goal
+
+-- a walk through the whole blocks of a message and then through the last ones is one through all
+walk_of_blocks : (first : List ℕ) (step : List ℕ → List ℕ → List ℕ) (before n : ℕ) (m tail : List ℕ) (whole last : List (List ℕ))
+    → whole ≡ blocks m
+    → tail ≡ partial_block m
+    → n ≡ 8 * (before + length m) % 2 ^ 64
+    → last ≡ blocks (with_padding tail n)
+    → walk step (walk step first whole) last ≡ walk step first (blocks (with_padding m (8 * (before + length m) % 2 ^ 64)))
+walk_of_blocks first step before n m tail whole last of_whole of_tail bits of_last =
+    let bit_length : ℕ = 8 * (before + length m) % 2 ^ 64 in
+    let walks = fold-append step first (blocks m) (blocks (with_padding (partial_block m) bit_length)) in
+    rw (of_whole, of_last, of_tail, bits, with_padding_rest m bit_length, walks) refl
 
 pub returns-clause-value : goal.returns-clause-value
 returns-clause-value g c =

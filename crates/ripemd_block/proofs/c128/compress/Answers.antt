@@ -1,6 +1,6 @@
 use Rattle.std.proofs.Common.{refl, ◌∙◌, arith}
 use Rattle.ripemd_block.specs.Standard.Compression.{ripemd128}
-use Rattle.ripemd_block.proofs.Stepping.{word_sums_fit}
+use Rattle.ripemd_block.proofs.Stepping.{lines_of_whole}
 use Rattle.ripemd_block.proofs.TwoLanes.{compress_in_lanes}
 use Rattle.ripemd_block.proofs.c128.compress.Goals as goal
 
@@ -9,9 +9,6 @@ returns-clause-state c =
     let start = c.lanes_of_four-start in
     let end = c.lines_after-end in
     c.joint_state_of_four.ensures
-    ∙ compress_in_lanes ripemd128 c.args.block.now start.result end.result c.lines_of_128.ensures
+    ∙ compress_in_lanes ripemd128 c.args.block.now start.result end.result (lines_of_whole ripemd128 c.args.state.now (omega arith))
     start.ensures.left start.ensures.right (end.ensures ripemd128 refl refl) c.lane_of_four.ensures
     c.lane_of_four-2.ensures
-
-pub returns-clause-new_words : goal.returns-clause-new_words
-returns-clause-new_words c = record { count = omega arith; fit = rw c.joint_state_of_four.ensures (word_sums_fit _ _) }

@@ -1,6 +1,6 @@
 use Rattle.std.proofs.Common.{refl, ◌∙◌, arith}
 use Rattle.ripemd_block.specs.Standard.Compression.{ripemd160}
-use Rattle.ripemd_block.proofs.Stepping.{word_sums_fit}
+use Rattle.ripemd_block.proofs.Stepping.{lines_of_whole}
 use Rattle.ripemd_block.proofs.TwoLanes.{compress_in_lanes}
 use Rattle.ripemd_block.proofs.c160.compress.Goals as goal
 
@@ -9,9 +9,6 @@ returns-clause-state c =
     let start = c.lanes_of_five-start in
     let end = c.lines_after-end in
     c.joint_state_of_five.ensures
-    ∙ compress_in_lanes ripemd160 c.args.block.now start.result end.result c.lines_of_160.ensures
+    ∙ compress_in_lanes ripemd160 c.args.block.now start.result end.result (lines_of_whole ripemd160 c.args.state.now (omega arith))
     start.ensures.left start.ensures.right (end.ensures ripemd160 refl refl) c.lane_of_five.ensures
     c.lane_of_five-2.ensures
-
-pub returns-clause-new_words : goal.returns-clause-new_words
-returns-clause-new_words c = record { count = omega arith; fit = rw c.joint_state_of_five.ensures (word_sums_fit _ _) }

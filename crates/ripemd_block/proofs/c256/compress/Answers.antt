@@ -1,6 +1,5 @@
-use Rattle.std.proofs.Common.{refl, ◌∙◌, arith}
+use Rattle.std.proofs.Common.{refl, ◌∙◌}
 use Rattle.ripemd_block.specs.Standard.Compression.{ripemd256}
-use Rattle.ripemd_block.proofs.Stepping.{word_sums_fit}
 use Rattle.ripemd_block.proofs.TwoLanes.{compress_in_lanes}
 use Rattle.ripemd_block.proofs.c256.compress.Goals as goal
 
@@ -12,6 +11,3 @@ returns-clause-state c =
     ∙ compress_in_lanes ripemd256 c.args.block.now start.result end.result c.lines_of_256.ensures
     start.ensures.left start.ensures.right (end.ensures ripemd256 refl refl) c.lane_of_four.ensures
     c.lane_of_four-2.ensures
-
-pub returns-clause-new_words : goal.returns-clause-new_words
-returns-clause-new_words c = record { count = omega arith; fit = rw c.double_state_of_four.ensures (word_sums_fit _ _) }

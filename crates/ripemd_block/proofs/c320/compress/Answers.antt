@@ -1,6 +1,5 @@
-use Rattle.std.proofs.Common.{refl, ◌∙◌, arith}
+use Rattle.std.proofs.Common.{refl, ◌∙◌}
 use Rattle.ripemd_block.specs.Standard.Compression.{ripemd320}
-use Rattle.ripemd_block.proofs.Stepping.{word_sums_fit}
 use Rattle.ripemd_block.proofs.TwoLanes.{compress_in_lanes}
 use Rattle.ripemd_block.proofs.c320.compress.Goals as goal
 
@@ -12,6 +11,3 @@ returns-clause-state c =
     ∙ compress_in_lanes ripemd320 c.args.block.now start.result end.result c.lines_of_320.ensures
     start.ensures.left start.ensures.right (end.ensures ripemd320 refl refl) c.lane_of_five.ensures
     c.lane_of_five-2.ensures
-
-pub returns-clause-new_words : goal.returns-clause-new_words
-returns-clause-new_words c = record { count = omega arith; fit = rw c.double_state_of_five.ensures (word_sums_fit _ _) }

@@ -1,6 +1,5 @@
-use Rattle.std.proofs.Common.{◌-◌, ◌^◌, ◌<◌, refl, arith}
+use Rattle.std.proofs.Common.{◌-◌, ◌^◌, ◌<◌, rules, refl, arith}
 use Rattle.std.proofs.lemmas.List.Elements.{All-nil, All-replicate}
-use Rattle.ripemd_block.specs.Laws.Starting.{start_words_160}
 use Rattle.ripemd_block.proofs.facts.states.Goals as goal
 
 pub returns : goal.returns
@@ -18,7 +17,7 @@ returns c = record {
   no_greater_byte = λ state. omega (arith, state.tail.bytes 0 0 (omega arith));
   core = record {
     state = record {
-      words = start_words_160;
+      words = record { count = refl; fit = search rules };
       count = omega arith;
       tail = record { short = omega arith; bytes = All-nil (λ b. b < 256) };
     };

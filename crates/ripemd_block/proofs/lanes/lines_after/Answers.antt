@@ -8,10 +8,6 @@ use Rattle.ripemd_block.proofs.Stepping.{AfterRounds, next_round}
 use Rattle.ripemd_block.proofs.lanes.lines_after.Goals as goal
 use Rattle.ripemd_block.proofs.lanes.lines_after.Goals.{in-Some, in_default}
 
-pub loop-r-init : goal.loop-r-init
-unfolding lines_after
-loop-r-init g c v rounds exchanges = refl
-
 pub loop-r-preserved : goal.loop-r-preserved
 loop-r-preserved g c v rounds exchanges =
     let lane = g.R.Registers.lane in

@@ -14,7 +14,6 @@ loop-i-init g c block words j small = refl
 
 pub loop-i-preserved : goal.loop-i-preserved
 loop-i-preserved g c block words =
-    let lane = g.R.Registers.lane in
     let rounds = g.R.Registers.ROUNDS in
     let r = c.args.r in
     let i = c.loop-i.i in
@@ -23,11 +22,9 @@ loop-i-preserved g c block words =
     let in_left : 0 < 2 = omega arith in
     let in_right : 1 < 2 = omega arith in
     each_lane _
-    (one_more_step left_line block r i (lane c.args.start 0) (lane c.loop-i.registers 0) (lane c.step-next.result 0)
-    (left_line.word_number r i) _ _ _ refl (word_of_step block _ _ _ words left.small left.value)
+    (one_more_step left_line block r i _ _ _ _ _ _ _ refl (word_of_step block _ _ _ words left.small left.value)
     (c.constants-k.ensures 0 in_left) c.amounts-s.ensures.left (c.loop-i.invariant block words 0 in_left)
     (c.step-next.ensures 0 in_left))
-    (one_more_step (right_line rounds) block r i (lane c.args.start 1) (lane c.loop-i.registers 1) (lane c.step-next.result 1)
-    ((right_line rounds).word_number r i) _ _ _ refl (word_of_step block _ _ _ words right.small (right.value rounds))
+    (one_more_step (right_line rounds) block r i _ _ _ _ _ _ _ refl (word_of_step block _ _ _ words right.small (right.value rounds))
     (c.constants-k.ensures 1 in_right) (c.amounts-s.ensures.right rounds) (c.loop-i.invariant block words 1 in_right)
     (c.step-next.ensures 1 in_right))

@@ -4,7 +4,7 @@ use Rattle.std.proofs.lemmas.Simd.{Each1-from_get_or, below_from_Fits, get_or_wi
 use Rattle.ripemd_block.specs.Standard.Words.{message_word}
 use Rattle.ripemd_block.specs.Code.Lines.{message_words}
 use Rattle.ripemd_block.proofs.Reading.{word_of_bytes}
-use Rattle.ripemd_block.proofs.Tables.{is_table}
+use Rattle.std.proofs.lemmas.List.FromFn.{fill_by_all}
 use Rattle.ripemd_block.proofs.message.message_words.Goals as goal
 
 pub returns : goal.returns
@@ -13,5 +13,5 @@ returns c =
     let block = c.args.block.now in
     let bytes = below_from_Fits w8 block (Each1-from_get_or (Fits w8) block 0 (λ k within. c.type_inv.block k)) in
     rw (take_all 64 block (omega arith))
-    (is_table (message_word block) 16 0 _ refl
+    (fill_by_all (message_word block) _ 16 0 refl
     (λ j small. get_or_wider 256 4 4294967296 16 block j refl bytes small ∙ word_of_bytes block j (omega arith)))

@@ -1,12 +1,7 @@
 use Rattle.std.proofs.Common.{arith, sym, ◌∙◌, length, ap, []}
 use Rattle.std.proofs.lemmas.Option.{slice_get-get_or, slice_get_past}
-use Rattle.ripemd_block.proofs.PaddedBlocks.{whole_block, last_block}
+use Rattle.ripemd_block.proofs.PaddedBlocks.{last_block}
 use Rattle.ripemd_block.proofs.padding.pad_block.Goals as goal
-
-pub returns-then-place-whole : goal.returns-then-place-whole
-returns-then-place-whole c =
-    let whole = ap length c.whole_blocks.ensures.whole in
-    rw c.whole_blocks.ensures.whole (whole_block c.args.message.now c.args.place (omega arith))
 
 pub returns-then-behind-last : goal.returns-then-behind-last
 returns-then-behind-last c =

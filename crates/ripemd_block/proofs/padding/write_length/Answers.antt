@@ -1,7 +1,9 @@
-use Rattle.std.proofs.Common.{arith, ap, ◌∙◌, ◌++◌, List, ℕ, take}
-use Rattle.ripemd_block.proofs.LastBlocks.{put_mid_end}
+use Rattle.std.proofs.Common.{arith, refl}
+use Rattle.std.proofs.lemmas.List.{append-nil, drop_all, drop-drop}
 use Rattle.ripemd_block.proofs.padding.write_length.Goals as goal
 
 pub returns : goal.returns
-returns c = put_mid_end 56 8 c.args.block.now c.copy_from_slice.new.self (omega arith)
-    ∙ ap (λ (ys : List ℕ). take 56 c.args.block.now ++ ys) (c.copy_from_slice.ensures.after ∙ c.to_le_bytes.ensures)
+returns c =
+    let block = c.args.block.now in
+    let nothing = append-nil c.copy_from_slice.new.self in
+    rw (drop-drop 8 56 block, drop_all 64 block (omega arith), nothing, c.copy_from_slice.ensures.after, c.to_le_bytes.ensures) refl

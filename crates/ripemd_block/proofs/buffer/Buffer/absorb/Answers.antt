@@ -1,7 +1,7 @@
-use Rattle.std.proofs.Common.{◌≡◌, ◌+◌, ◌<◌, ◌≤◌, ◌++◌, length, take, drop, arith, refl, sym, ◌∙◌}
+use Rattle.std.proofs.Common.{◌≡◌, ◌+◌, ◌<◌, ◌++◌, length, length-append, drop, arith, refl, sym, ◌∙◌}
 use Rattle.std.proofs.lemmas.List.{length-take-le}
-use Rattle.ripemd_block.specs.Standard.Hashing.{partial_block}
-use Rattle.ripemd_block.proofs.Absorbing.{take_put, blocks_unfilled, left_over_unfilled}
+use Rattle.ripemd_block.specs.Laws.Blocks.{blocks_of_short, left_over_of_short}
+use Rattle.ripemd_block.proofs.Absorbing.{take_put}
 use Rattle.ripemd_block.proofs.buffer.Buffer.absorb.Goals as goal
 use Rattle.ripemd_block.proofs.buffer.Buffer.absorb.Goals.{then-bytes-len, else-bytes-len}
 
@@ -14,7 +14,7 @@ returns-clause-core g c =
     let size : length tail ≡ own.len = rw (← c.self.view_is) (length-take-le own.len own.bytes (omega arith)) in
     elim c.if-bytes-len.branch [
       | then-bytes-len w ↦
-          rw (w.core-is, w.update_blocks.ensures.after, blocks_unfilled tail bytes (omega (arith, w.if-bytes-len.true))) refl
+          rw (w.core-is, w.update_blocks.ensures.after, blocks_of_short (tail ++ bytes) (omega (arith, length-append tail bytes, w.if-bytes-len.true))) refl
       | else-bytes-len w ↦ rw (w.core-is, w.take_blocks-rest.ensures.core, c.self.view_is) refl
     ]
 
@@ -25,15 +25,13 @@ returns-clause-buffer g c =
     let own = c.self.inside in
     let fits : own.len < 64 = c.self.invariant in
     let size : length tail ≡ own.len = rw (← c.self.view_is) (length-take-le own.len own.bytes (omega arith)) in
-    let len = c.if-bytes-len.len in
-    let rest = c.if-bytes-len.rest.now in
-    let held : len ≤ length own.bytes = elim c.if-bytes-len.branch [
-      | then-bytes-len w ↦ rw w.len-is (omega arith)
-      | else-bytes-len w ↦ rw w.len-is (omega arith)
-    ] in
-    let whole : take len own.bytes ++ rest ≡ partial_block (tail ++ bytes) = elim c.if-bytes-len.branch [
+    rw c.put_behind.ensures elim c.if-bytes-len.branch [
       | then-bytes-len w ↦
-          rw (w.len-is, w.rest-is, c.self.view_is) (sym (left_over_unfilled tail bytes (omega (arith, w.if-bytes-len.true))))
-      | else-bytes-len w ↦ rw (w.len-is, w.rest-is, w.take_blocks-rest.ensures.rest, c.self.view_is) refl
-    ] in
-    rw c.put_behind.ensures (take_put len own.bytes rest (drop (len + length rest) own.bytes) held ∙ whole)
+          let whole = left_over_of_short (tail ++ bytes) (omega (arith, length-append tail bytes, w.if-bytes-len.true)) in
+          rw (w.len-is, w.rest-is)
+          (take_put own.len own.bytes bytes (drop (own.len + length bytes) own.bytes) (omega arith) ∙ rw c.self.view_is (sym whole))
+      | else-bytes-len w ↦
+          let rest = w.take_blocks-rest.result.now in
+          rw (w.len-is, w.rest-is)
+          (take_put 0 own.bytes rest (drop (0 + length rest) own.bytes) (omega arith) ∙ rw (w.take_blocks-rest.ensures.rest, c.self.view_is) refl)
+    ]

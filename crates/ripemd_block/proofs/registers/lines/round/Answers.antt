@@ -5,17 +5,13 @@ use Rattle.ripemd_block.proofs.registers.lines.round.Goals as goal
 pub returns-clause-left : goal.returns-clause-left
 unfolding registers_after
 returns-clause-left g c block all =
-    let start = g.R.LineRegisters.list c.args.lines.left in
-    c.four_steps.ensures.left block start all
-    (c.four_steps-lines-3.ensures.left block start all
-    (c.four_steps-lines-2.ensures.left block start all
-    (c.four_steps-lines.ensures.left block start all refl)))
+    c.four_steps.ensures.left block _ all
+    (c.four_steps-lines-3.ensures.left block _ all
+    (c.four_steps-lines-2.ensures.left block _ all (c.four_steps-lines.ensures.left block _ all refl)))
 
 pub returns-clause-right : goal.returns-clause-right
 unfolding registers_after
 returns-clause-right g c block all =
-    let start = g.R.LineRegisters.list c.args.lines.right in
-    c.four_steps.ensures.right block start all
-    (c.four_steps-lines-3.ensures.right block start all
-    (c.four_steps-lines-2.ensures.right block start all
-    (c.four_steps-lines.ensures.right block start all refl)))
+    c.four_steps.ensures.right block _ all
+    (c.four_steps-lines-3.ensures.right block _ all
+    (c.four_steps-lines-2.ensures.right block _ all (c.four_steps-lines.ensures.right block _ all refl)))

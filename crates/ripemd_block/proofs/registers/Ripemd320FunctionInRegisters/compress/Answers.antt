@@ -1,7 +1,7 @@
-use Rattle.std.proofs.Common.{arith, ◌∙◌}
+use Rattle.std.proofs.Common.{◌∙◌}
 use Rattle.ripemd_block.specs.Standard.Compression.{ripemd320}
-use Rattle.ripemd_block.proofs.Stepping.{no_rounds, next_round, compress_from, word_sums_fit}
-use Rattle.ripemd_block.proofs.registers.c320.compress.Goals as goal
+use Rattle.ripemd_block.proofs.Stepping.{no_rounds, next_round, compress_from}
+use Rattle.ripemd_block.proofs.registers.Ripemd320FunctionInRegisters.compress.Goals as goal
 
 pub returns-clause-value : goal.returns-clause-value
 returns-clause-value c =
@@ -13,6 +13,3 @@ returns-clause-value c =
     c.round-3.ensures.left c.round-3.ensures.right c.exchange-lines-3.ensures words)
     c.round-4.ensures.left c.round-4.ensures.right c.exchange-lines-4.ensures words)
     c.round-5.ensures.left c.round-5.ensures.right c.exchange-lines-5.ensures words)
-
-pub returns-clause-words : goal.returns-clause-words
-returns-clause-words c = record { count = omega arith; fit = rw c.double_state_of_five.ensures (word_sums_fit _ _) }

@@ -1,18 +1,15 @@
 use Rattle.std.proofs.Common.{refl, ◌∙◌, arith}
 use Rattle.ripemd_block.specs.Standard.Compression.{ripemd160}
-use Rattle.ripemd_block.proofs.Stepping.{no_rounds, next_round, compress_from, word_sums_fit}
-use Rattle.ripemd_block.proofs.registers.c160.compress.Goals as goal
+use Rattle.ripemd_block.proofs.Stepping.{lines_of_whole, no_rounds, next_round, compress_from}
+use Rattle.ripemd_block.proofs.registers.Ripemd160FunctionInRegisters.compress.Goals as goal
 
 pub returns-clause-value : goal.returns-clause-value
 returns-clause-value c =
     let words = c.words_of_five_rounds-words.ensures in
     c.joint_state_of_five.ensures ∙ compress_from (next_round (next_round (next_round (next_round (next_round
-    (no_rounds ripemd160 c.args.state c.args.block.now c.lines_of_160.ensures)
+    (no_rounds ripemd160 c.args.state c.args.block.now (lines_of_whole ripemd160 c.args.state (omega arith)))
     c.round-lines.ensures.left c.round-lines.ensures.right refl words)
     c.round-lines-2.ensures.left c.round-lines-2.ensures.right refl words)
     c.round-lines-3.ensures.left c.round-lines-3.ensures.right refl words)
     c.round-lines-4.ensures.left c.round-lines-4.ensures.right refl words)
     c.round-lines-5.ensures.left c.round-lines-5.ensures.right refl words)
-
-pub returns-clause-words : goal.returns-clause-words
-returns-clause-words c = record { count = omega arith; fit = rw c.joint_state_of_five.ensures (word_sums_fit _ _) }

@@ -1,9 +1,0 @@
-use Rattle.std.proofs.Common.{◌≡◌, length, refl, arith}
-use Rattle.std.proofs.lemmas.List.{take_all}
-use Rattle.ripemd_block.proofs.chaining.lines_of_128.Goals as goal
-
-pub returns : goal.returns
-returns c =
-    let state = c.args.state in
-    let size : length state ≡ 4 = omega arith in
-    rw (take_all 4 state (omega arith), size) refl
