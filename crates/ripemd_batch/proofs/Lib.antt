@@ -9,4 +9,3 @@ pub mod Placing
 pub mod Rotating
 pub mod Transposing
 pub mod Turns
-pub mod Walking

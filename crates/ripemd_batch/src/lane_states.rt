@@ -108,6 +108,7 @@ fn last_words_of<V: Lanes, const N: usize>(states: [V; N]) -> [V; 16]
 }
 
 // Word `i` of `last_words`.
+#[tactic(auto, using(crate::proofs::DigestWords::word_in_front, crate::proofs::DigestWords::word_behind, crate::proofs::OneLane::word_in))]
 #[inline(always)]
 fn last_word<V: Lanes, const N: usize>(states: &[V; N], i: usize) -> V
     requires few { N ≤ 13 }

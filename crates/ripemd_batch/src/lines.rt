@@ -100,6 +100,7 @@ impl<V: Lanes> LineRegisters for [V; 5] {
         }
     }
 
+    #[tactic(auto, using(crate::proofs::OneLane::word_in))]
     #[inline(always)]
     fn step(self, side: Side, r: usize, x: V, k: u32, s: u32) -> [V; 5] {
         let [a, b, c, d, e] = self;
@@ -133,6 +134,7 @@ fn function<V: Lanes>(side: Side, rounds: usize, r: usize, x: V, y: V, z: V) -> 
 
 // Boolean function `k` of the words of each message (1996, functions), by few operations: 1 and 3 are factored, and 2
 // and 4 are complements.
+#[tactic(auto, using(ripemd_block::proofs::Factoring::f1_factored, crate::proofs::Factored::f3_factored, crate::proofs::Factored::f4_complemented))]
 #[inline(always)]
 fn boolean_function<V: Lanes>(k: usize, x: V, y: V, z: V) -> V
     requires { k < 5 }
@@ -164,6 +166,7 @@ fn word_number(side: Side, r: usize, i: usize) -> usize
 }
 
 // Step `i` of round `r` of a line.
+#[tactic(auto, using(ripemd_block::proofs::Stepping::one_more_step, crate::proofs::OneLane::word_in))]
 #[inline(always)]
 fn step_at<R: LineRegisters>(
     side: Side,

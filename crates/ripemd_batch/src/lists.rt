@@ -95,6 +95,7 @@ impl<D: BatchDigest> ListHasher<D> {
     }
 
     /// A hasher that makes tags under a key of any length. The key is hashed here, once for all lists.
+    #[tactic(auto, using(crate::proofs::KeyBlocks::tags))]
     pub fn keyed(key: &[u8]) -> ListHasher<D>
         ensures { made_by D.step D.output result ≡ hmac (hash D.start D.step D.output) key.now }
     {
@@ -133,8 +134,8 @@ impl<D: BatchDigest> ListHasher<D> {
 
     /// Writes what is made of each message to `bytes`, one output after another. There must be as many
     /// bytes as the outputs have. Nothing is allocated.
-    #[inline(always)]
     #[tactic(auto, using(crate::proofs::Chunks::count_chunks))]
+    #[inline(always)]
     pub fn write_joined(&self, messages: &[&[u8]], bytes: &mut [u8])
         requires { length bytes.old ≡ length messages.now * D.Output.LEN }
         ensures { bytes.new ≡ flat_map (made_by D.step D.output self.now) (targets messages.now) }

@@ -7,15 +7,6 @@ use Rattle.ripemd_batch.proofs.Turns.{none_turned, turns_of, turn_on, all_turned
 use Rattle.ripemd_batch.proofs.groups.walk_group.Goals as goal
 use Rattle.ripemd_batch.proofs.groups.walk_group.Goals.{then-is_some, else-is_some}
 
-pub loop-i-init : goal.loop-i-init
-loop-i-init g c = record {
-  turns = elim c.if-is_some.branch [
-    | then-is_some w ↦ rw (sym c.is_some.ensures ∙ w.if-is_some.true) w.turns-is
-    | else-is_some w ↦ rw (sym c.is_some.ensures ∙ w.if-is_some.false) w.turns-is
-  ];
-  turned = λ j h. none_turned _ _ _ _ _ _ c.args.outer _ (c.splat-states.ensures j h);
-}
-
 pub loop-i-preserved : goal.loop-i-preserved
 loop-i-preserved g c = record {
   turns = c.loop-i.invariant.turns;
