@@ -134,8 +134,8 @@ impl<D: BatchDigest> ListHasher<D> {
 
     /// Writes what is made of each message to `bytes`, one output after another. There must be as many
     /// bytes as the outputs have. Nothing is allocated.
-    #[tactic(auto, using(crate::proofs::Chunks::count_chunks))]
     #[inline(always)]
+    #[tactic(auto, using(crate::proofs::Chunks::count_chunks))]
     pub fn write_joined(&self, messages: &[&[u8]], bytes: &mut [u8])
         requires { length bytes.old ≡ length messages.now * D.Output.LEN }
         ensures { bytes.new ≡ flat_map (made_by D.step D.output self.now) (targets messages.now) }

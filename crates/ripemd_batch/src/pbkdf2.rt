@@ -54,7 +54,7 @@ pub fn pbkdf2_hmac<D: BatchDigest>(
 ///
 /// `NoRounds` if `rounds` is 0, and else `KeyTooLong` if `size` is more than 2^32 - 1 digests. Nothing
 /// is written then.
-#[tactic(auto, using(crate::proofs::KeyBlocks::count_fits, crate::proofs::KeyBlocks::all_fit))]
+#[tactic(auto, using(crate::proofs::KeyBlocks::count_fits, crate::proofs::KeyBlocks::all_fit, std::proofs::lemmas::List::take_all), unfolding(crate::specs::Pbkdf2::pbkdf2_each))]
 pub fn pbkdf2_hmac_each<D: BatchDigest>(
     passwords: &[&[u8]],
     salts: &[&[u8]],

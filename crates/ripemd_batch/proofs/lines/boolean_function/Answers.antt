@@ -1,6 +1,4 @@
-use Rattle.std.proofs.Common.{◌≡◌, arith}
-use Rattle.ripemd_block.proofs.Factoring.{f1_factored}
-use Rattle.ripemd_batch.proofs.Factored.{f2_complemented, f3_factored, f4_complemented}
+use Rattle.ripemd_batch.proofs.Factored.{f2_complemented}
 use Rattle.ripemd_batch.proofs.lines.boolean_function.Goals as goal
 
 pub returns-in-2 : goal.returns-in-2

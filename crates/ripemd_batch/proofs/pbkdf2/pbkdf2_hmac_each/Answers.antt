@@ -1,12 +1,9 @@
-use Rattle.std.proofs.Common.{◌≡◌, ℕ, ◌+◌, ◌-◌, ◌*◌, ◌^◌, ◌<◌, ◌≤◌, List, ◌++◌, length, refl, ap, sym, ◌∙◌, arith, rules}
-use Rattle.std.proofs.lemmas.List.{length-map, take_all}
-use Rattle.std.proofs.Math.Nat.{mul-le-mul_left}
+use Rattle.std.proofs.Common.{◌≡◌, ℕ, ◌+◌, ◌-◌, ◌*◌, ◌≤◌, List, ◌++◌, length, ap, sym, ◌∙◌, arith, mul-le-mul_left}
 use Rattle.std.specs.List.{range_with_len, flat_map}
 use Rattle.ripemd_block.specs.Standard.Hashing.{hash}
 use Rattle.ripemd_mac.specs.Hmac.{hmac}
 use Rattle.ripemd_mac.specs.Pbkdf2.{pbkdf2}
 use Rattle.ripemd_mac.proofs.Deriving.{next_joined, front_put, part_size, put_size}
-use Rattle.ripemd_batch.specs.Pbkdf2.{pbkdf2_each}
 use Rattle.ripemd_batch.specs.Lanes.{list_at, targets}
 use Rattle.ripemd_batch.proofs.pbkdf2.pbkdf2_hmac_each.Goals as goal
 
@@ -38,13 +35,3 @@ loop-i-preserved g c =
           ∙ ap (λ x. x ++ key) c.loop-i.invariant.so_far ∙ ap (λ x. flat_map f (range_with_len 0 i) ++ x) whole
           ∙ sym (next_joined f 0 i i (omega arith));
     }
-
-pub returns-clause-ok : goal.returns-clause-ok
-unfolding pbkdf2_each
-returns-clause-ok g c =
-    let n : ℕ = length c.args.passwords.now in
-    let end : c.loop-i.i ≡ n = search (rules, arith) in
-    let all : length (targets c.args.passwords.now) ≡ n = length-map c.args.passwords.now (λ r. r.now) in
-    rw (all, ← end)
-    (sym (take_all (c.args.size * c.loop-i.i) c.loop-i.keys (rw end (omega (arith, c.loop-i.invariant.len, c.requires.room))))
-    ∙ c.loop-i.invariant.so_far)

@@ -3,8 +3,8 @@ use Rattle.std.specs.Int.{div_ceil}
 use Rattle.ripemd_block.specs.Standard.Hashing.{hash}
 use Rattle.ripemd_mac.specs.Hmac.{hmac}
 use Rattle.ripemd_mac.specs.Pbkdf2.{F, pbkdf2}
-use Rattle.ripemd_mac.proofs.Deriving.{Written, all_written, block_begins, none_written, one_more}
-use Rattle.ripemd_batch.specs.Pbkdf2.{HasBlocks, InGroup, KeyList}
+use Rattle.ripemd_mac.proofs.Deriving.{Written, all_written, block_begins, one_more}
+use Rattle.ripemd_batch.specs.Pbkdf2.{HasBlocks, KeyList}
 use Rattle.ripemd_batch.specs.Lanes.{list_at}
 use Rattle.ripemd_batch.proofs.KeyBlocks.{in_group, next_group}
 use Rattle.ripemd_batch.proofs.pbkdf2.KeyBlocks.write_key.Goals as goal
