@@ -95,7 +95,6 @@ impl<D: BatchDigest> ListHasher<D> {
     }
 
     /// A hasher that makes tags under a key of any length. The key is hashed here, once for all lists.
-    #[tactic(auto, using(crate::proofs::KeyBlocks::tags))]
     pub fn keyed(key: &[u8]) -> ListHasher<D>
         ensures { made_by D.step D.output result ≡ hmac (hash D.start D.step D.output) key.now }
     {

@@ -235,7 +235,6 @@ struct Chain<D: BatchDigest> {
 }
 
 // The chain of block `number` of the key of a password.
-#[tactic(auto, using(crate::proofs::KeyBlocks::block_is))]
 fn chain_of<D: BatchDigest>(password: &[u8], salt: &[u8], number: u32) -> Chain<D>
     ensures inner { D.Function.is_state result.inner }
     ensures outer { D.Function.is_state result.outer }
