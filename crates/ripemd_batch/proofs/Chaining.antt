@@ -1,6 +1,5 @@
 -- The digest of a digest, and one more tag.
-use Rattle.std.proofs.Common.{◌≡◌, ℕ, zero, suc, ◌+◌, ◌-◌, ◌≤◌, List, [], ◌∷◌, length, map, arith, refl, ap, ◌∙◌}
-use Rattle.std.specs.Int.Bits.{bit_xor}
+use Rattle.std.proofs.Common.{◌≡◌, ℕ, zero, suc, ◌+◌, ◌-◌, ◌≤◌, List, [], ◌∷◌, length, map, arith, refl, ap, ◌∙◌, bit_xor}
 use Rattle.std.specs.Simd.Lanes.{zip2}
 use Rattle.std.specs.List.{range_with_len, fold}
 use Rattle.std.specs.Fn.{iterate}

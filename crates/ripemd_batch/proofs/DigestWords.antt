@@ -1,20 +1,17 @@
 -- Words and their bytes: exclusive or, and the message words of a block.
-use Rattle.std.proofs.Common.{◌≡◌, ℕ, zero, suc, ◌+◌, ◌*◌, ◌/◌, ◌%◌, ◌^◌, ◌-◌, ◌<◌, ◌≤◌, zero-add, refl, ap, sym, ◌∙◌, arith}
-use Rattle.std.proofs.Common.{List, [], ◌∷◌, ◌++◌, get_or, length, length-append, map, replicate, slice_index}
-use Rattle.std.specs.Int.{w32, w64, to_le_bytes}
-use Rattle.std.specs.Int.Bits.{bit_xor}
+use Rattle.std.proofs.Common.{◌≡◌, ℕ, zero, suc, ◌+◌, ◌*◌, ◌/◌, ◌%◌, ◌^◌, ◌-◌, ◌<◌, ◌≤◌, w32, w64, bit_xor, refl, ap, sym, ◌∙◌, arith}
+use Rattle.std.proofs.Common.{List, [], ◌∷◌, ◌++◌, append_assoc, get_or, length, length-append, map, replicate, slice_index}
+use Rattle.std.specs.Int.{to_le_bytes}
 use Rattle.std.specs.Simd.Lanes.{zip2}
-use Rattle.std.specs.List.{range_with_len}
-use Rattle.std.proofs.lemmas.Simd.{zip2-map}
+use Rattle.std.proofs.lemmas.Simd.{get_or-zip2, length-zip2}
 use Rattle.std.proofs.lemmas.Nat.{from_le_bytes-to_le_bytes_4, xor_shr, xor_mod}
 use Rattle.std.proofs.lemmas.Grind.{flat_map-append}
-use Rattle.std.proofs.lemmas.List.{append_assoc, get_or_append_left, length-replicate}
-use Rattle.std.proofs.lemmas.List.FromFn.{length-map-range_with_len, get_or-map-range_with_len}
-use Rattle.std.proofs.Math.Seq.{get_or-append_right}
+use Rattle.std.proofs.lemmas.List.{get_or_append_left, get_or-append_right, length-replicate}
+use Rattle.ripemd_block.proofs.Tables.{value_at}
 use Rattle.ripemd_block.specs.Standard.Words.{message_word, word_bytes}
 use Rattle.ripemd_block.specs.Standard.Hashing.{with_padding, zero_count}
 use Rattle.ripemd_block.specs.Laws.WordBytes.{length-word_bytes}
-use Rattle.ripemd_batch.proofs.OneLane.{lane_is, word_in, word_is}
+use Rattle.ripemd_batch.proofs.OneLane.{lane_is, lane_size, lane_word, word_is}
 use Rattle.ripemd_batch.specs.Lanes.{HasWords, lane_at, lane_of, padded_after, padding_words}
 
 -- a byte of an exclusive or is that of the bytes
@@ -38,16 +35,16 @@ pub xor_lane : {V : Type 0} (words : V → List ℕ) (v a b : List V) (n j : ℕ
     → ((i : ℕ) → i < n → (d : V) → slice_index (words (get_or v i d)) j
     ≡ bit_xor (slice_index (words (get_or a i d)) j) (slice_index (words (get_or b i d)) j))
     → word_bytes (lane_of n j (map words v)) ≡ zip2 bit_xor (word_bytes (lane_of n j (map words a))) (word_bytes (lane_of n j (map words b)))
-xor_lane {V = V} words v a b n j count of_a of_b same =
-    let at : List V → ℕ → ℕ = λ v i. lane_at (map words v) i j in
-    let size : (v : List V) → length (lane_of n j (map words v)) ≡ n = λ v. length-map-range_with_len (at v) 0 n in
-    let differ : zip2 bit_xor (lane_of n j (map words a)) (lane_of n j (map words b)) ≡ lane_of n j (map words v) =
-    zip2-map bit_xor (at a) (at b) (range_with_len 0 n)
-    ∙ lane_is words v n j (map (λ i. bit_xor (at a i) (at b i)) (range_with_len 0 n)) count
-    (length-map-range_with_len (λ i. bit_xor (at a i) (at b i)) 0 n)
-    (λ i h d. get_or-map-range_with_len (λ i. bit_xor (at a i) (at b i)) 0 n i i 0 h (zero-add i)
-    ∙ rw (word_in words a i j d (omega (arith, of_a, h)), word_in words b i j d (omega (arith, of_b, h))) (sym (same i h d))) in
-    ap word_bytes (sym differ) ∙ xor_word_bytes (lane_of n j (map words a)) (lane_of n j (map words b)) (size (a) ∙ sym (size b))
+xor_lane words v a b n j count of_a of_b same =
+    let x : List ℕ = lane_of n j (map words a) in
+    let y : List ℕ = lane_of n j (map words b) in
+    let size : length x ≡ n = lane_size (map words a) n j in
+    let both : length x ≡ length y = size ∙ sym (lane_size (map words b) n j) in
+    let differ : zip2 bit_xor x y ≡ lane_of n j (map words v) =
+    lane_is words v n j (zip2 bit_xor x y) count (length-zip2 bit_xor x y both ∙ size)
+    (λ i h d. get_or-zip2 bit_xor x y i 0 0 0 (omega arith) (omega arith)
+    ∙ rw (lane_word words a n j i d of_a h, lane_word words b n j i d of_b h) (sym (same i h d))) in
+    ap word_bytes (sym differ) ∙ xor_word_bytes x y both
 
 -- message word i of the bytes of words is word i
 pub message_word_of : (words : List ℕ) (i : ℕ) → i < length words → slice_index words i < 2 ^ 32
@@ -61,21 +58,13 @@ message_word_of (w ∷ words) (suc i) within fits =
 -- ---- the last block of a message of words, after one block
 
 -- a word before the padding, and one of the padding
-pub word_in_front : {V : Type 0} (words : V → List ℕ) (vs : List V) (n j i : ℕ) (behind : List ℕ) (word : ℕ) → i < n
-    → word ≡ lane_at (map words vs) i j → word ≡ slice_index (lane_of n j (map words vs) ++ behind) i
-word_in_front words vs n j i behind word within is =
-    let v = map words vs in
-    let size : length (lane_of n j v) ≡ n = length-map-range_with_len (λ i. lane_at v i j) 0 n in
-    is ∙ sym (get_or_append_left (lane_of n j v) behind 0 i (omega (arith, size, within))
-    ∙ get_or-map-range_with_len (λ i. lane_at v i j) 0 n i i 0 within (zero-add i))
+pub word_in_front : (v : List (List ℕ)) (n j i : ℕ) (behind : List ℕ) → i < n → slice_index (lane_of n j v ++ behind) i ≡ lane_at v i j
+word_in_front v n j i behind within =
+    get_or_append_left (lane_of n j v) behind 0 i (omega (arith, lane_size v n j)) ∙ value_at (λ i. lane_at v i j) n i 0 within
 
-pub word_behind : {V : Type 0} (words : V → List ℕ) (vs : List V) (n j i : ℕ) (behind : List ℕ) (word : ℕ) → n ≤ i
-    → word ≡ slice_index behind (i - n) → word ≡ slice_index (lane_of n j (map words vs) ++ behind) i
-word_behind words vs n j i behind word past is =
-    let v = map words vs in
-    let size : length (lane_of n j v) ≡ n = length-map-range_with_len (λ i. lane_at v i j) 0 n in
-    is ∙ ap (λ k. slice_index behind (i - k)) (sym size)
-    ∙ sym (get_or-append_right (lane_of n j v) behind i 0 (omega (arith, size, past)))
+pub word_behind : (v : List (List ℕ)) (n j i : ℕ) (behind : List ℕ) → n ≤ i
+    → slice_index (lane_of n j v ++ behind) i ≡ slice_index behind (i - n)
+word_behind v n j i behind past = get_or-append_right (lane_of n j v) behind n i 0 (lane_size v n j) past
 
 zero_words : (n : ℕ) → word_bytes (replicate n 0) ≡ replicate (4 * n) 0
 zero_words zero = refl
@@ -112,17 +101,21 @@ length-padded : (words : List ℕ) (n : ℕ) → length words ≡ n → n ≤ 13
 length-padded words n many few =
     omega (arith, length-append words (padding_words n), length-append (replicate (13 - n) 0) ((512 + 32 * n) ∷ 0 ∷ []), length-replicate {A = ℕ} (13 - n) 0, many, few)
 
-pub padded_size : (words : List ℕ) (n : ℕ) → length words ≡ n → n ≤ 13 → length (padded_after 64 (word_bytes words)) ≡ 64
-padded_size words n many few =
-    rw (padded_words words n many few) (omega (arith, length-word_bytes (words ++ padding_words n), length-padded words n many few))
+pub padded_size : (v : List (List ℕ)) (n j : ℕ) → n ≤ 13 → length (padded_after 64 (word_bytes (lane_of n j v))) ≡ 64
+padded_size v n j few =
+    let words : List ℕ = lane_of n j v in
+    rw (padded_words words n (lane_size v n j) few)
+    (omega (arith, length-word_bytes (words ++ padding_words n), length-padded words n (lane_size v n j) few))
 
 -- the words of these bytes, if these vectors have them
-pub has_padded_words : {V : Type 0} (words_of : V → List ℕ) (v : List V) (words : List ℕ) (n j : ℕ) → length v ≡ 16 → length words ≡ n → n ≤ 13
-    → ((i : ℕ) → i < 16 → (d : V) → slice_index (words ++ padding_words n) i ≡ slice_index (words_of (get_or v i d)) j)
-    → ((i : ℕ) → i < 16 → (d : V) → slice_index (words_of (get_or v i d)) j < 2 ^ 32)
-    → HasWords (map words_of v) j (padded_after 64 (word_bytes words))
-has_padded_words words_of v words n j count many few same fit i h =
-    let size : length (words ++ padding_words n) ≡ 16 = length-padded words n many few in
-    rw (padded_words words n many few)
-    (sym (word_is words_of v i j (message_word (word_bytes (words ++ padding_words n)) i) (omega (arith, count, h))
-    (λ d. message_word_of (words ++ padding_words n) i (omega (arith, size, h)) (rw (same i h d) (fit i h d)) ∙ same i h d)))
+pub has_padded_words : {V : Type 0} (words : V → List ℕ) (states v : List V) (n j : ℕ) → length v ≡ 16 → n ≤ 13
+    → ((i : ℕ) → i < 16 → (d : V) → slice_index (lane_of n j (map words states) ++ padding_words n) i ≡ slice_index (words (get_or v i d)) j)
+    → ((i : ℕ) → i < 16 → (d : V) → slice_index (words (get_or v i d)) j < 2 ^ 32)
+    → HasWords (map words v) j (padded_after 64 (word_bytes (lane_of n j (map words states))))
+has_padded_words words states v n j count few same fit i h =
+    let many = lane_size (map words states) n j in
+    let all : List ℕ = lane_of n j (map words states) ++ padding_words n in
+    let size : length all ≡ 16 = length-padded (lane_of n j (map words states)) n many few in
+    rw (padded_words (lane_of n j (map words states)) n many few)
+    (sym (word_is words v i j (message_word (word_bytes all) i) (omega arith)
+    (λ d. message_word_of all i (omega arith) (rw (same i h d) (fit i h d)) ∙ same i h d)))

@@ -7,6 +7,4 @@ pub mod KeyBlocks
 pub mod OneLane
 pub mod Placing
 pub mod Rotating
-pub mod Transposing
 pub mod Turns
-pub mod Walking

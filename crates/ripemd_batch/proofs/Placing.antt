@@ -1,10 +1,7 @@
 -- Elements put in their places, one after another.
-use Rattle.std.proofs.Common.{◌≡◌, ℕ, ◌+◌, ◌-◌, ◌<◌, ◌≤◌, min, arith, refl, sym, ap, ◌∙◌}
+use Rattle.std.proofs.Common.{◌≡◌, ℕ, ◌+◌, ◌-◌, ◌<◌, ◌≤◌, min, Bor, append_assoc, length-drop, length-set, length-take-le, take-add, arith, ◌∙◌}
 use Rattle.std.proofs.Common.{List, [], ◌∷◌, ◌++◌, length, map, take, drop, slice_set}
-use Rattle.std.proofs.lemmas.List.{append_assoc, take_more, take_more_set, take-map, drop-map, length-set}
-use Rattle.std.proofs.lemmas.List.{length-map, length-take-le, length-drop, get_or-map}
-use Rattle.std.proofs.Math.Seq.{take-add}
-use Rattle.std.specs.Borrow.{Bor}
+use Rattle.std.proofs.lemmas.List.{drop-map, get_or-map, length-map, take_more, take_more_set, take-map}
 use Rattle.ripemd_batch.specs.Lanes.{PutFrom, list_at, targets}
 
 module _ (made : List ℕ → List ℕ) (messages : List (Bor (List ℕ))) (old : List (List ℕ)) (at : ℕ) where
@@ -17,17 +14,17 @@ module _ (made : List ℕ → List ℕ) (messages : List (Bor (List ℕ))) (old 
   pub put_next : (j : ℕ) (list : List (List ℕ)) (a : List ℕ) → at + length messages ≤ length old → j < length messages
       → a ≡ made (list_at (targets messages) j) → Put j list → Put (j + 1) (slice_set list (at + j) a)
   put_next j list a room in_messages next before =
-      let outputs : List (List ℕ) = map made (targets messages) in
-      let many : length (targets messages) ≡ length messages = length-map messages (λ m. m.now) in
+      let all : List (List ℕ) = targets messages in
+      let outputs : List (List ℕ) = map made all in
+      let many : length all ≡ length messages = length-map messages (λ m. m.now) in
       let here : min j (length messages) ≡ j = omega arith in
       let more : min (j + 1) (length messages) ≡ j + 1 = omega arith in
       let behind : at + (j + 1) ≡ at + j + 1 = omega arith in
+      let front = take_more_set list (at + j) a (omega (arith, before.size)) in
+      let taken = take_more outputs j [] (omega (arith, many, length-map all made)) in
       record {
         size = length-set list (at + j) a ∙ before.size;
-        so_far = rw (more, behind) (take_more_set list (at + j) a (omega (arith, before.size))
-            ∙ ap (λ xs. xs ++ a ∷ []) (rw here at before.so_far) ∙ append_assoc (take at old) (take j outputs) (a ∷ [])
-            ∙ ap (λ x. take at old ++ (take j outputs ++ x ∷ [])) (next ∙ sym (get_or-map made (targets messages) j [] [] (omega (arith, many))))
-            ∙ ap (λ xs. take at old ++ xs) (sym (take_more outputs j [] (omega (arith, many, length-map (targets messages) made)))));
+        so_far = cc (append_assoc (take at old) (take j outputs) (a ∷ []), get_or-map made all j [] [] (omega (arith, many)));
       }
 
   pub put_no_more : (j : ℕ) (list : List (List ℕ)) → length messages ≤ j → Put j list → Put (j + 1) list
@@ -42,22 +39,13 @@ module _ (made : List ℕ → List ℕ) (messages : List (Bor (List ℕ))) (old 
       let k : ℕ = end - j in
       let all : List (List ℕ) = targets messages in
       let outputs : List (List ℕ) = map made all in
-      let same : map made (targets (take k (drop j messages))) ≡ take k (drop j outputs) =
-      rw (drop-map made j all, take-map made k (drop j all), drop-map (λ m. m.now) j messages, take-map (λ m. m.now) k (drop j messages)) refl in
-      let size : length (map made (targets (take k (drop j messages)))) ≡ k =
-      omega (
-        arith,
-        length-map (targets (take k (drop j messages))) made,
-        length-map (take k (drop j messages)) (λ m. m.now),
-        length-take-le k (drop j messages) (omega (arith, length-drop j messages)),
-      ) in
+      let these : map made (targets (take k (drop j messages))) ≡ take k (drop j outputs) = simp (drop-map, take-map) in
+      let size : length (take k (drop j outputs)) ≡ k =
+      length-take-le k (drop j outputs) (omega (arith, length-drop j outputs, length-map all made, length-map messages (λ m. m.now))) in
       let here : min j (length messages) ≡ j = omega arith in
       let whole : min (j + n) (length messages) ≡ j + k = omega arith in
       let behind : at + (j + k) ≡ at + j + k = omega arith in
       record {
         size = part.0 ∙ before.size;
-        so_far = rw (whole, behind) ((rw (size, same) at part.1)
-            ∙ ap (λ xs. xs ++ take k (drop j outputs)) (rw here at before.so_far)
-            ∙ append_assoc (take at old) (take j outputs) (take k (drop j outputs))
-            ∙ ap (λ xs. take at old ++ xs) (sym (take-add j k outputs)));
+        so_far = cc (part.1, append_assoc (take at old) (take j outputs) (take k (drop j outputs)), take-add j k outputs);
       }

@@ -1,12 +1,11 @@
 -- The turns of one message: its blocks one after another, and then, if there is a state for it, its output hashed
 -- again.
-use Rattle.std.proofs.Common.{◌≡◌, ℕ, ◌+◌, ◌<◌, ◌≤◌, arith, rules, refl, ap, ◌∙◌}
-use Rattle.std.proofs.Common.{List, [], length, take, get_or, Option, None, Some, cond}
-use Rattle.std.specs.Option.{IfSome, is_some, unwrap_or}
-use Rattle.std.proofs.lemmas.List.{take_all}
+use Rattle.std.proofs.Common.{◌≡◌, ℕ, ◌+◌, ◌<◌, ◌≤◌, inl, inr, arith, refl, ap, ◌∙◌, take_all}
+use Rattle.std.proofs.Common.{List, [], length, take, get_or, Option, None, Some, is_some, unwrap_or, cond}
+use Rattle.std.proofs.lemmas.Bool.{cases_lt}
+use Rattle.std.proofs.lemmas.List.Sums.{fold_more}
 use Rattle.ripemd_block.specs.Standard.Hashing.{blocks, walk}
 use Rattle.ripemd_batch.specs.Lanes.{padded_after, hash_after, hashed_again, listed}
-use Rattle.ripemd_batch.proofs.Walking.{walk_on, output_after}
 
 -- the number of turns, for at most so many blocks
 abbrev pub turns_of : {S : Type 0} → Option S → ℕ → ℕ
@@ -17,12 +16,11 @@ module _ (step : List ℕ → List ℕ → List ℕ) (output : List ℕ → List
   -- the words after i turns
   pub record Turned (outer : Option S) (i : ℕ) (words : List ℕ) : Type 0 where
     pub walked : i ≤ most → words ≡ walk step first (take i bs)
-    pub again : IfSome outer (λ state. most < i
-        → output words ≡ hash_after 64 (list state) step output (output (walk step first bs)))
+    pub again : (state : S) → outer ≡ Some state → most < i
+        → output words ≡ hash_after 64 (list state) step output (output (walk step first bs))
 
   pub none_turned : (outer : Option S) (words : List ℕ) → words ≡ first → Turned outer 0 words
-  none_turned None words is = record { walked = λ _. is; again = search rules }
-  none_turned (Some outer) words is = record { walked = λ _. is; again = λ h. absurd (omega (arith, h)) }
+  none_turned outer words is = record { walked = λ _. is; again = λ state some h. absurd (omega arith) }
 
   pub turn_on : (outer : Option S) (default second : S) (i : ℕ) (before after : List ℕ) → length bs ≤ most
       → i < turns_of outer most → second ≡ unwrap_or outer default
@@ -30,32 +28,24 @@ module _ (step : List ℕ → List ℕ → List ℕ) (output : List ℕ → List
       → (i < most → length bs ≤ i → after ≡ before)
       → (most ≤ i → output after ≡ hash_after 64 (list second) step output (output before))
       → Turned outer i before → Turned outer (i + 1) after
-  turn_on None default second i before after top here is taken kept more t =
-      let fits : i < most = here in
-      record {
-        walked = λ h. walk_on step first bs i before after (t.walked (omega (arith, fits))) (taken fits) (kept fits);
-        again = search rules;
-      }
-  turn_on (Some outer) default second i before after top here is taken kept more t = record {
+  turn_on outer default second i before after top here is taken kept more t = record {
     walked = λ h.
-        let fits : i < most = omega (arith, h) in
-        walk_on step first bs i before after (t.walked (omega (arith, fits))) (taken fits) (kept fits);
-    again = λ h.
-        let end : most ≤ i = omega (arith, h) in
-        let last : i < most + 1 = here in
-        let all = t.walked (omega (arith, last)) ∙ ap (walk step first) (take_all i bs (omega (arith, end, top))) in
-        (rw is at more end) ∙ ap (λ (words : List ℕ). hash_after 64 (list outer) step output (output words)) all;
+        let so_far = t.walked (omega arith) in
+        elim (cases_lt i (length bs)) [
+          | inl block ↦ rw (fold_more step first bs i [] block, ← so_far) (taken (omega arith) block)
+          | inr none ↦ rw (kept (omega arith) none, so_far, take_all i bs none, take_all (i + 1) bs (omega arith)) refl
+        ];
+    again = λ state some h.
+        let last : i < most + 1 = rw some at here in
+        let all = t.walked (omega arith) ∙ ap (walk step first) (take_all i bs (omega arith)) in
+        (rw (is, some) at more (omega arith)) ∙ ap (λ (words : List ℕ). hash_after 64 (list state) step output (output words)) all;
   }
 
   pub all_turned : (outer : Option S) (before i : ℕ) (words message : List ℕ) → length bs ≤ most
       → i ≡ turns_of outer most → bs ≡ blocks (padded_after before message) → Turned outer i words
       → output words ≡ hashed_again step output (listed list outer) (hash_after before first step output) message
+  unfolding hash_after
   all_turned None before i words message top end are t =
-      let all : i ≡ most = end in
-      output_after before first step step output output message words
-      (t.walked (omega (arith, all)) ∙ ap (walk step first) (take_all i bs (omega (arith, all, top)) ∙ are)) refl refl
+      ap output (t.walked (omega (arith, end)) ∙ ap (walk step first) (take_all i bs (omega (arith, end)) ∙ are))
   all_turned (Some outer) before i words message top end are t =
-      let all : i ≡ most + 1 = end in
-      t.again (omega (arith, all))
-      ∙ ap (hash_after 64 (list outer) step output)
-      (output_after before first step step output output message (walk step first bs) (ap (walk step first) are) refl refl)
+      t.again outer refl (omega (arith, end)) ∙ ap (λ (all : List (List ℕ)). hash_after 64 (list outer) step output (output (walk step first all))) are

@@ -28,6 +28,7 @@ fn joint_state<V: Lanes>(state: [V; 5], lines: Lines<[V; 5]>) -> [V; 5]
 }
 
 /// The states after a block of each message, with these message words.
+#[tactic(auto, unfolding(ripemd_block::specs::Standard::Compression::compress, ripemd_block::specs::Standard::Compression::lines_after))]
 pub(crate) fn compress<V: Lanes>(state: [V; 5], words: &[V; 16]) -> [V; 5]
     ensures { (j : ℕ) → j < V.COUNT → (block : List ℕ) → HasWords (map V.words words.now) j block
         → lane_of 5 j (map V.words result)

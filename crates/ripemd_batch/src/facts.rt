@@ -13,6 +13,7 @@ pub fn two_messages()
 {}
 
 /// Two keys are that of the first password and salt, and then that of the second.
+#[tactic(auto, unfolding(crate::specs::Pbkdf2::pbkdf2_each))]
 pub fn two_keys()
     ensures { (PRF : List ℕ → List ℕ → List ℕ) → (P1 P2 S1 S2 : List ℕ) → (hLen c dkLen : ℕ)
         → pbkdf2_each PRF hLen (P1 ∷ P2 ∷ []) (S1 ∷ S2 ∷ []) c dkLen

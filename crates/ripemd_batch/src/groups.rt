@@ -309,6 +309,7 @@ fn most(counts: &[usize; 8]) -> usize
 
 // The states after block `i` of the messages that have one; the others stay. Or, if `again`, the states after the
 // outputs, hashed as messages after one block, which led to the state `second`.
+#[tactic(auto, using(crate::proofs::Chaining::hash_of_one))]
 #[inline(always)]
 fn next_states<S: LaneStates>(
     states: S,

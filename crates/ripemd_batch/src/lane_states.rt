@@ -91,6 +91,7 @@ fn select_each<V: Lanes, const N: usize>(live: V, new: [V; N], old: [V; N]) -> [
 }
 
 // What `last_words` gives.
+#[tactic(auto, using(crate::proofs::DigestWords::padded_size))]
 #[inline(always)]
 fn last_words_of<V: Lanes, const N: usize>(states: [V; N]) -> [V; 16]
     requires { N ≤ 13 }
@@ -108,6 +109,7 @@ fn last_words_of<V: Lanes, const N: usize>(states: [V; N]) -> [V; 16]
 }
 
 // Word `i` of `last_words`.
+#[tactic(auto, using(crate::proofs::DigestWords::word_in_front, crate::proofs::DigestWords::word_behind, crate::proofs::OneLane::word_in))]
 #[inline(always)]
 fn last_word<V: Lanes, const N: usize>(states: &[V; N], i: usize) -> V
     requires few { N ≤ 13 }

@@ -1,10 +1,10 @@
 //! Vectors with a word of each of four or eight messages.
 
-ghost use Rattle.std.specs.Prelude.{◌≡◌, ◌<◌, ◌≤◌, ◌+◌, ◌*◌, ◌^◌, ℕ, List, map, slice_index, bit_xor, bit_and};
+ghost use Rattle.std.specs.Prelude.{◌≡◌, ◌<◌, ◌≤◌, ◌+◌, ◌*◌, ◌^◌, ℕ, List, slice_index, slice_index_or, bit_xor, bit_and};
 ghost use Rattle.std.specs.Int.{w32, bit_not};
 ghost use Rattle.std.specs.Mem.{type_size};
 ghost use Rattle.ripemd_block.specs.Standard.Words.{◌⊞◌, message_word, rol};
-ghost use Rattle.ripemd_batch.specs.Lanes.{lane_at, list_at, targets};
+ghost use Rattle.ripemd_batch.specs.Lanes.{list_at, targets};
 
 /// Vectors with a word of each message. Not exported, so that no other crate can call it.
 pub trait Lanes: Copy {
@@ -63,7 +63,8 @@ pub trait Lanes: Copy {
     /// Message words `4 * i` to `4 * i + 3` of the first of eight blocks.
     fn four_message_words(blocks: &[&[u8; 64]; 8], i: usize) -> [Self; 4]
         requires { i < 4 }
-        ensures { (k : ℕ) → k < 4 → (j : ℕ) → j < COUNT → lane_at (map words result) k j
+        ensures { (k : ℕ) → k < 4 → (j : ℕ) → j < COUNT → (d : Self)
+            → slice_index (words (slice_index_or result k d)) j
             ≡ message_word (list_at (targets blocks.now) j) (4 * i + k) };
 
     // There are at most eight words.

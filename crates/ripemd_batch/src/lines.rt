@@ -100,6 +100,7 @@ impl<V: Lanes> LineRegisters for [V; 5] {
         }
     }
 
+    #[tactic(auto, using(crate::proofs::OneLane::word_in))]
     #[inline(always)]
     fn step(self, side: Side, r: usize, x: V, k: u32, s: u32) -> [V; 5] {
         let [a, b, c, d, e] = self;
@@ -164,6 +165,7 @@ fn word_number(side: Side, r: usize, i: usize) -> usize
 }
 
 // Step `i` of round `r` of a line.
+#[tactic(auto, using(ripemd_block::proofs::Stepping::one_more_step, crate::proofs::OneLane::word_in))]
 #[inline(always)]
 fn step_at<R: LineRegisters>(
     side: Side,

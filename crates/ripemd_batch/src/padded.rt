@@ -28,6 +28,7 @@ impl<'a, 'b> Model for MessageBlocks<'a, 'b> {
 impl<'a, 'b> MessageBlocks<'a, 'b> {
     /// The blocks of a message with its padding. The length counts also the `before` bytes before it. The last blocks
     /// are made in place of two blocks of zero bytes.
+    #[tactic(auto, using(ripemd_block::specs::Laws::Pieces::with_padding_rest))]
     #[inline(always)]
     pub(crate) fn of(
         before: u64,

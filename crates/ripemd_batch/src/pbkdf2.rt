@@ -26,6 +26,7 @@ use std::marker::Model;
 ///
 /// `NoRounds` if `rounds` is 0, and else `KeyTooLong` if `key` is longer than 2^32 - 1 digests. Nothing
 /// is written then.
+#[tactic(auto, unfolding(crate::specs::Pbkdf2::pbkdf2_each))]
 pub fn pbkdf2_hmac<D: BatchDigest>(
     password: &[u8],
     salt: &[u8],
@@ -53,6 +54,7 @@ pub fn pbkdf2_hmac<D: BatchDigest>(
 ///
 /// `NoRounds` if `rounds` is 0, and else `KeyTooLong` if `size` is more than 2^32 - 1 digests. Nothing
 /// is written then.
+#[tactic(auto, using(crate::proofs::KeyBlocks::count_fits, crate::proofs::KeyBlocks::all_fit, std::proofs::lemmas::List::take_all), unfolding(crate::specs::Pbkdf2::pbkdf2_each))]
 pub fn pbkdf2_hmac_each<D: BatchDigest>(
     passwords: &[&[u8]],
     salts: &[&[u8]],
@@ -72,9 +74,6 @@ pub fn pbkdf2_hmac_each<D: BatchDigest>(
 {
     let digest = digest_size::<D>();
     allowed(rounds, digest, size)?;
-    if size == 0 {
-        return Ok(());
-    }
     let of = KeyBlocks {
         passwords,
         salts,
@@ -333,6 +332,7 @@ fn digest_block<S: LaneStates>(states: &S, j: usize, live: usize) -> [u8; 64]
 
 // The states whose outputs are the exclusive or of `rounds` tags: the outputs of `first`, their tags, the tags of
 // these, and so on.
+#[tactic(auto, using(crate::proofs::Chaining::next_tag, crate::proofs::Chaining::next_combined), unfolding(crate::specs::Pbkdf2::combined_tags))]
 #[inline(never)]
 fn combined_tags<S: LaneStates>(inner: S, outer: S, first: S, rounds: u32) -> S
     requires { 0 < rounds }
@@ -380,6 +380,7 @@ fn first_of_half<S: LaneStates>(half: usize, inner: S, outer: S) -> S
 
 // The states whose outputs are the digests of the outputs of `digest`, as messages after one block, which led to
 // `first`.
+#[tactic(auto, using(crate::proofs::Chaining::hash_of_one))]
 #[inline(always)]
 fn digest_after<S: LaneStates>(first: S, digest: S) -> S
     ensures { (j : ℕ) → j < S.Vector.COUNT → S.Function.output (S.words_of j result)

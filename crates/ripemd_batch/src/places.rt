@@ -40,6 +40,7 @@ impl<O: ByteArray> Places<O> for Bytes {
 
     ghost list = { λ bytes. chunks O.LEN bytes };
 
+    #[tactic(auto, using(crate::proofs::Chunks::chunk_end, crate::proofs::Chunks::put_chunk))]
     fn put(bytes: &mut [u8], i: usize, output: O) {
         write_chunk(bytes, i, output.as_bytes());
     }

@@ -1,20 +1,10 @@
-use Rattle.std.proofs.Common.{◌≡◌, ℕ, ◌<◌, List, [], ◌∷◌, length, arith, sym, ◌∙◌}
+use Rattle.std.proofs.Common.{◌≡◌, ℕ, ◌<◌, List, [], ◌∷◌, length, arith, ◌∙◌}
 use Rattle.std.proofs.lemmas.Bool.{lt-leb, le-leb}
 use Rattle.ripemd_block.specs.Standard.Hashing.{blocks}
 use Rattle.ripemd_batch.specs.Lanes.{targets, list_at, blocks_of, padded_after}
 use Rattle.ripemd_batch.proofs.EightLanes.{below_eight}
-use Rattle.ripemd_batch.proofs.Turns.{none_turned, turns_of, turn_on, all_turned}
+use Rattle.ripemd_batch.proofs.Turns.{turns_of, turn_on, all_turned}
 use Rattle.ripemd_batch.proofs.groups.walk_group.Goals as goal
-use Rattle.ripemd_batch.proofs.groups.walk_group.Goals.{then-is_some, else-is_some}
-
-pub loop-i-init : goal.loop-i-init
-loop-i-init g c = record {
-  turns = elim c.if-is_some.branch [
-    | then-is_some w ↦ rw (sym c.is_some.ensures ∙ w.if-is_some.true) w.turns-is
-    | else-is_some w ↦ rw (sym c.is_some.ensures ∙ w.if-is_some.false) w.turns-is
-  ];
-  turned = λ j h. none_turned _ _ _ _ _ _ c.args.outer _ (c.splat-states.ensures j h);
-}
 
 pub loop-i-preserved : goal.loop-i-preserved
 loop-i-preserved g c = record {

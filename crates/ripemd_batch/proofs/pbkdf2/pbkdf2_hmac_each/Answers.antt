@@ -1,43 +1,11 @@
-use Rattle.std.proofs.Common.{◌≡◌, ℕ, ◌+◌, ◌-◌, ◌*◌, ◌^◌, ◌<◌, ◌≤◌, List, ◌++◌, length, refl, ap, sym, ◌∙◌, arith, rules}
-use Rattle.std.proofs.lemmas.List.{length-map, take_all}
-use Rattle.std.proofs.Math.Nat.{mul-le-mul_left}
+use Rattle.std.proofs.Common.{◌≡◌, ℕ, ◌+◌, ◌-◌, ◌*◌, ◌≤◌, List, ◌++◌, length, ap, sym, ◌∙◌, arith, mul-le-mul_left}
 use Rattle.std.specs.List.{range_with_len, flat_map}
 use Rattle.ripemd_block.specs.Standard.Hashing.{hash}
 use Rattle.ripemd_mac.specs.Hmac.{hmac}
 use Rattle.ripemd_mac.specs.Pbkdf2.{pbkdf2}
 use Rattle.ripemd_mac.proofs.Deriving.{next_joined, front_put, part_size, put_size}
-use Rattle.ripemd_batch.specs.Pbkdf2.{pbkdf2_each}
 use Rattle.ripemd_batch.specs.Lanes.{list_at, targets}
-use Rattle.ripemd_batch.proofs.KeyBlocks.{all_fit, count_fits, no_keys}
 use Rattle.ripemd_batch.proofs.pbkdf2.pbkdf2_hmac_each.Goals as goal
-
-pub returns-then-size-eq0-clause-ok : goal.returns-then-size-eq0-clause-ok
-unfolding pbkdf2_each pbkdf2
-returns-then-size-eq0-clause-ok g c =
-    let none : length c.args.keys.now ≡ 0 = c.requires.room ∙ rw (c.if-size-eq0.true) (omega arith) in
-    let d = g.D.Digest in
-    let f : ℕ → List ℕ = λ i. pbkdf2 (hmac (hash d.start d.step d.output)) g.D.OutputSizeUser.OUTPUT_SIZE
-    (list_at (targets c.args.passwords.now) i) (list_at (targets c.args.salts.now) i) c.args.rounds 0 in
-    rw (c.if-size-eq0.true) (no_keys c.args.keys.now f (range_with_len 0 (length (targets c.args.passwords.now))) none (λ i. refl))
-
-pub invariant_of-of : goal.invariant_of-of
-invariant_of-of g c =
-    let size : ℕ = c.args.size in
-    let digest : ℕ = c.digest_size-digest.result in
-    let some : 0 < digest = c.digest_size-digest.ensures.some in
-    let most : size ≤ (2 ^ 32 - 1) * digest = search rules in
-    let n : ℕ = length c.args.passwords.now in
-    let room : size * n < 2 ^ 63 = search (rules, arith) in
-    rw c.div_ceil.ensures (search (rules, arith), search rules, count_fits size digest some most, all_fit size digest n some room)
-
-pub loop-i-init : goal.loop-i-init
-loop-i-init g c = record {
-  len = refl;
-  group = λ more. absurd (omega (arith, more));
-  so_far =
-      let none : c.args.size * 0 ≡ 0 = omega arith in
-      rw none refl;
-}
 
 pub loop-i-preserved : goal.loop-i-preserved
 loop-i-preserved g c =
@@ -67,13 +35,3 @@ loop-i-preserved g c =
           ∙ ap (λ x. x ++ key) c.loop-i.invariant.so_far ∙ ap (λ x. flat_map f (range_with_len 0 i) ++ x) whole
           ∙ sym (next_joined f 0 i i (omega arith));
     }
-
-pub returns-clause-ok : goal.returns-clause-ok
-unfolding pbkdf2_each
-returns-clause-ok g c =
-    let n : ℕ = length c.args.passwords.now in
-    let end : c.loop-i.i ≡ n = search (rules, arith) in
-    let all : length (targets c.args.passwords.now) ≡ n = length-map c.args.passwords.now (λ r. r.now) in
-    rw (all, ← end)
-    (sym (take_all (c.args.size * c.loop-i.i) c.loop-i.keys (rw end (omega (arith, c.loop-i.invariant.len, c.requires.room))))
-    ∙ c.loop-i.invariant.so_far)

@@ -1,23 +1,13 @@
-use Rattle.std.proofs.Common.{◌≡◌, ℕ, ◌+◌, ◌-◌, ◌*◌, ◌%◌, ◌<◌, min, List, length, take, drop, ap, refl, sym, ◌∙◌, arith, rules, subst}
-use Rattle.std.proofs.lemmas.List.{length-take-le, length-drop}
-use Rattle.std.proofs.lemmas.Nat.{mul-add-lt}
+use Rattle.std.proofs.Common.{◌≡◌, ℕ, ◌+◌, ◌-◌, ◌*◌, ◌%◌, ◌<◌, min, List, length, take, drop, length-take-le, length-drop, ap, sym, ◌∙◌, arith, rules, subst}
 use Rattle.std.specs.Int.{div_ceil}
 use Rattle.ripemd_block.specs.Standard.Hashing.{hash}
 use Rattle.ripemd_mac.specs.Hmac.{hmac}
 use Rattle.ripemd_mac.specs.Pbkdf2.{F, pbkdf2}
-use Rattle.ripemd_mac.proofs.Deriving.{Written, all_written, block_begins, none_written, one_more}
-use Rattle.ripemd_batch.specs.Pbkdf2.{HasBlocks, InGroup, IsFilled, KeyList, block_at, total}
+use Rattle.ripemd_mac.proofs.Deriving.{Written, all_written, block_begins, one_more}
+use Rattle.ripemd_batch.specs.Pbkdf2.{HasBlocks, KeyList}
 use Rattle.ripemd_batch.specs.Lanes.{list_at}
-use Rattle.ripemd_batch.proofs.KeyBlocks.{block_in_key, in_group, next_group}
+use Rattle.ripemd_batch.proofs.KeyBlocks.{in_group, next_group}
 use Rattle.ripemd_batch.proofs.pbkdf2.KeyBlocks.write_key.Goals as goal
-
-pub loop-b-init : goal.loop-b-init
-loop-b-init g c = record {
-  group =
-      let first : c.args.self.now.count * c.args.i + 0 ≡ c.args.self.now.count * c.args.i = omega arith in
-      rw first c.requires.group;
-  written = none_written _ c.digest_size-size.result (length c.args.key.now) c.args.key.now refl;
-}
 
 pub loop-b-preserved : goal.loop-b-preserved
 loop-b-preserved g c =
@@ -25,7 +15,6 @@ loop-b-preserved g c =
     let digest : ℕ = g.D.OutputSizeUser.OUTPUT_SIZE in
     let keys = c.args.self.now in
     let i : ℕ = c.args.i in
-    let f : ℕ → List ℕ = F tag (list_at keys.passwords i) (list_at keys.salts i) keys.rounds in
     let size : ℕ = c.digest_size-size.result in
     let n : ℕ = length c.args.key.now in
     let b : ℕ = c.loop-b.b in
@@ -35,23 +24,18 @@ loop-b-preserved g c =
     let key = c.loop-b.key in
     let group = c.begin_group.new.group in
     let own : c.self.inside.count ≡ keys.count = ap (λ (keys : KeyList). keys.count) c.self.view_is in
+    let place : k ≡ keys.count * i + b = ap (λ count. count * i + b) own in
     let is : size ≡ digest = c.digest_size-size.ensures.size in
     let within : b < keys.count = rw (← own) c.loop-b-test.true in
     let inside : at < n = block_begins n size b c.digest_size-size.ensures.some (rw (is, ← c.requires.count) within) in
-    let blocks : HasBlocks digest tag keys (k - k % 8) group =
-    c.begin_group.ensures (subst (λ (count : ℕ). InGroup digest tag keys (count * i + b) c.loop-b.group) (sym own) c.loop-b.invariant.group) in
-    let within_all : k < total keys = rw own (omega (arith, mul-add-lt i keys.count b (length keys.passwords) c.requires.pair within)) in
-    let has : IsFilled digest (list_at group (k % 8)) (f (b + 1)) =
-    subst (IsFilled digest (list_at group (k % 8)))
-    (ap (λ count. block_at tag keys (count * i + b)) own ∙ block_in_key tag keys i b within)
-    (in_group digest tag keys k group blocks within_all) in
+    let blocks : HasBlocks digest tag keys (k - k % 8) group = c.begin_group.ensures (rw place c.loop-b.invariant.group) in
+    let has = in_group digest tag keys i b k group c.requires.pair within place blocks in
     let is_end : end ≡ min n (at + size) = c.min-end.ensures ∙ ap (λ len. min len (at + size)) c.loop-b.invariant.written.len in
     let room = c.write_front.auto.part in
     let behind = length-drop at key in
     record {
-      group = next_group digest tag keys k (keys.count * i + (b + 1)) group blocks
-          (ap (λ count. count * i + (b + 1)) (sym own) ∙ omega arith);
-      written = one_more f size n b end key c.write_front.new.part (drop (end - at) (drop at key)) (list_at group (k % 8))
+      group = next_group digest tag keys k (keys.count * i + (b + 1)) group blocks (omega arith);
+      written = one_more _ size n b end key c.write_front.new.part (drop (end - at) (drop at key)) (list_at group (k % 8))
           c.loop-b.invariant.written inside is_end
           (room ∙ length-take-le (end - at) (drop at key) (omega (arith, behind, c.loop-b.invariant.written.len, is_end)))
           (omega (arith, length-drop (end - at) (drop at key), behind, c.loop-b.invariant.written.len, is_end, inside))
@@ -72,13 +56,3 @@ returns-clause-key g c =
     rw (← is)
     (all_written f size n c.loop-b.key c.digest_size-size.ensures.some
     (subst (λ (b : ℕ). Written f size n b c.loop-b.key) end c.loop-b.invariant.written))
-
-pub returns-clause-group : goal.returns-clause-group
-returns-clause-group g c =
-    let tag = hmac (hash g.D.Digest.start g.D.Digest.step g.D.Digest.output) in
-    let keys = c.args.self.now in
-    let count : ℕ = keys.count in
-    let own : c.self.inside.count ≡ count = ap (λ (keys : KeyList). keys.count) c.self.view_is in
-    let end : c.loop-b.b ≡ c.self.inside.count = search (rules, arith) in
-    let next : count * c.args.i + c.loop-b.b ≡ count * (c.args.i + 1) = omega (arith, own, end) in
-    subst (λ (k : ℕ). InGroup g.D.OutputSizeUser.OUTPUT_SIZE tag keys k c.loop-b.group) next c.loop-b.invariant.group
