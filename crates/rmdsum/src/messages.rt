@@ -1,6 +1,6 @@
 //! What the program says on standard error.
 
-ghost use Rattle.std.specs.Prelude.{◌≡◌, IfErr, None, OnOk, Some};
+ghost use Rattle.std.specs.Prelude.{◌≡◌, IfErr, None, OnOk, Some, ⊤};
 
 use crate::arguments::program;
 use crate::quoting::{Charset, quoteaf, quotef};
@@ -9,7 +9,7 @@ use ripemd_files::Variant;
 use ripemd_files::fault::Fault;
 use ripemd_files::log::{Complaint, Log};
 use std::io;
-use std::io::{ErrorKind, Write};
+use std::io::{ErrorKind, Stdout, Write};
 
 /// What is said, after the program's name.
 #[derive(Clone, Copy)]
@@ -215,7 +215,7 @@ impl Log for Console<'_> {
     ghost told = { λ console. record { items = None; failure = console.failure } };
 
     fn write(&mut self, lines: &[u8]) -> io::Result<()> {
-        let outcome = write_lines(self.rt, lines);
+        let outcome = write_lines(&mut self.rt.stdout(), lines);
         self.keep(outcome)
     }
 
@@ -230,8 +230,33 @@ impl Log for Console<'_> {
     }
 }
 
-fn write_lines(rt: &HostRuntime, lines: &[u8]) -> io::Result<()> {
-    let mut out = rt.stdout();
-    out.write_all(lines)?;
+// What is written through a buffer.
+trait Output {
+    // Whether nothing is left in the buffer.
+    ghost is_flushed: { Self → Type 0 } = { λ output. ⊤ };
+
+    // Writes bytes, perhaps to the buffer alone.
+    fn put(&mut self, bytes: &[u8]) -> io::Result<()>;
+
+    // Writes what the buffer has.
+    fn flush(&mut self) -> io::Result<()>
+        ensures { OnOk result (is_flushed self.new) };
+}
+
+impl Output for Stdout {
+    fn put(&mut self, bytes: &[u8]) -> io::Result<()> {
+        self.write_all(bytes)
+    }
+
+    fn flush(&mut self) -> io::Result<()> {
+        Write::flush(self)
+    }
+}
+
+// Writes lines, and flushes them.
+fn write_lines<O: Output>(out: &mut O, lines: &[u8]) -> io::Result<()>
+    ensures { OnOk result (O.is_flushed out.new) }
+{
+    out.put(lines)?;
     out.flush()
 }
