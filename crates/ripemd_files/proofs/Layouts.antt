@@ -100,3 +100,5 @@ pub layout_of-reversed : (only : Option Variant) (line : List ℕ) → HasLayout
 unfolding layout_at
 layout_of-reversed only line h other =
     rw (no_tag_found h, false_from_ne_true _ (λ is. other (has_layout only Standard line is)), digits_found h) refl
+
+pub ruleset finding = (layout_of-found, layout_of-standard, layout_of-reversed)
