@@ -1,25 +1,23 @@
 -- The forms of a line: what is read of a body has one of them, and what has one of them is read.
-use Rattle.std.proofs.Common.{◌≡◌, ◌≢◌, ◌⊎◌, ℕ, ◌*◌, Bool, true, false, ◌||◌, List, [], ◌∷◌, ◌++◌, length, get_or, take, drop, Option, Some, None, refl, sym, ap, subst, ◌∙◌, inl, inr, eqb, arith}
+use Rattle.std.proofs.Common.{◌≡◌, ◌≢◌, ◌⊎◌, ℕ, ◌*◌, Bool, true, false, List, [], ◌∷◌, ◌++◌, length, get_or, take, Option, Some, None, refl, ap, subst, ◌∙◌, inl, inr, eqb, arith}
 use Rattle.std.specs.Prelude.{option_map, codes, IsTrue}
 use Rattle.std.specs.List.{list_any, list_all}
-use Rattle.std.specs.Str.{bytes_eq}
-use Rattle.std.proofs.lemmas.Bool.{and_parts, cases_Bool, or_parts, ne_eqb, eqb-true, eq-eqb}
+use Rattle.std.proofs.lemmas.Bool.{cases_Bool}
 use Rattle.std.proofs.lemmas.Bool.Decides.{eqb_tells, nat_tests}
 use Rattle.std.proofs.lemmas.List.{take-append-drop}
 use Rattle.std.proofs.lemmas.List.Folds.{list_any-append}
 use Rattle.std.proofs.lemmas.List.Sums.{list_all-from_AllPass}
 use Rattle.std.proofs.lemmas.Slice.Eq.{bytes_eq-Decides}
-use Rattle.std.proofs.lemmas.Option.{cond_some, same_Some, some_pair_parts, option_and_then_some}
+use Rattle.std.proofs.lemmas.Option.{same_Some, option_and_then_some}
 use Rattle.hex.specs.Hex.{is_hex_digit}
 use Rattle.hex.proofs.HexLemmas.{decode_of-ok}
 use Rattle.ripemd_files.specs.declared.line.Variant.{Variant}
 use Rattle.ripemd_files.specs.declared.line.Variant.TheVariants.{R128, R160, R256, R320}
 use Rattle.ripemd_files.specs.declared.line.Layout.{Layout}
 use Rattle.ripemd_files.specs.declared.line.Layout.TheVariants.{Standard, Reversed}
-use Rattle.ripemd_files.specs.Lines.{size_of, bits_of, tag_of, IsTag, is_blank, IsBlank, IsDigest, IsSeparator, IsUntagged, IsTagged}
+use Rattle.ripemd_files.specs.Lines.{size_of, bits_of, IsTag, is_blank, IsBlank, IsDigest, IsSeparator, IsUntagged, IsTagged}
 use Rattle.ripemd_files.specs.Reading.{strip, skip_blanks, split_blank, split_close, variant_of, strip_bits, strip_tag, Found, text_at, untagged_at, skip_space, tagged_at, either_at, found_at, digest_at}
 use Rattle.std.specs.Option.{option_or}
-use Rattle.ripemd_files.proofs.Names.{map_some}
 
 -- ---- prefixes
 
@@ -44,42 +42,21 @@ skip_blanks-front (b ∷ blanks) x rest h other = grind (arith, skip_blanks-fron
 
 -- ---- parts of a body
 
--- two parts of a text
-abbrev parts_of : List ℕ → List ℕ → Option (List ℕ × List ℕ)
-parts_of before rest = Some (before, rest)
-
--- of parts after a byte, it stands before the first
-behind_byte : (x : ℕ) (found : Option (List ℕ × List ℕ)) (before rest : List ℕ)
-    → option_map (λ parts. (x ∷ parts.0, parts.1)) found ≡ parts_of before rest
-    → (front : List ℕ) × (found ≡ parts_of front rest) × (before ≡ x ∷ front)
-behind_byte x None before rest e = absurd cc
-behind_byte x (Some parts) before rest e =
-    let same = some_pair_parts (x ∷ parts.0) before parts.1 rest e in
-    (parts.0, ap (parts_of parts.0) same.1, sym same.0)
-
 first_of : {A P : Type 0} (a b : Option A) (y : A) → option_or a b ≡ Some y → (a ≡ Some y → P) → (b ≡ Some y → P) → P
 first_of (Some x) b y e here there = here e
 first_of None b y e here there = there e
 
-pub split_blank-sound : (bytes before rest : List ℕ) → split_blank bytes ≡ parts_of before rest
+pub split_blank-sound : (bytes before rest : List ℕ) → split_blank bytes ≡ Some (before, rest)
     → IsTrue (is_blank (get_or bytes (length before) 0)) × (bytes ≡ before ++ (get_or bytes (length before) 0 ∷ rest))
 unfolding split_blank
 split_blank-sound [] before rest e = absurd cc
 split_blank-sound (x ∷ bytes) [] rest e = grind arith
 split_blank-sound (x ∷ bytes) (b ∷ before) rest e = grind (arith, split_blank-sound bytes before rest)
 
-pub split_close-sound : (bytes before rest : List ℕ) → split_close bytes ≡ parts_of before rest → bytes ≡ before ++ (41 ∷ rest)
+pub split_close-sound : (bytes before rest : List ℕ) → split_close bytes ≡ Some (before, rest) → bytes ≡ before ++ (41 ∷ rest)
 unfolding split_close
 split_close-sound [] before rest e = absurd cc
 split_close-sound (x ∷ bytes) before rest e = grind (arith, nat_tests, split_close-sound bytes)
-
--- a byte that is a digit is no other byte
-pub differs : (x y : ℕ) → is_hex_digit x ≡ true → is_hex_digit y ≡ false → eqb x y ≡ false
-differs x y is other = grind (arith, nat_tests)
-
--- and no blank
-no_blank : (x : ℕ) → is_hex_digit x ≡ true → is_blank x ≡ false
-no_blank x is = grind (arith, nat_tests)
 
 -- where each byte passes one test, and those fail another, none passes that
 pub lacks_where : (test other : ℕ → Bool) → ((x : ℕ) → other x ≡ true → test x ≡ false) → (text : List ℕ) → list_all other text ≡ true
@@ -98,10 +75,10 @@ pub digits_of : (variant : Variant) (digits digest : List ℕ) → IsDigest vari
 digits_of variant digits digest h = list_all-from_AllPass is_hex_digit digits (decode_of-ok digits digest h.bytes).1
 
 pub split_blank-front : (digits : List ℕ) (blank : ℕ) (rest : List ℕ) → AreDigits digits → is_blank blank ≡ true
-    → split_blank (digits ++ (blank ∷ rest)) ≡ parts_of digits rest
+    → split_blank (digits ++ (blank ∷ rest)) ≡ Some (digits, rest)
 unfolding split_blank
 split_blank-front [] blank rest h is = rw is refl
-split_blank-front (x ∷ digits) blank rest h is = grind (arith, no_blank x, split_blank-front digits blank rest)
+split_blank-front (x ∷ digits) blank rest h is = grind (arith, nat_tests, split_blank-front digits blank rest)
 
 -- whether a parenthesis closes in a text
 abbrev closes : List ℕ → Bool
@@ -113,7 +90,7 @@ split_close-none [] h = refl
 split_close-none (x ∷ text) h = grind (arith, nat_tests, split_close-none text)
 
 -- the last parenthesis stands in front of what has none
-pub split_close-front : (text rest : List ℕ) → closes rest ≡ false → split_close (text ++ (41 ∷ rest)) ≡ parts_of text rest
+pub split_close-front : (text rest : List ℕ) → closes rest ≡ false → split_close (text ++ (41 ∷ rest)) ≡ Some (text, rest)
 unfolding split_close
 split_close-front [] rest h = rw (split_close-none rest h) refl
 split_close-front (x ∷ text) rest h = grind (arith, split_close-front text rest)
@@ -122,30 +99,24 @@ split_close-front (x ∷ text) rest h = grind (arith, split_close-front text res
 closes-behind : (before after digits : List ℕ) → IsBlank before → IsBlank after → AreDigits digits
     → closes (before ++ (61 ∷ (after ++ digits))) ≡ false
 closes-behind before after digits is_before is_after are =
-    lacks_append _ before (61 ∷ (after ++ digits)) (blanks before is_before)
-    (lacks_append _ after digits (blanks after is_after) (lacks_where _ is_hex_digit (λ x is. differs x 41 is refl) digits are))
-  where
-    blanks : (text : List ℕ) → IsBlank text → closes text ≡ false
-    blanks text are = lacks_where _ is_blank (λ x is. grind (arith, nat_tests)) text are
+    lacks_append _ before (61 ∷ (after ++ digits)) (lacks_where _ is_blank (λ x is. grind (arith, nat_tests)) before is_before)
+    (lacks_append _ after digits (lacks_where _ is_blank (λ x is. grind (arith, nat_tests)) after is_after)
+    (lacks_where _ is_hex_digit (λ x is. grind (arith, nat_tests)) digits are))
 
 -- ---- tags
 
--- a variant, and what follows it
-abbrev named : Variant → List ℕ → Option (Variant × List ℕ)
-named variant rest = Some (variant, rest)
-
-bits_sound : (v variant : Variant) (bytes rest : List ℕ) → option_map (λ rest. (v, rest)) (strip (bits_of v) bytes) ≡ named variant rest
+bits_sound : (v variant : Variant) (bytes rest : List ℕ) → option_map {U = Variant × List ℕ} (λ rest. (v, rest)) (strip (bits_of v) bytes) ≡ Some (variant, rest)
     → bytes ≡ bits_of variant ++ rest
 bits_sound v variant bytes rest e = grind (arith, strip-sound (bits_of v) bytes)
 
-strip_bits-sound : (bytes : List ℕ) (variant : Variant) (rest : List ℕ) → strip_bits bytes ≡ named variant rest → bytes ≡ bits_of variant ++ rest
+strip_bits-sound : (bytes : List ℕ) (variant : Variant) (rest : List ℕ) → strip_bits bytes ≡ Some (variant, rest) → bytes ≡ bits_of variant ++ rest
 strip_bits-sound bytes variant rest e =
     first_of (option_map (λ rest. (R128, rest)) (strip (codes "128") bytes)) _ (variant, rest) e (bits_sound R128 variant bytes rest) (λ e.
     first_of (option_map (λ rest. (R160, rest)) (strip (codes "160") bytes)) _ (variant, rest) e (bits_sound R160 variant bytes rest) (λ e.
     first_of (option_map (λ rest. (R256, rest)) (strip (codes "256") bytes)) _ (variant, rest) e (bits_sound R256 variant bytes rest)
     (bits_sound R320 variant bytes rest)))
 
-pub strip_tag-sound : (bytes : List ℕ) (variant : Variant) (rest : List ℕ) → strip_tag bytes ≡ named variant rest
+pub strip_tag-sound : (bytes : List ℕ) (variant : Variant) (rest : List ℕ) → strip_tag bytes ≡ Some (variant, rest)
     → (tag : List ℕ) × IsTag variant tag × (bytes ≡ tag ++ rest)
 unfolding strip_tag
 strip_tag-sound bytes variant rest e =
@@ -222,28 +193,6 @@ skip_space-sound (x ∷ rest) =
       | inr other ↦ ([], inl refl, rw other.0 refl)
     ]
 
-tagged_of : (body tag rest inner text behind digits : List ℕ) (variant : Variant) → IsTag variant tag → body ≡ tag ++ rest
-    → strip (codes "(") (skip_space rest) ≡ Some inner → split_close inner ≡ parts_of text behind → strip (codes "=") (skip_blanks behind) ≡ Some digits
-    → IsTagged body variant (skip_blanks digits) text
-tagged_of body tag rest inner text behind digits variant is_tag whole opens split equals =
-    let space = skip_space-sound rest in
-    let opened = strip-sound (codes "(") (skip_space rest) inner opens in
-    let closed = split_close-sound inner text behind split in
-    let before = skip_blanks-sound behind in
-    let equal = strip-sound (codes "=") (skip_blanks behind) digits equals in
-    let after = skip_blanks-sound digits in
-    record {
-      tag = tag;
-      space = space.0;
-      before = before.0;
-      after = after.0;
-      is_tag = is_tag;
-      is_space = space.1;
-      is_before = before.1;
-      is_after = after.1;
-      whole = rw (← after.2, ← equal, ← before.2, ← closed, ← opened, ← space.2, ← whole) refl;
-    }
-
 pub tagged_at-sound : (body tag rest : List ℕ) (variant : Variant) (found : Found) → IsTag variant tag → body ≡ tag ++ rest
     → tagged_at variant rest ≡ Some found → IsTagged body found.variant found.digits found.text
 unfolding tagged_at
@@ -251,8 +200,21 @@ tagged_at-sound body tag rest variant found is_tag whole e =
     option_and_then_some _ (strip (codes "(") (skip_space rest)) found e (λ inner opens e2.
     option_and_then_some _ (split_close inner) found e2 (λ parts split e3.
     option_and_then_some _ (strip (codes "=") (skip_blanks parts.1)) found e3 (λ digits equals e4.
+    let (space, is_space, spaced) = skip_space-sound rest in
+    let (before, is_before, behind) = skip_blanks-sound parts.1 in
+    let (after, is_after, back) = skip_blanks-sound digits in
     subst (λ (f : Found). IsTagged body f.variant f.digits f.text) (same_Some _ _ e4)
-    (tagged_of body tag rest inner parts.0 parts.1 digits variant is_tag whole opens split equals))))
+    record {
+      tag = tag;
+      space = space;
+      before = before;
+      after = after;
+      is_tag = is_tag;
+      is_space = is_space;
+      is_before = is_before;
+      is_after = is_after;
+      whole = grind (arith, strip-sound (codes "(") (skip_space rest) inner opens, split_close-sound inner parts.0 parts.1 split, strip-sound (codes "=") (skip_blanks parts.1) digits equals);
+    })))
 
 skip_space-space : (space rest : List ℕ) → (space ≡ []) ⊎ (space ≡ codes " ") → skip_space (space ++ (codes "(" ++ rest)) ≡ codes "(" ++ rest
 skip_space-space space rest is = grind arith
@@ -265,7 +227,7 @@ starts variant (x ∷ others) digest is = (x, others, refl, grind (arith, digits
 
 skip_blanks-digits : (blanks : List ℕ) (variant : Variant) (digits digest : List ℕ) → IsBlank blanks → IsDigest variant digits digest
     → skip_blanks (blanks ++ digits) ≡ digits
-skip_blanks-digits blanks variant digits digest blank is = grind (arith, starts variant digits digest, skip_blanks-front blanks, no_blank)
+skip_blanks-digits blanks variant digits digest blank is = grind (arith, starts variant digits digest, skip_blanks-front blanks, nat_tests)
 
 pub tagged_at-form : (variant : Variant) (space text before after digits digest : List ℕ) → (space ≡ []) ⊎ (space ≡ codes " ")
     → IsBlank before → IsBlank after → IsDigest variant digits digest
