@@ -76,7 +76,7 @@ module _ (byte : ℕ) where
   -- a text without the byte was read to an empty one
   pub read_rest : (old new : Option (List ℕ)) (start read text : List ℕ) → start ≡ [] → StopsAt (appended_bytes start read) byte
       → Consumes old new (appended_bytes start read) → ends_with_byte byte read ≡ false → text ≡ strip_last byte read
-      → (text ≡ read) × Consumes old new text × IsWithout byte text
+      → Consumes old new text × IsWithout byte text
   read_rest old new start read text empty stops taken ends is = grind (arith, kept read)
 
   -- and it was the last piece
@@ -85,7 +85,7 @@ module _ (byte : ℕ) where
       → read ≢ [] → ends_with_byte byte read ≡ false → text ≡ strip_last byte read
       → Consumes old new text × IsEnded old new × (text ≢ []) × IsWithout byte text
   read_last old new start read text empty stops taken bytes rest some ends is =
-      grind (arith, read_rest old new start read text empty stops taken ends is, ended old new start read empty bytes rest)
+      grind (arith, kept read, ended old new start read empty bytes rest)
 
 -- what ended ended what was there before
 pub ended_since : (old now next : Option (List ℕ)) (bytes : List ℕ) → Consumes old now bytes → IsEnded now next → IsEnded old next
