@@ -1,39 +1,26 @@
 -- What stands in no line: an end, in a line that is written, and the sign of a comment at the front of any line.
-use Rattle.std.proofs.Common.{◌≡◌, ◌≢◌, ℕ, Bool, true, false, List, [], ◌∷◌, ◌++◌, refl, sym, ap, ◌∙◌, eqb, leb, arith}
-use Rattle.std.specs.Prelude.{codes}
-use Rattle.std.specs.List.{list_any, list_all}
-use Rattle.std.proofs.lemmas.Bool.{and_parts, le-leb, eq-eqb, or_parts}
+use Rattle.std.proofs.Common.{◌≡◌, ◌≢◌, ℕ, ◌≤◌, Bool, true, false, List, [], ◌∷◌, ◌++◌, refl, eqb, arith}
+use Rattle.std.specs.List.{list_any}
 use Rattle.std.proofs.lemmas.Bool.Decides.{nat_tests}
 use Rattle.std.proofs.lemmas.List.Folds.{list_any-append}
 use Rattle.hex.specs.Hex.{encode_lower, is_hex_digit}
 use Rattle.ripemd_files.specs.declared.line.Variant.{Variant}
-use Rattle.ripemd_files.specs.declared.line.Variant.TheVariants.{R128}
 use Rattle.ripemd_files.specs.declared.line.Form.{Form}
-use Rattle.ripemd_files.specs.declared.line.Form.TheVariants.{Text, Binary, Tagged}
 use Rattle.ripemd_files.specs.declared.line.Layout.{Layout}
 use Rattle.ripemd_files.specs.declared.line.Ending.TheVariants.{Newline, Zero}
-use Rattle.ripemd_files.specs.Lines.{is_special, is_blank, is_end, IsBlank, escape_of, escaped, mark_of, tag_of, text_of, body_of, line_of, IsLine, RoundTrips}
-use Rattle.ripemd_files.proofs.Bodies.{AreDigits, lacks_append, lacks_where, digits_of, starts-form}
+use Rattle.ripemd_files.specs.Lines.{is_special, is_end, IsBlank, escaped, mark_of, text_of, body_of, line_of, IsLine, RoundTrips}
+use Rattle.ripemd_files.proofs.Bodies.{AreDigits, lacks_where, digits_of, starts-form}
 use Rattle.ripemd_files.proofs.Written.{IsDigest-written}
 
 -- no byte of a text passes a test
 abbrev Lacks : (ℕ → Bool) → List ℕ → Type 0
 Lacks test text = list_any test text ≡ false
 
--- beside the name a line has bytes from the space on
-abbrev visible : ℕ → Bool
-visible byte = leb 32 byte
-
-visible_digits : (digits : List ℕ) → AreDigits digits → list_all visible digits ≡ true
-visible_digits [] are = refl
-visible_digits (x ∷ digits) are = grind (arith, nat_tests, visible_digits digits)
-
--- which a test of ends refuses
-module _ (test : ℕ → Bool) (foreign : (x : ℕ) → visible x ≡ true → test x ≡ false) where
-  Lacks-body : (form : Form) (variant : Variant) (digits text : List ℕ) → AreDigits digits → Lacks test text
-      → Lacks test (body_of form variant digits text)
-  Lacks-body form variant digits text are lacks =
-      grind (arith, list_any-append, foreign, lacks_where test visible foreign digits (visible_digits digits are))
+-- beside the name a line has bytes from the space on, which a test of ends refuses
+Lacks-body : (test : ℕ → Bool) → ((x : ℕ) → 32 ≤ x → test x ≡ false) → (form : Form) (variant : Variant) (digits text : List ℕ) → AreDigits digits
+    → Lacks test text → Lacks test (body_of form variant digits text)
+Lacks-body test foreign form variant digits text are lacks =
+    grind (arith, list_any-append, foreign, lacks_where test is_hex_digit (λ x is. foreign x (grind (arith, nat_tests))) digits are)
 
 abbrev is_zero : ℕ → Bool
 is_zero byte = eqb byte 0
@@ -45,13 +32,10 @@ Lacks-plain : (name : List ℕ) → Lacks is_special name → Lacks is_zero name
 Lacks-plain [] special zero = refl
 Lacks-plain (x ∷ name) special zero = grind (arith, nat_tests, Lacks-plain name)
 
-Lacks-escape : (x : ℕ) → eqb x 0 ≡ false → Lacks is_end (escape_of x)
-Lacks-escape x zero = grind (arith, nat_tests)
-
 -- an escaped name has none
 Lacks-escaped : (name : List ℕ) → Lacks is_zero name → Lacks is_end (escaped name)
 Lacks-escaped [] zero = refl
-Lacks-escaped (x ∷ name) zero = grind (arith, nat_tests, list_any-append, Lacks-escape x, Lacks-escaped name)
+Lacks-escaped (x ∷ name) zero = grind (arith, nat_tests, list_any-append, Lacks-escaped name)
 
 Lacks-text : (marked : Bool) (name : List ℕ) → list_any is_special name ≡ marked → Lacks is_zero name → Lacks is_end (text_of marked name)
 Lacks-text marked name is zero = grind (arith, Lacks-escaped name zero, Lacks-plain name)
@@ -81,10 +65,6 @@ first_of (b ∷ indent) marked x rest blank other = (b, indent ++ (mark_of marke
 pub starts_line : (layout : Layout) (line : List ℕ) (variant : Variant) (digest name : List ℕ) → IsLine layout line variant digest name
     → (first : ℕ) × (others : List ℕ) × (line ≡ first ∷ others) × (first ≢ 35)
 starts_line layout line variant digest name h =
-    let body = starts-form layout h.body variant h.digits digest h.text h.form h.is_digest in
-    let first = first_of h.indent h.marked body.0 body.1 h.is_indent body.5 in (
-      first.0,
-      first.1,
-      h.whole ∙ ap (λ (body : List ℕ). h.indent ++ (mark_of h.marked ++ body)) body.2 ∙ first.2,
-      λ same. cc (sym first.3 ∙ eq-eqb first.0 35 same),
-    )
+    let (x, rest, whole, other, no_mark, no_sign) = starts-form layout h.body variant h.digits digest h.text h.form h.is_digest in
+    let (first, others, front, is) = first_of h.indent h.marked x rest h.is_indent no_sign in
+    (first, others, grind (arith, h.whole, whole, front), grind (arith, nat_tests, is))

@@ -1,11 +1,10 @@
 -- The layout that is found is the one that a line has.
-use Rattle.std.proofs.Common.{◌≡◌, ℕ, ◌*◌, Bool, true, List, ◌++◌, length, Option, Some, None, refl, sym, ap, ◌∙◌, inl, arith}
+use Rattle.std.proofs.Common.{◌≡◌, ℕ, ◌*◌, true, List, ◌++◌, length, Option, Some, None, refl, ap, ◌∙◌, inl, arith}
 use Rattle.std.specs.Prelude.{IfSome}
 use Rattle.std.specs.List.{list_all}
-use Rattle.std.proofs.lemmas.Bool.{and_parts, false_from_ne_true, eq-eqb, eqb-true}
+use Rattle.std.proofs.lemmas.Bool.{and_parts}
 use Rattle.std.proofs.lemmas.Bool.Decides.{nat_tests}
 use Rattle.std.proofs.lemmas.List.Sums.{AllPass-from_list_all}
-use Rattle.std.proofs.lemmas.Option.{same_Some}
 use Rattle.hex.specs.Hex.{is_hex_digit}
 use Rattle.hex.proofs.HexLemmas.{decode_of-digits}
 use Rattle.ripemd_files.specs.declared.line.Variant.{Variant}
@@ -14,7 +13,7 @@ use Rattle.ripemd_files.specs.declared.line.Layout.TheVariants.{Standard, Revers
 use Rattle.ripemd_files.specs.Lines.{size_of}
 use Rattle.ripemd_files.specs.Reading.{Found, skip_blanks, strip_mark, strip_tag, variant_of, untagged_at}
 use Rattle.ripemd_files.specs.Layouts.{has_digits, is_wanted_length, layout_at, layout_of, HasLayout}
-use Rattle.ripemd_files.proofs.Bodies.{no_tag, skip_blanks-sound, digits_of, starts-form, untagged_at-sound, untagged_at-form, variant_of-size}
+use Rattle.ripemd_files.proofs.Bodies.{no_tag, skip_blanks-sound, digits_of, starts-form, untagged_at-sound, untagged_at-form}
 use Rattle.ripemd_files.proofs.Sayings.{marked-front, strip_mark-sound}
 
 -- ---- the number of digits
