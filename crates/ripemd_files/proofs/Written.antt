@@ -72,3 +72,5 @@ IsLine-line_of layout ending form variant digest name can =
       spelled = grind (arith, Spells-escaped name);
       no_zero = can.no_zero;
     }
+
+pub ruleset writing = (IsLine-line_of)

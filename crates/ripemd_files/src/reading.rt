@@ -311,6 +311,7 @@ pub(crate) fn read_line(
 /// takes beside them: blanks in front, digits of either case, a tab for the first of the two
 /// spaces, and tagged lines as OpenSSL writes them. The length of an untagged digest tells the
 /// variant.
+#[tactic(auto, using(crate::proofs::Sayings::line_is_found, crate::proofs::Written::writing))]
 pub fn parse_line(alloc: Global, layout: Layout, line: &[u8]) -> Result<Option<Line>, AllocError>
     // What is found, it is a line of.
     ensures found { IfOk result (λ found. IfSome found (λ l. IsLine layout line.now l.variant l.digest.items l.name.items)) }
