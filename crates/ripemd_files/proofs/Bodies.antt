@@ -64,9 +64,6 @@ pub lacks_where : (test other : ℕ → Bool) → ((x : ℕ) → other x ≡ tru
 lacks_where test other fails [] all = refl
 lacks_where test other fails (x ∷ text) all = grind (arith, fails x, lacks_where test other fails text)
 
-pub lacks_append : (test : ℕ → Bool) (a b : List ℕ) → list_any test a ≡ false → list_any test b ≡ false → list_any test (a ++ b) ≡ false
-lacks_append test a b h k = grind (arith, list_any-append)
-
 -- digits, one after the other
 abbrev pub AreDigits : List ℕ → Type 0
 AreDigits digits = list_all is_hex_digit digits ≡ true
@@ -99,9 +96,8 @@ split_close-front (x ∷ text) rest h = grind (arith, split_close-front text res
 closes-behind : (before after digits : List ℕ) → IsBlank before → IsBlank after → AreDigits digits
     → closes (before ++ (61 ∷ (after ++ digits))) ≡ false
 closes-behind before after digits is_before is_after are =
-    lacks_append _ before (61 ∷ (after ++ digits)) (lacks_where _ is_blank (λ x is. grind (arith, nat_tests)) before is_before)
-    (lacks_append _ after digits (lacks_where _ is_blank (λ x is. grind (arith, nat_tests)) after is_after)
-    (lacks_where _ is_hex_digit (λ x is. grind (arith, nat_tests)) digits are))
+    let blanks = λ (text : List ℕ) (are : IsBlank text). lacks_where (λ x. eqb x 41) is_blank (λ x is. grind (arith, nat_tests)) text are in
+    grind (arith, list_any-append, blanks before is_before, blanks after is_after, lacks_where (λ x. eqb x 41) is_hex_digit (λ x is. grind (arith, nat_tests)) digits are)
 
 -- ---- tags
 
@@ -188,10 +184,7 @@ untagged_at-form layout body variant digits digest text form is =
 skip_space-sound : (bytes : List ℕ) → (space : List ℕ) × ((space ≡ []) ⊎ (space ≡ codes " ")) × (bytes ≡ space ++ skip_space bytes)
 skip_space-sound [] = ([], inl refl, refl)
 skip_space-sound (x ∷ rest) =
-    elim (eqb_tells x 32) [
-      | inl is ↦ (codes " ", inr refl, rw (is.1) refl)
-      | inr other ↦ ([], inl refl, rw other.0 refl)
-    ]
+    elim (eqb_tells x 32) [ inl is ↦ (codes " ", inr refl, rw (is.1) refl) | inr other ↦ ([], inl refl, rw other.0 refl) ]
 
 pub tagged_at-sound : (body tag rest : List ℕ) (variant : Variant) (found : Found) → IsTag variant tag → body ≡ tag ++ rest
     → tagged_at variant rest ≡ Some found → IsTagged body found.variant found.digits found.text
@@ -216,9 +209,6 @@ tagged_at-sound body tag rest variant found is_tag whole e =
       whole = grind (arith, strip-sound (codes "(") (skip_space rest) inner opens, split_close-sound inner parts.0 parts.1 split, strip-sound (codes "=") (skip_blanks parts.1) digits equals);
     })))
 
-skip_space-space : (space rest : List ℕ) → (space ≡ []) ⊎ (space ≡ codes " ") → skip_space (space ++ (codes "(" ++ rest)) ≡ codes "(" ++ rest
-skip_space-space space rest is = grind arith
-
 -- the digits of a digest, with the first apart
 pub starts : (variant : Variant) (digits digest : List ℕ) → IsDigest variant digits digest
     → (x : ℕ) × (others : List ℕ) × (digits ≡ x ∷ others) × (is_hex_digit x ≡ true)
@@ -234,7 +224,7 @@ pub tagged_at-form : (variant : Variant) (space text before after digits digest 
     → tagged_at variant (space ++ (codes "(" ++ (text ++ (codes ")" ++ (before ++ (codes "=" ++ (after ++ digits))))))) ≡ found variant digits text
 unfolding tagged_at
 tagged_at-form variant space text before after digits digest is_space is_before is_after is =
-    grind (arith, skip_space-space, split_close-front, closes-behind before after digits, skip_blanks-front, skip_blanks-digits after variant digits digest, digits_of variant digits digest)
+    grind (arith, split_close-front, closes-behind before after digits, skip_blanks-front, skip_blanks-digits after variant digits digest, digits_of variant digits digest)
 
 -- a body that begins with digits has no tag
 pub no_tag : (layout : Layout) (body : List ℕ) (variant : Variant) (digits digest text : List ℕ) → IsUntagged layout body digits text

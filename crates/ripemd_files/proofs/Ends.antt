@@ -37,17 +37,14 @@ Lacks-escaped : (name : List ℕ) → Lacks is_zero name → Lacks is_end (escap
 Lacks-escaped [] zero = refl
 Lacks-escaped (x ∷ name) zero = grind (arith, nat_tests, list_any-append, Lacks-escaped name)
 
-Lacks-text : (marked : Bool) (name : List ℕ) → list_any is_special name ≡ marked → Lacks is_zero name → Lacks is_end (text_of marked name)
-Lacks-text marked name is zero = grind (arith, Lacks-escaped name zero, Lacks-plain name)
-
 -- ---- lines
 
 pub no_end : (layout : Layout) (form : Form) (variant : Variant) (digest name : List ℕ) → RoundTrips layout form variant digest name
     → Lacks is_end (line_of Newline form variant digest name)
 no_end layout form variant digest name h =
     let digits = digits_of variant (encode_lower digest) digest (IsDigest-written layout form variant digest name h) in
-    let text = Lacks-text (list_any is_special name) name refl h.no_zero in
-    grind (arith, nat_tests, list_any-append, Lacks-body is_end (λ x is. grind (arith, nat_tests)) form variant (encode_lower digest) (text_of (list_any is_special name) name) digits text)
+    let body = Lacks-body is_end (λ x is. grind (arith, nat_tests)) form variant (encode_lower digest) (text_of (list_any is_special name) name) digits in
+    grind (arith, nat_tests, list_any-append, body, Lacks-escaped name h.no_zero, Lacks-plain name)
 
 pub no_zero : (layout : Layout) (form : Form) (variant : Variant) (digest name : List ℕ) → RoundTrips layout form variant digest name
     → Lacks is_zero (line_of Zero form variant digest name)

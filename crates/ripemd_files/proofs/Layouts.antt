@@ -21,15 +21,6 @@ use Rattle.ripemd_files.proofs.Sayings.{marked-front, strip_mark-sound}
 variant_of-count : (count : ℕ) (variant : Variant) → variant_of count ≡ Some variant → count ≡ 2 * size_of variant
 variant_of-count count variant e = grind (arith, nat_tests)
 
--- the number that counts is that of the variant
-wanted_of : (only : Option Variant) (variant : Variant) (count : ℕ) → is_wanted_length only count ≡ true → variant_of count ≡ Some variant
-    → IfSome only (λ one. one ≡ variant)
-wanted_of only variant count counted is = grind (arith, nat_tests)
-
-is_wanted_length-of : (only : Option Variant) (variant : Variant) (count : ℕ) → IfSome only (λ one. one ≡ variant) → count ≡ 2 * size_of variant
-    → is_wanted_length only count ≡ true
-is_wanted_length-of only variant count same twice = grind (arith, nat_tests)
-
 -- ---- what is found is there
 
 -- a body that is untagged has the layout
@@ -42,6 +33,7 @@ has_layout only layout line (Some found) is has =
     let parts = and_parts (is_wanted_length only (length found.digits)) (list_all is_hex_digit found.digits) has in
     let (form, variant) = untagged_at-sound layout marked.1 found is in
     let twice = variant_of-count _ _ variant in
+    let wanted : IfSome only (λ one. one ≡ found.variant) = grind (arith, nat_tests) in
     let (digest, decoded) = decode_of-digits found.digits (omega (arith, twice)) (AllPass-from_list_all is_hex_digit found.digits parts.1) in
     record {
       indent = indent.0;
@@ -55,7 +47,7 @@ has_layout only layout line (Some found) is has =
       whole = indent.2 ∙ ap (λ (back : List ℕ). indent.0 ++ back) (strip_mark-sound (skip_blanks line));
       form = form;
       is_digest = record { twice = twice; bytes = decoded };
-      counted = wanted_of only found.variant (length found.digits) parts.0 variant;
+      counted = wanted;
     }
 
 pub layout_of-found : (only : Option Variant) (layout : Layout) (line : List ℕ) → layout_of only line ≡ Some layout → HasLayout only layout line
@@ -76,7 +68,7 @@ module _ {only : Option Variant} {layout : Layout} {line : List ℕ} (h : HasLay
 
   digits_found : has_digits only (untagged_at layout (strip_mark (skip_blanks line)).1) ≡ true
   digits_found =
-      grind (arith, body_found, untagged_at-form layout h.body h.variant h.digits h.digest h.text h.form h.is_digest, is_wanted_length-of only h.variant (length h.digits) h.counted h.is_digest.twice, digits_of h.variant h.digits h.digest h.is_digest)
+      grind (arith, body_found, untagged_at-form layout h.body h.variant h.digits h.digest h.text h.form h.is_digest, nat_tests, h.counted, h.is_digest.twice, digits_of h.variant h.digits h.digest h.is_digest)
 
 pub layout_of-standard : (only : Option Variant) (line : List ℕ) → HasLayout only Standard line → layout_of only line ≡ Some Standard
 unfolding layout_at
