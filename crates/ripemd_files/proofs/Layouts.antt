@@ -32,8 +32,8 @@ has_layout only layout line (Some found) is has =
     let indent = skip_blanks-sound line in
     let parts = and_parts (is_wanted_length only (length found.digits)) (list_all is_hex_digit found.digits) has in
     let (form, variant) = untagged_at-sound layout marked.1 found is in
-    let twice = variant_of-count _ _ variant in
     let wanted : IfSome only (λ one. one ≡ found.variant) = grind (arith, nat_tests) in
+    let twice = variant_of-count _ _ variant in
     let (digest, decoded) = decode_of-digits found.digits (omega (arith, twice)) (AllPass-from_list_all is_hex_digit found.digits parts.1) in
     record {
       indent = indent.0;
