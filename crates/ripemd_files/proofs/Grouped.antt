@@ -76,7 +76,13 @@ module _ {File : Type 0} (place : Place File) (ignore_missing : Bool) (kinds : R
               → ReportsFirst place ignore_missing kinds before (lines_of (so_far.bytes ++ tail)) events
           earlier of_those =
               let first = so_far.partly count events of_those in
-              record { first = first.first; back = first.back ++ text ∷ []; split = grind (arith, all_lines, first.split, append_assoc); last = first.last; reports = first.reports }
+              record {
+                first = first.first;
+                back = first.back ++ text ∷ [];
+                split = grind (arith, all_lines, first.split, append_assoc);
+                last = first.last;
+                reports = first.reports;
+              }
 
           all : bad ≡ None → AllZip (IsEventOf place ignore_missing) others events
               → ReportsFirst place ignore_missing kinds before (lines_of (so_far.bytes ++ tail)) events
