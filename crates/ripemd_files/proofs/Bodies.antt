@@ -1,34 +1,29 @@
 -- The forms of a line: what is read of a body has one of them, and what has one of them is read.
-use Rattle.std.proofs.Common.{◌≡◌, ◌≢◌, ◌⊎◌, ℕ, ◌*◌, Bool, true, false, ◌||◌, List, [], ◌∷◌, ◌++◌, length, take, drop, Option, Some, None, refl, sym, ap, subst, ◌∙◌, inl, inr, eqb, arith}
+use Rattle.std.proofs.Common.{◌≡◌, ◌≢◌, ◌⊎◌, ℕ, ◌*◌, Bool, true, false, List, [], ◌∷◌, ◌++◌, length, get_or, take, Option, Some, None, refl, ap, subst, ◌∙◌, inl, inr, eqb, arith}
 use Rattle.std.specs.Prelude.{option_map, codes, IsTrue}
 use Rattle.std.specs.List.{list_any, list_all}
-use Rattle.std.specs.Str.{bytes_eq}
-use Rattle.std.proofs.lemmas.Bool.{and_parts, cases_Bool, or_parts, ne_eqb, eqb-true, eq-eqb}
+use Rattle.std.proofs.lemmas.Bool.{cases_Bool}
 use Rattle.std.proofs.lemmas.Bool.Decides.{eqb_tells, nat_tests}
 use Rattle.std.proofs.lemmas.List.{take-append-drop}
 use Rattle.std.proofs.lemmas.List.Folds.{list_any-append}
 use Rattle.std.proofs.lemmas.List.Sums.{list_all-from_AllPass}
 use Rattle.std.proofs.lemmas.Slice.Eq.{bytes_eq-Decides}
-use Rattle.std.proofs.lemmas.Option.{cond_some, same_Some, some_pair_parts, option_and_then_some}
+use Rattle.std.proofs.lemmas.Option.{same_Some, option_and_then_some}
 use Rattle.hex.specs.Hex.{is_hex_digit}
 use Rattle.hex.proofs.HexLemmas.{decode_of-ok}
 use Rattle.ripemd_files.specs.declared.line.Variant.{Variant}
 use Rattle.ripemd_files.specs.declared.line.Variant.TheVariants.{R128, R160, R256, R320}
 use Rattle.ripemd_files.specs.declared.line.Layout.{Layout}
 use Rattle.ripemd_files.specs.declared.line.Layout.TheVariants.{Standard, Reversed}
-use Rattle.ripemd_files.specs.Lines.{size_of, bits_of, tag_of, IsTag, is_blank, IsBlank, IsDigest, IsSeparator, IsUntagged, IsTagged}
+use Rattle.ripemd_files.specs.Lines.{size_of, bits_of, IsTag, is_blank, IsBlank, IsDigest, IsSeparator, IsUntagged, IsTagged}
 use Rattle.ripemd_files.specs.Reading.{strip, skip_blanks, split_blank, split_close, variant_of, strip_bits, strip_tag, Found, text_at, untagged_at, skip_space, tagged_at, either_at, found_at, digest_at}
 use Rattle.std.specs.Option.{option_or}
-use Rattle.ripemd_files.proofs.Names.{map_some}
 
 -- ---- prefixes
 
 -- what follows a prefix
 pub strip-sound : (prefix bytes rest : List ℕ) → strip prefix bytes ≡ Some rest → bytes ≡ prefix ++ rest
-strip-sound prefix bytes rest e =
-    let found = cond_some (bytes_eq (take (length prefix) bytes) prefix) (drop (length prefix) bytes) rest e in
-    let front : take (length prefix) bytes ≡ prefix = (bytes_eq-Decides (take (length prefix) bytes) prefix).0 found.0 in
-    sym (take-append-drop (length prefix) bytes) ∙ rw (front, found.1) refl
+strip-sound prefix bytes rest e = grind (arith, (bytes_eq-Decides (take (length prefix) bytes) prefix).0, take-append-drop (length prefix) bytes)
 
 -- the blanks that were skipped
 pub skip_blanks-sound : (bytes : List ℕ) → (blanks : List ℕ) × IsBlank blanks × (bytes ≡ blanks ++ skip_blanks bytes)
@@ -36,83 +31,38 @@ unfolding skip_blanks
 skip_blanks-sound [] = ([], refl, refl)
 skip_blanks-sound (x ∷ rest) =
     let tail = skip_blanks-sound rest in
-    elim (cases_Bool (is_blank x)) [
-      | inl is ↦ (x ∷ tail.0, rw is tail.1, rw is (ap (λ (t : List ℕ). x ∷ t) tail.2))
-      | inr is ↦ ([], refl, rw is refl)
-    ]
+    elim (cases_Bool (is_blank x)) [ inl is ↦ (x ∷ tail.0, grind arith, grind arith) | inr is ↦ ([], refl, rw is refl) ]
 
 -- blanks are skipped up to a byte that is none
 pub skip_blanks-front : (blanks : List ℕ) (x : ℕ) (rest : List ℕ) → IsBlank blanks → is_blank x ≡ false
     → skip_blanks (blanks ++ (x ∷ rest)) ≡ x ∷ rest
 unfolding skip_blanks
 skip_blanks-front [] x rest h other = rw other refl
-skip_blanks-front (b ∷ blanks) x rest h other =
-    let parts = and_parts (is_blank b) (list_all is_blank blanks) h in
-    rw parts.0 (skip_blanks-front blanks x rest parts.1 other)
+skip_blanks-front (b ∷ blanks) x rest h other = grind (arith, skip_blanks-front blanks x rest)
 
 -- ---- parts of a body
-
--- two parts of a text
-abbrev parts_of : List ℕ → List ℕ → Option (List ℕ × List ℕ)
-parts_of before rest = Some (before, rest)
-
--- of parts after a byte, it stands before the first
-behind_byte : (x : ℕ) (found : Option (List ℕ × List ℕ)) (before rest : List ℕ)
-    → option_map (λ parts. (x ∷ parts.0, parts.1)) found ≡ parts_of before rest
-    → (front : List ℕ) × (found ≡ parts_of front rest) × (before ≡ x ∷ front)
-behind_byte x None before rest e = absurd cc
-behind_byte x (Some parts) before rest e =
-    let same = some_pair_parts (x ∷ parts.0) before parts.1 rest e in
-    (parts.0, ap (parts_of parts.0) same.1, sym same.0)
 
 first_of : {A P : Type 0} (a b : Option A) (y : A) → option_or a b ≡ Some y → (a ≡ Some y → P) → (b ≡ Some y → P) → P
 first_of (Some x) b y e here there = here e
 first_of None b y e here there = there e
 
-pub split_blank-sound : (bytes before rest : List ℕ) → split_blank bytes ≡ parts_of before rest
-    → (blank : ℕ) × IsTrue (is_blank blank) × (bytes ≡ before ++ (blank ∷ rest))
+pub split_blank-sound : (bytes before rest : List ℕ) → split_blank bytes ≡ Some (before, rest)
+    → IsTrue (is_blank (get_or bytes (length before) 0)) × (bytes ≡ before ++ (get_or bytes (length before) 0 ∷ rest))
 unfolding split_blank
 split_blank-sound [] before rest e = absurd cc
-split_blank-sound (x ∷ bytes) before rest e =
-    elim (cases_Bool (is_blank x)) [
-      | inl is ↦ let parts = some_pair_parts [] before bytes rest (rw is at e) in (x, is, rw (← parts.0, ← parts.1) refl)
-      | inr is ↦
-          let (front, splits, same) = behind_byte x (split_blank bytes) before rest (rw is at e) in
-          let (blank, is_blank, whole) = split_blank-sound bytes front rest splits in
-          (blank, is_blank, ap (λ (t : List ℕ). x ∷ t) whole ∙ ap (λ (front : List ℕ). front ++ (blank ∷ rest)) (sym same))
-    ]
+split_blank-sound (x ∷ bytes) [] rest e = grind arith
+split_blank-sound (x ∷ bytes) (b ∷ before) rest e = grind (arith, split_blank-sound bytes before rest)
 
-pub split_close-sound : (bytes before rest : List ℕ) → split_close bytes ≡ parts_of before rest → bytes ≡ before ++ (41 ∷ rest)
+pub split_close-sound : (bytes before rest : List ℕ) → split_close bytes ≡ Some (before, rest) → bytes ≡ before ++ (41 ∷ rest)
 unfolding split_close
 split_close-sound [] before rest e = absurd cc
-split_close-sound (x ∷ bytes) before rest e =
-    first_of (option_map (λ parts. (x ∷ parts.0, parts.1)) (split_close bytes)) _ (before, rest) e
-    (λ e.
-    let (front, splits, same) = behind_byte x (split_close bytes) before rest e in
-    rw same (ap (λ (t : List ℕ). x ∷ t) (split_close-sound bytes front rest splits)))
-    (λ e.
-    let here = cond_some (eqb x 41) ([], bytes) (before, rest) e in
-    let parts = some_pair_parts [] before bytes rest (ap Some here.1) in
-    rw (← parts.0, ← parts.1, eqb-true x 41 here.0) refl)
-
--- a byte that is a digit is no other byte
-pub differs : (x y : ℕ) → is_hex_digit x ≡ true → is_hex_digit y ≡ false → eqb x y ≡ false
-differs x y is other = ne_eqb x y (λ same. cc (sym other ∙ ap is_hex_digit (sym same) ∙ is))
-
--- and no blank
-no_blank : (x : ℕ) → is_hex_digit x ≡ true → is_blank x ≡ false
-no_blank x is = rw (differs x 32 is refl, differs x 9 is refl) refl
+split_close-sound (x ∷ bytes) before rest e = grind (arith, nat_tests, split_close-sound bytes)
 
 -- where each byte passes one test, and those fail another, none passes that
 pub lacks_where : (test other : ℕ → Bool) → ((x : ℕ) → other x ≡ true → test x ≡ false) → (text : List ℕ) → list_all other text ≡ true
     → list_any test text ≡ false
 lacks_where test other fails [] all = refl
-lacks_where test other fails (x ∷ text) all =
-    let parts = and_parts (other x) (list_all other text) all in
-    rw (fails x parts.0, lacks_where test other fails text parts.1) refl
-
-pub lacks_append : (test : ℕ → Bool) (a b : List ℕ) → list_any test a ≡ false → list_any test b ≡ false → list_any test (a ++ b) ≡ false
-lacks_append test a b h k = list_any-append test a b ∙ rw (h, k) refl
+lacks_where test other fails (x ∷ text) all = grind (arith, fails x, lacks_where test other fails text)
 
 -- digits, one after the other
 abbrev pub AreDigits : List ℕ → Type 0
@@ -122,12 +72,10 @@ pub digits_of : (variant : Variant) (digits digest : List ℕ) → IsDigest vari
 digits_of variant digits digest h = list_all-from_AllPass is_hex_digit digits (decode_of-ok digits digest h.bytes).1
 
 pub split_blank-front : (digits : List ℕ) (blank : ℕ) (rest : List ℕ) → AreDigits digits → is_blank blank ≡ true
-    → split_blank (digits ++ (blank ∷ rest)) ≡ parts_of digits rest
+    → split_blank (digits ++ (blank ∷ rest)) ≡ Some (digits, rest)
 unfolding split_blank
 split_blank-front [] blank rest h is = rw is refl
-split_blank-front (x ∷ digits) blank rest h is =
-    let parts = and_parts (is_hex_digit x) (list_all is_hex_digit digits) h in
-    rw (no_blank x parts.0, split_blank-front digits blank rest parts.1 is) refl
+split_blank-front (x ∷ digits) blank rest h is = grind (arith, nat_tests, split_blank-front digits blank rest)
 
 -- whether a parenthesis closes in a text
 abbrev closes : List ℕ → Bool
@@ -136,48 +84,35 @@ closes text = list_any (λ x. eqb x 41) text
 split_close-none : (text : List ℕ) → closes text ≡ false → split_close text ≡ None
 unfolding split_close
 split_close-none [] h = refl
-split_close-none (x ∷ text) h =
-    let parts = or_parts (eqb x 41) (closes text) h in
-    rw (split_close-none text parts.1, parts.0) refl
+split_close-none (x ∷ text) h = grind (arith, nat_tests, split_close-none text)
 
 -- the last parenthesis stands in front of what has none
-pub split_close-front : (text rest : List ℕ) → closes rest ≡ false → split_close (text ++ (41 ∷ rest)) ≡ parts_of text rest
+pub split_close-front : (text rest : List ℕ) → closes rest ≡ false → split_close (text ++ (41 ∷ rest)) ≡ Some (text, rest)
 unfolding split_close
 split_close-front [] rest h = rw (split_close-none rest h) refl
-split_close-front (x ∷ text) rest h = rw (split_close-front text rest h) refl
+split_close-front (x ∷ text) rest h = grind (arith, split_close-front text rest)
 
 -- what follows the name of a tagged line has none
 closes-behind : (before after digits : List ℕ) → IsBlank before → IsBlank after → AreDigits digits
     → closes (before ++ (61 ∷ (after ++ digits))) ≡ false
 closes-behind before after digits is_before is_after are =
-    lacks_append _ before (61 ∷ (after ++ digits)) (blanks before is_before)
-    (lacks_append _ after digits (blanks after is_after) (lacks_where _ is_hex_digit (λ x is. differs x 41 is refl) digits are))
-  where
-    blanks : (text : List ℕ) → IsBlank text → closes text ≡ false
-    blanks text are = lacks_where _ is_blank (λ x is. grind (arith, nat_tests)) text are
+    let blanks = λ (text : List ℕ) (are : IsBlank text). lacks_where (λ x. eqb x 41) is_blank (λ x is. grind (arith, nat_tests)) text are in
+    grind (arith, list_any-append, blanks before is_before, blanks after is_after, lacks_where (λ x. eqb x 41) is_hex_digit (λ x is. grind (arith, nat_tests)) digits are)
 
 -- ---- tags
 
--- a variant, and what follows it
-abbrev named : Variant → List ℕ → Option (Variant × List ℕ)
-named variant rest = Some (variant, rest)
-
-bits_sound : (v variant : Variant) (bytes rest : List ℕ) → option_map (λ rest. (v, rest)) (strip (bits_of v) bytes) ≡ named variant rest
+bits_sound : (v variant : Variant) (bytes rest : List ℕ) → option_map {U = Variant × List ℕ} (λ rest. (v, rest)) (strip (bits_of v) bytes) ≡ Some (variant, rest)
     → bytes ≡ bits_of variant ++ rest
-bits_sound v variant bytes rest e =
-    let found = map_some (strip (bits_of v) bytes) (λ rest. (v, rest)) (variant, rest) e in
-    let parts = some_pair_parts v variant found.0 rest (ap (λ (p : Variant × List ℕ). named p.0 p.1) found.2) in
-    strip-sound (bits_of v) bytes found.0 found.1 ∙ ap (λ (v : Variant). bits_of v ++ found.0) parts.0
-    ∙ ap (λ (back : List ℕ). bits_of variant ++ back) parts.1
+bits_sound v variant bytes rest e = grind (arith, strip-sound (bits_of v) bytes)
 
-strip_bits-sound : (bytes : List ℕ) (variant : Variant) (rest : List ℕ) → strip_bits bytes ≡ named variant rest → bytes ≡ bits_of variant ++ rest
+strip_bits-sound : (bytes : List ℕ) (variant : Variant) (rest : List ℕ) → strip_bits bytes ≡ Some (variant, rest) → bytes ≡ bits_of variant ++ rest
 strip_bits-sound bytes variant rest e =
     first_of (option_map (λ rest. (R128, rest)) (strip (codes "128") bytes)) _ (variant, rest) e (bits_sound R128 variant bytes rest) (λ e.
     first_of (option_map (λ rest. (R160, rest)) (strip (codes "160") bytes)) _ (variant, rest) e (bits_sound R160 variant bytes rest) (λ e.
     first_of (option_map (λ rest. (R256, rest)) (strip (codes "256") bytes)) _ (variant, rest) e (bits_sound R256 variant bytes rest)
     (bits_sound R320 variant bytes rest)))
 
-pub strip_tag-sound : (bytes : List ℕ) (variant : Variant) (rest : List ℕ) → strip_tag bytes ≡ named variant rest
+pub strip_tag-sound : (bytes : List ℕ) (variant : Variant) (rest : List ℕ) → strip_tag bytes ≡ Some (variant, rest)
     → (tag : List ℕ) × IsTag variant tag × (bytes ≡ tag ++ rest)
 unfolding strip_tag
 strip_tag-sound bytes variant rest e =
@@ -191,12 +126,7 @@ strip_tag-sound bytes variant rest e =
 
 pub strip_tag-tag : (variant : Variant) (tag rest : List ℕ) → IsTag variant tag → strip_tag (tag ++ rest) ≡ Some (variant, rest)
 unfolding strip_tag
-strip_tag-tag R128 tag rest (inl e) = rw e refl
-strip_tag-tag R128 tag rest (inr (inl e)) = rw e refl
-strip_tag-tag R128 tag rest (inr (inr e)) = rw e refl
-strip_tag-tag _ tag rest (inl e) = rw e refl
-strip_tag-tag _ tag rest (inr (inl e)) = rw e refl
-strip_tag-tag _ tag rest (inr (inr e)) = rw e refl
+strip_tag-tag _ tag rest is = grind arith
 
 -- ---- digests
 
@@ -206,22 +136,15 @@ digest_at-sound variant digits digest e = grind (arith, nat_tests)
 
 pub digest_at-digest : (variant : Variant) (digits digest : List ℕ) → IsDigest variant digits digest → digest_at variant digits ≡ Some digest
 unfolding digest_at
-digest_at-digest variant digits digest h = rw (eq-eqb _ _ h.twice, h.bytes) refl
+digest_at-digest variant digits digest h = grind (arith, nat_tests)
 
 -- ---- the untagged form
 
 text_at-sound : (layout : Layout) (blank : ℕ) (rest text : List ℕ) → IsTrue (is_blank blank) → text_at layout rest ≡ Some text
     → (separator : List ℕ) × IsSeparator layout separator × (text ≢ []) × (blank ∷ rest ≡ separator ++ text)
-text_at-sound Standard blank [] text is e = absurd cc
-text_at-sound Standard blank (kind ∷ []) text is e = absurd cc
-text_at-sound Reversed blank [] text is e = absurd cc
-text_at-sound Standard blank (kind ∷ first ∷ others) text is e =
-    let found = cond_some (eqb kind 32 || eqb kind 42) (first ∷ others) text e in
-    let separates : (kind ≡ 32) ⊎ (kind ≡ 42) = grind (arith, nat_tests) in
-    (blank ∷ kind ∷ [], (blank, kind, is, separates, refl), λ none. cc (found.1, none), ap (λ (t : List ℕ). blank ∷ kind ∷ t) found.1)
-text_at-sound Reversed blank (first ∷ others) text is e =
-    let same : first ∷ others ≡ text = same_Some _ _ e in
-    (blank ∷ [], (blank, is, refl), λ none. cc (same, none), ap (λ (t : List ℕ). blank ∷ t) same)
+text_at-sound Standard blank (kind ∷ first ∷ others) text is e = (blank ∷ kind ∷ [], grind (arith, nat_tests), grind arith, grind arith)
+text_at-sound Reversed blank (first ∷ others) text is e = (blank ∷ [], (blank, is, refl), grind arith, grind arith)
+text_at-sound _ _ _ text is e = absurd cc
 
 pub untagged_at-sound : (layout : Layout) (body : List ℕ) (found : Found) → untagged_at layout body ≡ Some found
     → IsUntagged layout body found.digits found.text × (variant_of (length found.digits) ≡ Some found.variant)
@@ -230,26 +153,21 @@ untagged_at-sound layout body found e =
     option_and_then_some _ (split_blank body) found e (λ parts split e2.
     option_and_then_some _ (variant_of (length parts.0)) found e2 (λ variant is e3.
     option_and_then_some _ (text_at layout parts.1) found e3 (λ text named e4.
-    let (blank, is_blank, whole) = split_blank-sound body parts.0 parts.1 split in
-    let (separator, is_separator, some, spaced) = text_at-sound layout blank parts.1 text is_blank named in
+    let (is_blank, whole) = split_blank-sound body parts.0 parts.1 split in
+    let (separator, is_separator, some, spaced) = text_at-sound layout _ parts.1 text is_blank named in
     let form : IsUntagged layout body parts.0 text =
     record { separator = separator; is_separator = is_separator; named = some; whole = whole ∙ ap (λ (back : List ℕ). parts.0 ++ back) spaced } in
     subst (λ (f : Found). IsUntagged layout body f.digits f.text × (variant_of (length f.digits) ≡ Some f.variant)) (same_Some _ _ e4) (form, is))))
 
 pub variant_of-size : (variant : Variant) (count : ℕ) → count ≡ 2 * size_of variant → variant_of count ≡ Some variant
-variant_of-size R128 count e = rw e refl
-variant_of-size _ count e = rw e refl
+variant_of-size variant count e = grind arith
 
 -- after the blank of a separator the text is found
 text_at-separator : (layout : Layout) (separator text : List ℕ) → IsSeparator layout separator → text ≢ []
     → (blank : ℕ) × (rest : List ℕ) × IsTrue (is_blank blank) × (separator ++ text ≡ blank ∷ rest) × (text_at layout rest ≡ Some text)
-text_at-separator layout separator [] is named = absurd (named refl)
-text_at-separator Standard separator (first ∷ others) is named =
-    let found : text_at Standard (is.1 ∷ first ∷ others) ≡ Some (first ∷ others) =
-    elim is.3 [ inl e ↦ rw e refl | inr e ↦ rw e refl ] in
-    (is.0, is.1 ∷ first ∷ others, is.2, ap (λ (front : List ℕ). front ++ (first ∷ others)) is.4, found)
-text_at-separator Reversed separator (first ∷ others) is named =
-    (is.0, first ∷ others, is.1, ap (λ (front : List ℕ). front ++ (first ∷ others)) is.2, refl)
+text_at-separator layout separator [] is some = absurd (some refl)
+text_at-separator Standard separator (first ∷ others) is some = (is.0, is.1 ∷ first ∷ others, is.2, grind arith, grind arith)
+text_at-separator Reversed separator (first ∷ others) is some = (is.0, first ∷ others, is.1, grind arith, refl)
 
 -- what is found in a body
 abbrev pub found : Variant → List ℕ → List ℕ → Option Found
@@ -259,42 +177,14 @@ pub untagged_at-form : (layout : Layout) (body : List ℕ) (variant : Variant) (
     → IsDigest variant digits digest → untagged_at layout body ≡ found variant digits text
 unfolding untagged_at
 untagged_at-form layout body variant digits digest text form is =
-    let at = text_at-separator layout form.separator text form.is_separator form.named in
-    let whole : body ≡ digits ++ (at.0 ∷ at.1) = form.whole ∙ ap (λ (back : List ℕ). digits ++ back) at.3 in
-    let split = split_blank-front digits at.0 at.1 (digits_of variant digits digest is) at.2 in
-    rw (whole, split, variant_of-size variant (length digits) is.twice, at.4) refl
+    grind (arith, form.whole, text_at-separator layout form.separator text form.is_separator form.named, split_blank-front digits, digits_of variant digits digest is, variant_of-size variant (length digits) is.twice)
 
 -- ---- the tagged form
 
 skip_space-sound : (bytes : List ℕ) → (space : List ℕ) × ((space ≡ []) ⊎ (space ≡ codes " ")) × (bytes ≡ space ++ skip_space bytes)
 skip_space-sound [] = ([], inl refl, refl)
 skip_space-sound (x ∷ rest) =
-    elim (eqb_tells x 32) [
-      | inl is ↦ (codes " ", inr refl, rw (is.1) refl)
-      | inr other ↦ ([], inl refl, rw other.0 refl)
-    ]
-
-tagged_of : (body tag rest inner text behind digits : List ℕ) (variant : Variant) → IsTag variant tag → body ≡ tag ++ rest
-    → strip (codes "(") (skip_space rest) ≡ Some inner → split_close inner ≡ parts_of text behind → strip (codes "=") (skip_blanks behind) ≡ Some digits
-    → IsTagged body variant (skip_blanks digits) text
-tagged_of body tag rest inner text behind digits variant is_tag whole opens split equals =
-    let space = skip_space-sound rest in
-    let opened = strip-sound (codes "(") (skip_space rest) inner opens in
-    let closed = split_close-sound inner text behind split in
-    let before = skip_blanks-sound behind in
-    let equal = strip-sound (codes "=") (skip_blanks behind) digits equals in
-    let after = skip_blanks-sound digits in
-    record {
-      tag = tag;
-      space = space.0;
-      before = before.0;
-      after = after.0;
-      is_tag = is_tag;
-      is_space = space.1;
-      is_before = before.1;
-      is_after = after.1;
-      whole = rw (← after.2, ← equal, ← before.2, ← closed, ← opened, ← space.2, ← whole) refl;
-    }
+    elim (eqb_tells x 32) [ inl is ↦ (codes " ", inr refl, rw (is.1) refl) | inr other ↦ ([], inl refl, rw other.0 refl) ]
 
 pub tagged_at-sound : (body tag rest : List ℕ) (variant : Variant) (found : Found) → IsTag variant tag → body ≡ tag ++ rest
     → tagged_at variant rest ≡ Some found → IsTagged body found.variant found.digits found.text
@@ -303,47 +193,44 @@ tagged_at-sound body tag rest variant found is_tag whole e =
     option_and_then_some _ (strip (codes "(") (skip_space rest)) found e (λ inner opens e2.
     option_and_then_some _ (split_close inner) found e2 (λ parts split e3.
     option_and_then_some _ (strip (codes "=") (skip_blanks parts.1)) found e3 (λ digits equals e4.
+    let (space, is_space, spaced) = skip_space-sound rest in
+    let (before, is_before, behind) = skip_blanks-sound parts.1 in
+    let (after, is_after, back) = skip_blanks-sound digits in
     subst (λ (f : Found). IsTagged body f.variant f.digits f.text) (same_Some _ _ e4)
-    (tagged_of body tag rest inner parts.0 parts.1 digits variant is_tag whole opens split equals))))
-
-skip_space-space : (space rest : List ℕ) → (space ≡ []) ⊎ (space ≡ codes " ") → skip_space (space ++ (codes "(" ++ rest)) ≡ codes "(" ++ rest
-skip_space-space space rest (inl e) = rw e refl
-skip_space-space space rest (inr e) = rw e refl
+    record {
+      tag = tag;
+      space = space;
+      before = before;
+      after = after;
+      is_tag = is_tag;
+      is_space = is_space;
+      is_before = is_before;
+      is_after = is_after;
+      whole = grind (arith, strip-sound (codes "(") (skip_space rest) inner opens, split_close-sound inner parts.0 parts.1 split, strip-sound (codes "=") (skip_blanks parts.1) digits equals);
+    })))
 
 -- the digits of a digest, with the first apart
 pub starts : (variant : Variant) (digits digest : List ℕ) → IsDigest variant digits digest
     → (x : ℕ) × (others : List ℕ) × (digits ≡ x ∷ others) × (is_hex_digit x ≡ true)
 starts variant [] digest is = absurd (grind (arith, is.twice))
-starts variant (x ∷ others) digest is =
-    let parts = and_parts (is_hex_digit x) (list_all is_hex_digit others) (digits_of variant (x ∷ others) digest is) in
-    (x, others, refl, parts.0)
+starts variant (x ∷ others) digest is = (x, others, refl, grind (arith, digits_of variant (x ∷ others) digest is))
 
 skip_blanks-digits : (blanks : List ℕ) (variant : Variant) (digits digest : List ℕ) → IsBlank blanks → IsDigest variant digits digest
     → skip_blanks (blanks ++ digits) ≡ digits
-skip_blanks-digits blanks variant digits digest blank is =
-    let first = starts variant digits digest is in
-    rw first.2 (skip_blanks-front blanks first.0 first.1 blank (no_blank first.0 first.3))
+skip_blanks-digits blanks variant digits digest blank is = grind (arith, starts variant digits digest, skip_blanks-front blanks, nat_tests)
 
 pub tagged_at-form : (variant : Variant) (space text before after digits digest : List ℕ) → (space ≡ []) ⊎ (space ≡ codes " ")
     → IsBlank before → IsBlank after → IsDigest variant digits digest
     → tagged_at variant (space ++ (codes "(" ++ (text ++ (codes ")" ++ (before ++ (codes "=" ++ (after ++ digits))))))) ≡ found variant digits text
 unfolding tagged_at
 tagged_at-form variant space text before after digits digest is_space is_before is_after is =
-    let behind = before ++ (codes "=" ++ (after ++ digits)) in
-    let none = closes-behind before after digits is_before is_after (digits_of variant digits digest is) in
-    let opened = skip_space-space space (text ++ (codes ")" ++ behind)) is_space in
-    let split = split_close-front text behind none in
-    let equals = skip_blanks-front before 61 (after ++ digits) is_before refl in
-    let skipped = skip_blanks-digits after variant digits digest is_after is in
-    rw (opened, split, equals, skipped) refl
+    grind (arith, split_close-front, closes-behind before after digits, skip_blanks-front, skip_blanks-digits after variant digits digest, digits_of variant digits digest)
 
 -- a body that begins with digits has no tag
 pub no_tag : (layout : Layout) (body : List ℕ) (variant : Variant) (digits digest text : List ℕ) → IsUntagged layout body digits text
     → IsDigest variant digits digest → strip_tag body ≡ None
 unfolding strip_tag
-no_tag layout body variant digits digest text form is =
-    let first = starts variant digits digest is in
-    rw (form.whole, first.2, differs first.0 82 first.3 refl) refl
+no_tag layout body variant digits digest text form is = grind (arith, nat_tests, starts variant digits digest is)
 
 -- ---- either
 
@@ -354,7 +241,7 @@ found_at-sound layout body f e = go (strip_tag body) refl e
   where
     go : (tag : Option (Variant × List ℕ)) → strip_tag body ≡ tag → either_at layout tag body ≡ Some f
         → IsUntagged layout body f.digits f.text ⊎ IsTagged body f.variant f.digits f.text
-    go (Some tag) is e = let parts = strip_tag-sound body tag.0 tag.1 is in inr (tagged_at-sound body parts.0 tag.1 tag.0 f parts.1 parts.2 e)
+    go (Some tag) is e = let (front, is_tag, whole) = strip_tag-sound body tag.0 tag.1 is in inr (tagged_at-sound body front tag.1 tag.0 f is_tag whole e)
     go None is e = inl (untagged_at-sound layout body f e).0
 
 pub found_at-form : (layout : Layout) (body : List ℕ) (variant : Variant) (digits digest text : List ℕ)
@@ -372,21 +259,6 @@ found_at-form layout body variant digits digest text (inr form) is =
 pub starts-form : (layout : Layout) (body : List ℕ) (variant : Variant) (digits digest text : List ℕ)
     → IsUntagged layout body digits text ⊎ IsTagged body variant digits text → IsDigest variant digits digest → (x : ℕ) × (rest : List ℕ) × (body ≡ x ∷ rest) × (is_blank x ≡ false) × (eqb x 92 ≡ false) × (eqb x 35 ≡ false)
 starts-form layout body variant digits digest text (inl form) is =
-    let first = starts variant digits digest is in (
-      first.0,
-      first.1 ++ (form.separator ++ text),
-      form.whole ∙ ap (λ (front : List ℕ). front ++ (form.separator ++ text)) first.2,
-      no_blank first.0 first.3,
-      differs first.0 92 first.3 refl,
-      differs first.0 35 first.3 refl,
-    )
-starts-form layout body variant digits digest text (inr form) is =
-    let back = form.space ++ (codes "(" ++ (text ++ (codes ")" ++ (form.before ++ (codes "=" ++ (form.after ++ digits)))))) in
-    let whole = λ (front : List ℕ) (e : form.tag ≡ front). form.whole ∙ ap (λ (front : List ℕ). front ++ back) e in
-    elim form.is_tag [
-      | inl e ↦ (82, _, whole (tag_of variant) e, refl, refl, refl)
-      | inr e ↦ elim e [
-        | inl e ↦ (82, _, whole (codes "RIPEMD-" ++ bits_of variant) e, refl, refl, refl)
-        | inr e ↦ (82, _, whole (codes "RIPEMD" ++ bits_of variant) e, refl, refl, refl)
-      ]
-    ]
+    let (first, others, e, digit) = starts variant digits digest is in
+    (first, others ++ (form.separator ++ text), grind arith, grind (arith, nat_tests), grind (arith, nat_tests), grind (arith, nat_tests))
+starts-form layout body variant digits digest text (inr form) is = grind arith

@@ -1,56 +1,26 @@
 -- What stands in no line: an end, in a line that is written, and the sign of a comment at the front of any line.
-use Rattle.std.proofs.Common.{◌≡◌, ◌≢◌, ℕ, Bool, true, false, List, [], ◌∷◌, ◌++◌, refl, sym, ap, ◌∙◌, eqb, leb, arith}
-use Rattle.std.specs.Prelude.{codes}
-use Rattle.std.specs.List.{list_any, list_all}
-use Rattle.std.proofs.lemmas.Bool.{and_parts, le-leb, eq-eqb, or_parts}
+use Rattle.std.proofs.Common.{◌≡◌, ◌≢◌, ℕ, ◌≤◌, Bool, true, false, List, [], ◌∷◌, ◌++◌, refl, eqb, arith}
+use Rattle.std.specs.List.{list_any}
 use Rattle.std.proofs.lemmas.Bool.Decides.{nat_tests}
+use Rattle.std.proofs.lemmas.List.Folds.{list_any-append}
 use Rattle.hex.specs.Hex.{encode_lower, is_hex_digit}
 use Rattle.ripemd_files.specs.declared.line.Variant.{Variant}
-use Rattle.ripemd_files.specs.declared.line.Variant.TheVariants.{R128}
 use Rattle.ripemd_files.specs.declared.line.Form.{Form}
-use Rattle.ripemd_files.specs.declared.line.Form.TheVariants.{Text, Binary, Tagged}
 use Rattle.ripemd_files.specs.declared.line.Layout.{Layout}
 use Rattle.ripemd_files.specs.declared.line.Ending.TheVariants.{Newline, Zero}
-use Rattle.ripemd_files.specs.Lines.{is_special, is_blank, is_end, IsBlank, escape_of, escaped, mark_of, tag_of, text_of, body_of, line_of, IsLine, RoundTrips}
-use Rattle.ripemd_files.proofs.Bodies.{AreDigits, lacks_append, lacks_where, digits_of, starts-form}
+use Rattle.ripemd_files.specs.Lines.{is_special, is_end, IsBlank, escaped, mark_of, text_of, body_of, line_of, IsLine, RoundTrips}
+use Rattle.ripemd_files.proofs.Bodies.{AreDigits, lacks_where, digits_of, starts-form}
 use Rattle.ripemd_files.proofs.Written.{IsDigest-written}
 
 -- no byte of a text passes a test
 abbrev Lacks : (ℕ → Bool) → List ℕ → Type 0
 Lacks test text = list_any test text ≡ false
 
--- beside the name a line has bytes from the space on
-abbrev visible : ℕ → Bool
-visible byte = leb 32 byte
-
-visible_digits : (digits : List ℕ) → AreDigits digits → list_all visible digits ≡ true
-visible_digits [] are = refl
-visible_digits (x ∷ digits) are =
-    let parts = and_parts (is_hex_digit x) (list_all is_hex_digit digits) are in
-    rw (le-leb 32 x (grind (arith, nat_tests)), visible_digits digits parts.1) refl
-
--- which a test of ends refuses
-module _ (test : ℕ → Bool) (foreign : (x : ℕ) → visible x ≡ true → test x ≡ false) where
-  Lacks-body : (form : Form) (variant : Variant) (digits text : List ℕ) → AreDigits digits → Lacks test text
-      → Lacks test (body_of form variant digits text)
-  Lacks-body form variant digits text are lacks = of form
-    where
-      of_digits : Lacks test digits
-      of_digits = lacks_where test visible foreign digits (visible_digits digits are)
-
-      of : (form : Form) → Lacks test (body_of form variant digits text)
-      of Text =
-          lacks_append test digits (codes "  " ++ text) of_digits
-          (lacks_append test (codes "  ") text (lacks_where test visible foreign (codes "  ") refl) lacks)
-      of Binary =
-          lacks_append test digits (codes " *" ++ text) of_digits
-          (lacks_append test (codes " *") text (lacks_where test visible foreign (codes " *") refl) lacks)
-      of Tagged =
-          lacks_append test (tag_of variant) (codes " (" ++ (text ++ (codes ") = " ++ digits)))
-          (lacks_where test visible foreign (tag_of variant) (elim variant as (λ v. list_all visible (tag_of v) ≡ true) [ R128 ↦ refl | _ ↦ refl ]))
-          (lacks_append test (codes " (") (text ++ (codes ") = " ++ digits)) (lacks_where test visible foreign (codes " (") refl)
-          (lacks_append test text (codes ") = " ++ digits) lacks
-          (lacks_append test (codes ") = ") digits (lacks_where test visible foreign (codes ") = ") refl) of_digits)))
+-- beside the name a line has bytes from the space on, which a test of ends refuses
+Lacks-body : (test : ℕ → Bool) → ((x : ℕ) → 32 ≤ x → test x ≡ false) → (form : Form) (variant : Variant) (digits text : List ℕ) → AreDigits digits
+    → Lacks test text → Lacks test (body_of form variant digits text)
+Lacks-body test foreign form variant digits text are lacks =
+    grind (arith, list_any-append, foreign, lacks_where test is_hex_digit (λ x is. foreign x (grind (arith, nat_tests))) digits are)
 
 abbrev is_zero : ℕ → Bool
 is_zero byte = eqb byte 0
@@ -60,36 +30,21 @@ is_zero byte = eqb byte 0
 -- a name in which nothing is escaped has no end
 Lacks-plain : (name : List ℕ) → Lacks is_special name → Lacks is_zero name → Lacks is_end name
 Lacks-plain [] special zero = refl
-Lacks-plain (x ∷ name) special zero =
-    let s = or_parts (is_special x) (list_any is_special name) special in
-    let z = or_parts (is_zero x) (list_any is_zero name) zero in
-    grind (arith, nat_tests, Lacks-plain name s.1 z.1)
-
-Lacks-escape : (x : ℕ) → eqb x 0 ≡ false → Lacks is_end (escape_of x)
-Lacks-escape x zero = grind (arith, nat_tests)
+Lacks-plain (x ∷ name) special zero = grind (arith, nat_tests, Lacks-plain name)
 
 -- an escaped name has none
 Lacks-escaped : (name : List ℕ) → Lacks is_zero name → Lacks is_end (escaped name)
 Lacks-escaped [] zero = refl
-Lacks-escaped (x ∷ name) zero =
-    let z = or_parts (eqb x 0) (list_any is_zero name) zero in
-    lacks_append is_end (escape_of x) (escaped name) (Lacks-escape x z.0) (Lacks-escaped name z.1)
-
-Lacks-text : (marked : Bool) (name : List ℕ) → list_any is_special name ≡ marked → Lacks is_zero name → Lacks is_end (text_of marked name)
-Lacks-text true name is zero = Lacks-escaped name zero
-Lacks-text false name is zero = Lacks-plain name is zero
+Lacks-escaped (x ∷ name) zero = grind (arith, nat_tests, list_any-append, Lacks-escaped name)
 
 -- ---- lines
 
 pub no_end : (layout : Layout) (form : Form) (variant : Variant) (digest name : List ℕ) → RoundTrips layout form variant digest name
     → Lacks is_end (line_of Newline form variant digest name)
 no_end layout form variant digest name h =
-    let marked = list_any is_special name in
-    let are = digits_of variant (encode_lower digest) digest (IsDigest-written layout form variant digest name h) in
-    let text = Lacks-text marked name refl h.no_zero in
-    lacks_append is_end (mark_of marked) (body_of form variant (encode_lower digest) (text_of marked name))
-    (elim marked as (λ m. Lacks is_end (mark_of m)) [ true ↦ refl | false ↦ refl ])
-    (Lacks-body is_end (λ x is. grind (arith, nat_tests)) form variant (encode_lower digest) (text_of marked name) are text)
+    let digits = digits_of variant (encode_lower digest) digest (IsDigest-written layout form variant digest name h) in
+    let body = Lacks-body is_end (λ x is. grind (arith, nat_tests)) form variant (encode_lower digest) (text_of (list_any is_special name) name) digits in
+    grind (arith, nat_tests, list_any-append, body, Lacks-escaped name h.no_zero, Lacks-plain name)
 
 pub no_zero : (layout : Layout) (form : Form) (variant : Variant) (digest name : List ℕ) → RoundTrips layout form variant digest name
     → Lacks is_zero (line_of Zero form variant digest name)
@@ -102,17 +57,11 @@ first_of : (indent : List ℕ) (marked : Bool) (x : ℕ) (rest : List ℕ) → I
     → (first : ℕ) × (others : List ℕ) × (indent ++ (mark_of marked ++ (x ∷ rest)) ≡ first ∷ others) × (eqb first 35 ≡ false)
 first_of [] true x rest blank other = (92, x ∷ rest, refl, refl)
 first_of [] false x rest blank other = (x, rest, refl, other)
-first_of (b ∷ indent) marked x rest blank other =
-    let parts = and_parts (is_blank b) (list_all is_blank indent) blank in
-    (b, indent ++ (mark_of marked ++ (x ∷ rest)), refl, grind (arith, nat_tests))
+first_of (b ∷ indent) marked x rest blank other = (b, indent ++ (mark_of marked ++ (x ∷ rest)), refl, grind (arith, nat_tests))
 
 pub starts_line : (layout : Layout) (line : List ℕ) (variant : Variant) (digest name : List ℕ) → IsLine layout line variant digest name
     → (first : ℕ) × (others : List ℕ) × (line ≡ first ∷ others) × (first ≢ 35)
 starts_line layout line variant digest name h =
-    let body = starts-form layout h.body variant h.digits digest h.text h.form h.is_digest in
-    let first = first_of h.indent h.marked body.0 body.1 h.is_indent body.5 in (
-      first.0,
-      first.1,
-      h.whole ∙ ap (λ (body : List ℕ). h.indent ++ (mark_of h.marked ++ body)) body.2 ∙ first.2,
-      λ same. cc (sym first.3 ∙ eq-eqb first.0 35 same),
-    )
+    let (x, rest, whole, other, no_mark, no_sign) = starts-form layout h.body variant h.digits digest h.text h.form h.is_digest in
+    let (first, others, front, is) = first_of h.indent h.marked x rest h.is_indent no_sign in
+    (first, others, grind (arith, h.whole, whole, front), grind (arith, nat_tests, is))

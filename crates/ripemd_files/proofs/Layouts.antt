@@ -1,11 +1,10 @@
 -- The layout that is found is the one that a line has.
-use Rattle.std.proofs.Common.{◌≡◌, ℕ, ◌*◌, Bool, true, List, ◌++◌, length, Option, Some, None, refl, sym, ap, ◌∙◌, inl, arith}
+use Rattle.std.proofs.Common.{◌≡◌, ℕ, ◌*◌, true, List, ◌++◌, length, Option, Some, None, refl, ap, ◌∙◌, inl, arith}
 use Rattle.std.specs.Prelude.{IfSome}
 use Rattle.std.specs.List.{list_all}
-use Rattle.std.proofs.lemmas.Bool.{and_parts, false_from_ne_true, eq-eqb, eqb-true}
+use Rattle.std.proofs.lemmas.Bool.{and_parts}
 use Rattle.std.proofs.lemmas.Bool.Decides.{nat_tests}
 use Rattle.std.proofs.lemmas.List.Sums.{AllPass-from_list_all}
-use Rattle.std.proofs.lemmas.Option.{same_Some}
 use Rattle.hex.specs.Hex.{is_hex_digit}
 use Rattle.hex.proofs.HexLemmas.{decode_of-digits}
 use Rattle.ripemd_files.specs.declared.line.Variant.{Variant}
@@ -14,7 +13,7 @@ use Rattle.ripemd_files.specs.declared.line.Layout.TheVariants.{Standard, Revers
 use Rattle.ripemd_files.specs.Lines.{size_of}
 use Rattle.ripemd_files.specs.Reading.{Found, skip_blanks, strip_mark, strip_tag, variant_of, untagged_at}
 use Rattle.ripemd_files.specs.Layouts.{has_digits, is_wanted_length, layout_at, layout_of, HasLayout}
-use Rattle.ripemd_files.proofs.Bodies.{no_tag, skip_blanks-sound, digits_of, starts-form, untagged_at-sound, untagged_at-form, variant_of-size}
+use Rattle.ripemd_files.proofs.Bodies.{no_tag, skip_blanks-sound, digits_of, starts-form, untagged_at-sound, untagged_at-form}
 use Rattle.ripemd_files.proofs.Sayings.{marked-front, strip_mark-sound}
 
 -- ---- the number of digits
@@ -22,53 +21,39 @@ use Rattle.ripemd_files.proofs.Sayings.{marked-front, strip_mark-sound}
 variant_of-count : (count : ℕ) (variant : Variant) → variant_of count ≡ Some variant → count ≡ 2 * size_of variant
 variant_of-count count variant e = grind (arith, nat_tests)
 
--- the number that counts is that of the variant
-wanted_of : (only : Option Variant) (variant : Variant) (count : ℕ) → is_wanted_length only count ≡ true → variant_of count ≡ Some variant
-    → IfSome only (λ one. one ≡ variant)
-wanted_of None variant count counted is = tt
-wanted_of (Some one) variant count counted is = same_Some _ _ (sym (variant_of-size one count (eqb-true count (2 * size_of one) counted)) ∙ is)
-
-is_wanted_length-of : (only : Option Variant) (variant : Variant) (count : ℕ) → IfSome only (λ one. one ≡ variant) → count ≡ 2 * size_of variant
-    → is_wanted_length only count ≡ true
-is_wanted_length-of None variant count same twice = refl
-is_wanted_length-of (Some one) variant count same twice = eq-eqb count (2 * size_of one) (twice ∙ ap (λ (v : Variant). 2 * size_of v) (sym same))
-
 -- ---- what is found is there
 
 -- a body that is untagged has the layout
-has_layout : (only : Option Variant) (layout : Layout) (line : List ℕ)
-    → has_digits only (untagged_at layout (strip_mark (skip_blanks line)).1) ≡ true → HasLayout only layout line
-has_layout only layout line = go (untagged_at layout (strip_mark (skip_blanks line)).1) refl
-  where
-    go : (found : Option Found) → untagged_at layout (strip_mark (skip_blanks line)).1 ≡ found → has_digits only found ≡ true
-        → HasLayout only layout line
-    go None is has = absurd cc
-    go (Some found) is has =
-        let marked = strip_mark (skip_blanks line) in
-        let indent = skip_blanks-sound line in
-        let parts = and_parts (is_wanted_length only (length found.digits)) (list_all is_hex_digit found.digits) has in
-        let (form, variant) = untagged_at-sound layout marked.1 found is in
-        let twice = variant_of-count _ _ variant in
-        let (digest, decoded) = decode_of-digits found.digits (omega (arith, twice)) (AllPass-from_list_all is_hex_digit found.digits parts.1) in
-        record {
-          indent = indent.0;
-          marked = marked.0;
-          body = marked.1;
-          variant = found.variant;
-          digits = found.digits;
-          digest = digest;
-          text = found.text;
-          is_indent = indent.1;
-          whole = indent.2 ∙ ap (λ (back : List ℕ). indent.0 ++ back) (strip_mark-sound (skip_blanks line));
-          form = form;
-          is_digest = record { twice = twice; bytes = decoded };
-          counted = wanted_of only found.variant (length found.digits) parts.0 variant;
-        }
+has_layout : (only : Option Variant) (layout : Layout) (line : List ℕ) (found : Option Found)
+    → untagged_at layout (strip_mark (skip_blanks line)).1 ≡ found → has_digits only found ≡ true → HasLayout only layout line
+has_layout only layout line None is has = absurd cc
+has_layout only layout line (Some found) is has =
+    let marked = strip_mark (skip_blanks line) in
+    let indent = skip_blanks-sound line in
+    let parts = and_parts (is_wanted_length only (length found.digits)) (list_all is_hex_digit found.digits) has in
+    let (form, variant) = untagged_at-sound layout marked.1 found is in
+    let wanted : IfSome only (λ one. one ≡ found.variant) = grind (arith, nat_tests) in
+    let twice = variant_of-count _ _ variant in
+    let (digest, decoded) = decode_of-digits found.digits (omega (arith, twice)) (AllPass-from_list_all is_hex_digit found.digits parts.1) in
+    record {
+      indent = indent.0;
+      marked = marked.0;
+      body = marked.1;
+      variant = found.variant;
+      digits = found.digits;
+      digest = digest;
+      text = found.text;
+      is_indent = indent.1;
+      whole = indent.2 ∙ ap (λ (back : List ℕ). indent.0 ++ back) (strip_mark-sound (skip_blanks line));
+      form = form;
+      is_digest = record { twice = twice; bytes = decoded };
+      counted = wanted;
+    }
 
 pub layout_of-found : (only : Option Variant) (layout : Layout) (line : List ℕ) → layout_of only line ≡ Some layout → HasLayout only layout line
 unfolding layout_at
 layout_of-found only layout line e =
-    grind (arith, has_layout only Standard line, has_layout only Reversed line)
+    grind (arith, has_layout only Standard line _ refl, has_layout only Reversed line _ refl)
 
 -- ---- what is there is found
 
@@ -76,27 +61,22 @@ module _ {only : Option Variant} {layout : Layout} {line : List ℕ} (h : HasLay
   body_found : (strip_mark (skip_blanks line)).1 ≡ h.body
   body_found =
       let starts = starts-form layout h.body h.variant h.digits h.digest h.text (inl h.form) h.is_digest in
-      ap (λ (l : List ℕ). (strip_mark (skip_blanks l)).1) h.whole
-      ∙ ap (λ (p : Bool × List ℕ). p.1) (marked-front h.indent h.marked h.body h.is_indent starts)
+      grind (arith, h.whole, marked-front h.indent h.marked h.body h.is_indent starts)
 
   no_tag_found : strip_tag (strip_mark (skip_blanks line)).1 ≡ None
   no_tag_found = ap strip_tag body_found ∙ no_tag layout h.body h.variant h.digits h.digest h.text h.form h.is_digest
 
   digits_found : has_digits only (untagged_at layout (strip_mark (skip_blanks line)).1) ≡ true
   digits_found =
-      rw (
-        body_found,
-        untagged_at-form layout h.body h.variant h.digits h.digest h.text h.form h.is_digest,
-        is_wanted_length-of only h.variant (length h.digits) h.counted h.is_digest.twice,
-        digits_of h.variant h.digits h.digest h.is_digest,
-      ) refl
+      grind (arith, body_found, untagged_at-form layout h.body h.variant h.digits h.digest h.text h.form h.is_digest, nat_tests, h.counted, h.is_digest.twice, digits_of h.variant h.digits h.digest h.is_digest)
 
 pub layout_of-standard : (only : Option Variant) (line : List ℕ) → HasLayout only Standard line → layout_of only line ≡ Some Standard
 unfolding layout_at
-layout_of-standard only line h = rw (no_tag_found h, digits_found h) refl
+layout_of-standard only line h = grind (arith, no_tag_found h, digits_found h)
 
 pub layout_of-reversed : (only : Option Variant) (line : List ℕ) → HasLayout only Reversed line → ¬ HasLayout only Standard line
     → layout_of only line ≡ Some Reversed
 unfolding layout_at
-layout_of-reversed only line h other =
-    rw (no_tag_found h, false_from_ne_true _ (λ is. other (has_layout only Standard line is)), digits_found h) refl
+layout_of-reversed only line h other = grind (arith, no_tag_found h, digits_found h, has_layout only Standard line _ refl)
+
+pub ruleset finding = (layout_of-found, layout_of-standard, layout_of-reversed)

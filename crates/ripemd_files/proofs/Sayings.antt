@@ -1,5 +1,5 @@
 -- What a line is read as is what it is a line of, and the other way round.
-use Rattle.std.proofs.Common.{◌≡◌, ℕ, Bool, true, false, List, [], ◌∷◌, ◌++◌, Option, Some, None, arith, refl, sym, ap, subst, ◌∙◌, eqb}
+use Rattle.std.proofs.Common.{◌≡◌, ℕ, Bool, false, List, [], ◌∷◌, ◌++◌, Option, Some, None, arith, refl, sym, ap, subst, ◌∙◌, eqb}
 use Rattle.std.specs.Prelude.{option_map, IfSome}
 use Rattle.std.proofs.lemmas.Bool.Decides.{nat_tests}
 use Rattle.std.proofs.lemmas.Option.{same_Some, none-some, option_and_then_some}
@@ -20,12 +20,11 @@ pub IsLine-said : (layout : Layout) (line : List ℕ) (variant : Variant) (diges
     → said_by layout line ≡ Some (record { variant = variant; digest = digest; name = name }) → IsLine layout line variant digest name
 unfolding said_by
 IsLine-said layout line variant digest name e =
-    let said : Said = record { variant = variant; digest = digest; name = name } in
     let marked = strip_mark (skip_blanks line) in
     let indent = skip_blanks-sound line in
-    option_and_then_some _ (found_at layout marked.1) said e (λ found is_found e2.
-    option_and_then_some _ (digest_at found.variant found.digits) said e2 (λ digest is_digest e3.
-    option_and_then_some _ (name_at marked.0 found.text) said e3 (λ name is_name e4.
+    option_and_then_some _ (found_at layout marked.1) _ e (λ found is_found e2.
+    option_and_then_some _ (digest_at found.variant found.digits) _ e2 (λ digest is_digest e3.
+    option_and_then_some _ (name_at marked.0 found.text) _ e3 (λ name is_name e4.
     let spelled = name_at-said marked.0 found.text name is_name in
     subst (λ (s : Said). IsLine layout line s.variant s.digest s.name) (same_Some _ _ e4)
     record {
@@ -46,24 +45,20 @@ IsLine-said layout line variant digest name e =
 pub marked-front : (indent : List ℕ) (marked : Bool) (body : List ℕ) → IsBlank indent
     → (x : ℕ) × (rest : List ℕ) × (body ≡ x ∷ rest) × (is_blank x ≡ false) × (eqb x 92 ≡ false) × (eqb x 35 ≡ false)
     → strip_mark (skip_blanks (indent ++ (mark_of marked ++ body))) ≡ (marked, body)
-marked-front indent true body blank (x, rest, is, other, no_mark, no_comment) = rw (is, skip_blanks-front indent 92 (x ∷ rest) blank refl) refl
-marked-front indent false body blank (x, rest, is, other, no_mark, no_comment) = rw (is, skip_blanks-front indent x rest blank other, no_mark) refl
+marked-front indent marked body blank (x, rest, is, other, no_mark, no_comment) = grind (arith, nat_tests, skip_blanks-front indent)
 
 -- a line has this mark and this body
 pub marked_body : (layout : Layout) (line : List ℕ) (variant : Variant) (digest name : List ℕ) → (h : IsLine layout line variant digest name)
     → strip_mark (skip_blanks line) ≡ (h.marked, h.body)
 marked_body layout line variant digest name h =
-    ap (λ (l : List ℕ). strip_mark (skip_blanks l)) h.whole
-    ∙ marked-front h.indent h.marked h.body h.is_indent (starts-form layout h.body variant h.digits digest h.text h.form h.is_digest)
+    grind (arith, h.whole, marked-front h.indent h.marked h.body h.is_indent (starts-form layout h.body variant h.digits digest h.text h.form h.is_digest))
 
 -- what it is a line of, it says
 pub said_by-line : (layout : Layout) (line : List ℕ) (variant : Variant) (digest name : List ℕ) → IsLine layout line variant digest name
     → said_by layout line ≡ Some (record { variant = variant; digest = digest; name = name })
 unfolding said_by
 said_by-line layout line variant digest name h =
-    let marked = marked_body layout line variant digest name h in
-    let found = found_at-form layout h.body variant h.digits digest h.text h.form h.is_digest in
-    rw (marked, found, digest_at-digest variant h.digits digest h.is_digest, name_at-spelled h.marked h.text name h.spelled h.no_zero) refl
+    grind (arith, marked_body layout line variant digest name h, found_at-form layout h.body variant h.digits digest h.text h.form h.is_digest, digest_at-digest variant h.digits digest h.is_digest, name_at-spelled h.marked h.text name h.spelled h.no_zero)
 
 -- what says nothing is no line
 pub no_line : (layout : Layout) (line : List ℕ) → said_by layout line ≡ None → (variant : Variant) (digest name : List ℕ) → ¬ IsLine layout line variant digest name
@@ -73,21 +68,16 @@ no_line layout line none variant digest name h = none-some _ (sym none ∙ said_
 pub one_line : (layout : Layout) (line : List ℕ) (variant other : Variant) (digest other_digest name other_name : List ℕ)
     → IsLine layout line variant digest name → IsLine layout line other other_digest other_name → (variant ≡ other) × (digest ≡ other_digest) × (name ≡ other_name)
 one_line layout line variant other digest other_digest name other_name h k =
-    let same = same_Some _ _ (sym (said_by-line layout line variant digest name h) ∙ said_by-line layout line other other_digest other_name k) in
-    (ap (λ (s : Said). s.variant) same, ap (λ (s : Said). s.digest) same, ap (λ (s : Said). s.name) same)
+    grind (arith, said_by-line layout line variant digest name h, said_by-line layout line other other_digest other_name k)
 
 -- ---- what the code finds
 
 -- if what was found is what the line says, the line is one of it
 pub found_is_line : (layout : Layout) (line : List ℕ) (found : Option Line) → option_map said_of found ≡ said_by layout line
     → IfSome found (λ l. IsLine layout line l.variant l.digest.items l.name.items)
-found_is_line layout line (Some l) e = IsLine-said layout line l.variant l.digest.items l.name.items (sym e)
-found_is_line layout line None e = tt
+found_is_line layout line found e = grind (arith, IsLine-said layout line)
 
 -- and what it is a line of was found
 pub line_is_found : (layout : Layout) (line : List ℕ) (found : Option Line) (variant : Variant) (digest name : List ℕ) → option_map said_of found ≡ said_by layout line
     → IsLine layout line variant digest name → Says found variant digest name
-line_is_found layout line (Some l) variant digest name e h =
-    let same = same_Some _ _ (e ∙ said_by-line layout line variant digest name h) in
-    (ap (λ (s : Said). s.variant) same, ap (λ (s : Said). s.digest) same, ap (λ (s : Said). s.name) same)
-line_is_found layout line None variant digest name e h = absurd (none-some _ (e ∙ said_by-line layout line variant digest name h))
+line_is_found layout line found variant digest name e h = grind (arith, said_by-line layout line variant digest name h)

@@ -1,5 +1,5 @@
 -- A digest has the length of its variant, and consists of bytes.
-use Rattle.std.proofs.Common.{◌≡◌, ◌⊎◌, ℕ, zero, suc, ◌+◌, ◌-◌, ◌*◌, ◌≤◌, List, [], ◌∷◌, ◌++◌, length, take, drop, Option, Some, None, inl, inr, refl, sym, ap, ◌∙◌, arith}
+use Rattle.std.proofs.Common.{◌≡◌, ◌⊎◌, ℕ, zero, suc, ◌+◌, ◌≤◌, List, [], ◌∷◌, ◌++◌, length, take, drop, Option, inl, inr, refl, sym, ◌∙◌, arith}
 use Rattle.std.specs.List.{fold}
 use Rattle.std.specs.Prelude.{slice_get}
 use Rattle.std.specs.Int.{to_le_bytes, w32}
@@ -20,62 +20,55 @@ use Rattle.ripemd_files.specs.Files.{parameters_of}
 
 length-sums : (xs ys : List ℕ) → length xs ≡ length ys → length (word_sums xs ys) ≡ length xs
 length-sums [] ys same = refl
-length-sums (x ∷ xs) [] same = absurd (omega (arith, same))
-length-sums (x ∷ xs) (y ∷ ys) same = ap suc (length-sums xs ys (omega (arith, same)))
+length-sums (x ∷ xs) ys same = grind (arith, length-sums xs)
 
 length-from_place : (k : ℕ) (xs : List ℕ) → length (from_place k xs) ≡ length xs
 length-from_place k xs = omega (arith, length-append (drop k xs) (take k xs), length-take k xs, length-drop k xs)
 
 length-step : (f : ℕ → ℕ → ℕ → ℕ) (x k s n : ℕ) (registers : List ℕ) → (n ≡ 4) ⊎ (n ≡ 5) → length registers ≡ n
     → length (step f x k s registers) ≡ n
-length-step f x k s n (a ∷ b ∷ c ∷ d ∷ []) is long = long
-length-step f x k s n (a ∷ b ∷ c ∷ d ∷ e ∷ []) is long = long
-length-step f x k s n registers is long = absurd (elim is [ inl e ↦ omega (arith, long, e) | inr e ↦ omega (arith, long, e) ])
+length-step f x k s n registers is long = grind arith
 
 length-registers : (line : Line) (block : List ℕ) (r count n : ℕ) (registers : List ℕ) → (n ≡ 4) ⊎ (n ≡ 5) → length registers ≡ n
     → length (registers_after line block r count registers) ≡ n
 unfolding registers_after
 length-registers line block r zero n registers is long = long
 length-registers line block r (suc count) n registers is long =
-    length-step _ _ _ _ n (registers_after line block r count registers) is (length-registers line block r count n registers is long)
+    grind (arith, length-step, length-registers line block r count n registers is long)
 
 -- both lines have so many registers
 abbrev AreLong : ℕ → Lines → Type 0
 AreLong n l = (length l.left ≡ n) × (length l.right ≡ n)
 
 long-exchange : (n : ℕ) (place : Option ℕ) (l : Lines) → AreLong n l → AreLong n (exchange place l)
-long-exchange n None l long = long
-long-exchange n (Some j) l long = (rw length-set long.0, rw length-set long.1)
+long-exchange n place l long = grind (arith, length-set)
 
 long-lines : (v : Parameters) (block : List ℕ) (n r : ℕ) (l : Lines) → (n ≡ 4) ⊎ (n ≡ 5) → AreLong n l → AreLong n (lines_after v block r l)
 unfolding lines_after
 long-lines v block n zero l is long = long
 long-lines v block n (suc r) l is long =
-    let before = lines_after v block r l in
-    let are = long-lines v block n r l is long in
+    let (left, right) = long-lines v block n r l is long in
     long-exchange n (slice_get v.exchanges r) _
-    (length-registers left_line block r 16 n before.left is are.0, length-registers (right_line v.rounds) block r 16 n before.right is are.1)
+    (length-registers left_line block r 16 n _ is left, length-registers (right_line v.rounds) block r 16 n _ is right)
 
 long-from : (v : Parameters) (state : List ℕ) → v.registers ≤ length state → AreLong v.registers (lines_from v state)
-long-from v state within =
-    (omega (arith, within, length-take v.registers state), omega (arith, within, length-drop (length state - v.registers) state))
+long-from v state within = grind (arith, length-take, length-drop)
 
 length-joint : (state left right : List ℕ) → length left ≡ length state → length right ≡ length state → length (joint_state state left right) ≡ length state
 length-joint state left right a b =
-    let first = length-sums (from_place 1 state) (from_place 2 left) (length-from_place 1 state ∙ sym a ∙ sym (length-from_place 2 left)) in
-    let sum : length (word_sums (from_place 1 state) (from_place 2 left)) ≡ length state = first ∙ length-from_place 1 state in
+    let sum : length (word_sums (from_place 1 state) (from_place 2 left)) ≡ length state = grind (arith, length-sums, length-from_place 1 state, length-from_place 2 left) in
     length-sums (word_sums (from_place 1 state) (from_place 2 left)) (from_place 3 right) (sum ∙ sym b ∙ sym (length-from_place 3 right)) ∙ sum
 
 length-double : (n : ℕ) (state left right : List ℕ) → length state ≡ n + n → length left ≡ n → length right ≡ n
     → length (double_state state left right) ≡ length state
-length-double n state left right whole a b = length-sums state (left ++ right) (omega (arith, whole, a, b, length-append left right))
+length-double n state left right whole a b = grind (arith, length-sums, length-append)
 
 length-compress : (variant : Variant) (state block : List ℕ) → length state ≡ length (parameters_of variant).start
     → length (compress (parameters_of variant) state block) ≡ length (parameters_of variant).start
 unfolding compress
 length-compress R128 state block long =
     let are = long-lines ripemd128 block 4 4 (lines_from ripemd128 state) (inl refl) (long-from ripemd128 state (omega (arith, long))) in
-    length-joint state _ _ (are.0 ∙ sym long) (are.1 ∙ sym long) ∙ long
+    grind (arith, length-joint state _ _ (are.0 ∙ sym long) (are.1 ∙ sym long))
 length-compress R160 state block long =
     let are = long-lines ripemd160 block 5 5 (lines_from ripemd160 state) (inr refl) (long-from ripemd160 state (omega (arith, long))) in
     length-joint state _ _ (are.0 ∙ sym long) (are.1 ∙ sym long) ∙ long
@@ -87,19 +80,13 @@ length-compress variant state block long =
 length-walk : (variant : Variant) (state : List ℕ) (bs : List (List ℕ)) → length state ≡ length (parameters_of variant).start
     → length (fold (compress (parameters_of variant)) state bs) ≡ length (parameters_of variant).start
 length-walk variant state [] long = long
-length-walk variant state (b ∷ bs) long =
-    length-walk variant (compress (parameters_of variant) state b) bs (length-compress variant state b long)
-
-in_bytes : (variant : Variant) → 4 * length (parameters_of variant).start ≡ size_of variant
-in_bytes R128 = refl
-in_bytes _ = refl
+length-walk variant state (b ∷ bs) long = grind (arith, length-compress variant state b long, length-walk variant (compress (parameters_of variant) state b) bs)
 
 pub length-ripemd : (variant : Variant) (message : List ℕ) → length (ripemd (parameters_of variant) message) ≡ size_of variant
 unfolding hash
 length-ripemd variant message =
-    let v = parameters_of variant in
-    let words = fold (compress v) v.start (blocks (padded_message message)) in
-    length-word_bytes words ∙ ap (λ n. 4 * n) (length-walk variant v.start (blocks (padded_message message)) refl) ∙ in_bytes variant
+    let words = fold (compress (parameters_of variant)) (parameters_of variant).start (blocks (padded_message message)) in
+    grind (arith, length-word_bytes words, length-walk variant (parameters_of variant).start (blocks (padded_message message)) refl)
 
 -- ---- the bytes
 

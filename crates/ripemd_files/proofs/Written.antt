@@ -1,6 +1,6 @@
 -- A line that is written is a line of its digest and its name.
-use Rattle.std.proofs.Common.{◌≡◌, ◌≢◌, ◌⊎◌, ℕ, ◌*◌, Bool, true, false, List, [], ◌∷◌, ◌++◌, arith, refl, ap, ◌∙◌, inl, inr}
-use Rattle.std.specs.Prelude.{codes, MatchBool}
+use Rattle.std.proofs.Common.{◌≡◌, ◌≢◌, ◌⊎◌, ℕ, ◌*◌, Bool, List, [], ◌∷◌, ◌++◌, arith, refl, ap, ◌∙◌, inl, inr}
+use Rattle.std.specs.Prelude.{codes}
 use Rattle.std.proofs.lemmas.Bool.Decides.{nat_tests}
 use Rattle.hex.specs.Hex.{encode_lower, lower_digits}
 use Rattle.hex.proofs.HexLemmas.{length-encode_with, decode_of-encode_lower}
@@ -10,7 +10,7 @@ use Rattle.ripemd_files.specs.declared.line.Form.TheVariants.{Text, Binary, Tagg
 use Rattle.ripemd_files.specs.declared.line.Ending.{Ending}
 use Rattle.ripemd_files.specs.declared.line.Layout.{Layout}
 use Rattle.ripemd_files.specs.declared.line.Layout.TheVariants.{Standard, Reversed}
-use Rattle.ripemd_files.specs.Lines.{tag_of, Spells, text_of, body_of, line_of, is_marked, IsDigest, IsUntagged, IsTagged, IsLine, IsReadable, RoundTrips}
+use Rattle.ripemd_files.specs.Lines.{tag_of, text_of, body_of, line_of, is_marked, IsDigest, IsUntagged, IsTagged, IsLine, IsReadable, RoundTrips}
 use Rattle.ripemd_files.proofs.Names.{Spells-escaped}
 
 pub IsDigest-written : (layout : Layout) (form : Form) (variant : Variant) (digest name : List ℕ) → RoundTrips layout form variant digest name
@@ -23,8 +23,7 @@ IsDigest-written layout form variant digest name can = record {
 -- the text of a name that is not empty is not
 text_of-named : (marked : Bool) (name : List ℕ) → name ≢ [] → text_of marked name ≢ []
 text_of-named marked [] named none = named refl
-text_of-named false (byte ∷ name) named none = cc
-text_of-named true (byte ∷ name) named none = grind (arith, nat_tests)
+text_of-named marked (byte ∷ name) named none = grind (arith, nat_tests)
 
 untagged : (kind : ℕ) → (kind ≡ 32) ⊎ (kind ≡ 42) → (digits : List ℕ) (marked : Bool) (name : List ℕ) → name ≢ []
     → IsUntagged Standard (digits ++ (32 ∷ kind ∷ text_of marked name)) digits (text_of marked name)
@@ -41,8 +40,6 @@ form-written : (layout : Layout) (form : Form) (variant : Variant) (digits : Lis
     ⊎ IsTagged (body_of form variant digits (text_of marked name)) variant digits (text_of marked name)
 form-written Standard Text variant digits marked name named = inl (untagged 32 (inl refl) digits marked name named)
 form-written Standard Binary variant digits marked name named = inl (untagged 42 (inr refl) digits marked name named)
-form-written Reversed Text variant digits marked name named = absurd named
-form-written Reversed Binary variant digits marked name named = absurd named
 form-written layout Tagged variant digits marked name named =
     inr record {
       tag = tag_of variant;
@@ -55,6 +52,7 @@ form-written layout Tagged variant digits marked name named =
       is_after = refl;
       whole = refl;
     }
+form-written Reversed _ variant digits marked name named = absurd named
 
 pub IsLine-line_of : (layout : Layout) (ending : Ending) (form : Form) (variant : Variant) (digest name : List ℕ) → RoundTrips layout form variant digest name
     → IsLine layout (line_of ending form variant digest name) variant digest name
@@ -71,7 +69,8 @@ IsLine-line_of layout ending form variant digest name can =
       whole = refl;
       form = form-written layout form variant (encode_lower digest) marked name can.readable;
       is_digest = IsDigest-written layout form variant digest name can;
-      spelled = elim marked as (λ m. MatchBool m (Spells (text_of m name) name) (text_of m name ≡ name))
-          [ true ↦ Spells-escaped name | false ↦ refl ];
+      spelled = grind (arith, Spells-escaped name);
       no_zero = can.no_zero;
     }
+
+pub ruleset writing = (IsLine-line_of)

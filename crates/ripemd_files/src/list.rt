@@ -90,6 +90,7 @@ fn is_taken(rules: Rules, line: &Line) -> bool
 }
 
 // What a line that is not passed over says, if that counts, and the layout of its list after it.
+#[tactic(auto, using(crate::proofs::Listed::is_taken))]
 fn read_entry(
     alloc: Global,
     rules: Rules,
@@ -160,6 +161,7 @@ fn is_group<R: ReadList>(lines: &[Line], reader: &R) -> bool
 }
 
 // Reads some lines of a list, up to the next one that says nothing that can be read, or that is not at hand.
+#[tactic(auto, using(crate::proofs::Grouped::reads_nothing))]
 pub(crate) fn read_group<F: Folder, R: ReadList>(
     alloc: Global,
     folder: &F,

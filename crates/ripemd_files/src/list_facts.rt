@@ -10,7 +10,7 @@ ghost use Rattle.ripemd_files.specs.Splitting.{lines_of, IsOneLine};
 ghost use Rattle.ripemd_files.specs.WorkedLists.{SplitLists, StandardLayouts, ReversedLayouts, NoLayouts};
 
 /// How a list is split into lines.
-#[tactic(auto, unfolding(crate::specs::Splitting::lines_of))]
+#[tactic(auto, using(crate::proofs::Cutting::lines_first, crate::proofs::Cutting::lines_last), unfolding(crate::specs::Splitting::lines_of))]
 pub fn split_lists()
     ensures worked { SplitLists }
     // A newline ends a line.
@@ -28,6 +28,7 @@ pub fn list_layouts()
 {}
 
 /// The layout that is found is the one that a line has, or the standard one if it has both.
+#[tactic(auto, using(crate::proofs::Layouts::finding))]
 pub fn found_layouts()
     // What is found, the line has.
     ensures found { (only : Option Variant) (layout : Layout) (line : List ℕ) → layout_of only line ≡ Some layout → HasLayout only layout line }

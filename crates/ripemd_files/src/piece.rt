@@ -28,6 +28,7 @@ pub enum Piece {
 /// # Errors
 ///
 /// `AllocError` if there is no memory left for it.
+#[tactic(auto, using(crate::proofs::Cutting::read_rest))]
 pub fn read_piece<R: Read>(
     reader: &mut BufReader<R>,
     end: u8,

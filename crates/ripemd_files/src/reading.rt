@@ -31,7 +31,7 @@ fn is_blank_byte(byte: u8) -> bool
 }
 
 // What follows the blanks at the front.
-#[tactic(auto, using(crate::proofs::Places::skipping))]
+#[tactic(auto, unfolding(crate::specs::Reading::skip_blanks))]
 fn without_blanks(text: &[u8]) -> &[u8]
     ensures { result.now ≡ skip_blanks text.now }
 {
@@ -51,7 +51,7 @@ fn behind<'a>(prefix: &[u8], text: &'a [u8]) -> Option<&'a [u8]>
 }
 
 // What comes before and after the first blank.
-#[tactic(auto, using(crate::proofs::Places::splitting))]
+#[tactic(auto, unfolding(crate::specs::Reading::split_blank))]
 fn around_blank(text: &[u8]) -> Option<(&[u8], &[u8])>
     ensures { option_map (λ x. (x.0.now, x.1.now)) result ≡ split_blank text.now }
 {
@@ -64,7 +64,7 @@ fn around_blank(text: &[u8]) -> Option<(&[u8], &[u8])>
 }
 
 // What comes before and after the last closing parenthesis.
-#[tactic(auto, using(crate::proofs::Places::closing))]
+#[tactic(auto, using(crate::proofs::Places::split_close_found), unfolding(crate::specs::Reading::split_close))]
 fn around_close(text: &[u8]) -> Option<(&[u8], &[u8])>
     ensures { option_map (λ x. (x.0.now, x.1.now)) result ≡ split_close text.now }
 {
@@ -311,6 +311,7 @@ pub(crate) fn read_line(
 /// takes beside them: blanks in front, digits of either case, a tab for the first of the two
 /// spaces, and tagged lines as OpenSSL writes them. The length of an untagged digest tells the
 /// variant.
+#[tactic(auto, using(crate::proofs::Sayings::line_is_found, crate::proofs::Written::writing))]
 pub fn parse_line(alloc: Global, layout: Layout, line: &[u8]) -> Result<Option<Line>, AllocError>
     // What is found, it is a line of.
     ensures found { IfOk result (λ found. IfSome found (λ l. IsLine layout line.now l.variant l.digest.items l.name.items)) }

@@ -1,15 +1,10 @@
-use Rattle.std.proofs.Common.{refl, rules}
-use Rattle.ripemd_files.proofs.Listed.{is_taken, not_taken, not_counted}
+use Rattle.std.proofs.Common.{rules}
+use Rattle.ripemd_files.proofs.Listed.{not_taken, not_counted}
 use Rattle.ripemd_files.proofs.list.read_entry.Goals as goal
 
 pub returns-in-None-clause-entry : goal.returns-in-None-clause-entry
 returns-in-None-clause-entry c =
     not_taken c.args.rules c.read_line.new.layout c.args.text.now _ (rw c.without_return.ensures at c.in_ok-line.ensures.line) c.in-None.is
-
-pub returns-then-is_taken-clause-entry : goal.returns-then-is_taken-clause-entry
-returns-then-is_taken-clause-entry c =
-    is_taken c.args.rules c.read_line.new.layout c.args.text.now _ (rw c.without_return.ensures at c.in_ok-line.ensures.line) c.in-Some.line
-    c.in-Some.is (c.if-is_taken.ensures.0 refl)
 
 pub returns-else-is_taken-clause-entry : goal.returns-else-is_taken-clause-entry
 returns-else-is_taken-clause-entry c =

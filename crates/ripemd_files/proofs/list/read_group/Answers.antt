@@ -1,17 +1,7 @@
 use Rattle.std.proofs.Common.{rules, arith, refl, [], Some, None, sym, ◌∙◌}
 use Rattle.ripemd_files.proofs.Cutting.{ended_since}
-use Rattle.ripemd_files.proofs.Grouped.{reads_line, reads_last, reads_no_more, reads_nothing, stops_at_line, stops_at_last, stops_reading, taken}
+use Rattle.ripemd_files.proofs.Grouped.{reads_line, reads_last, reads_no_more, stops_at_line, stops_at_last, stops_reading, taken}
 use Rattle.ripemd_files.proofs.list.read_group.Goals as goal
-
-pub lines-init : goal.lines-init
-lines-init g c = record {
-  reads = rw c.in_ok-lines.ensures.items (reads_nothing _ _ _ _ _);
-  works = refl;
-  readable = search rules;
-  advanced = λ some. search rules;
-  bounded = λ some. search rules;
-  behind = omega arith;
-}
 
 pub returns-in_err-read_line-clause-err : goal.returns-in_err-read_line-clause-err
 returns-in_err-read_line-clause-err g c =

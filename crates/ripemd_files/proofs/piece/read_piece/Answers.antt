@@ -1,19 +1,12 @@
 use Rattle.std.proofs.Common.{◌<◌, sym, ◌∙◌, ap, length, arith, rules}
 use Rattle.std.proofs.lemmas.Result.{IfOk-at_ok}
-use Rattle.ripemd_files.proofs.Cutting.{read_whole, read_last, read_rest}
+use Rattle.ripemd_files.proofs.Cutting.{read_whole, read_last}
 use Rattle.ripemd_files.proofs.piece.read_piece.Goals as goal
 
 pub returns-in_default-clause-piece : goal.returns-in_default-clause-piece
 returns-in_default-clause-piece g c =
     read_whole _ _ _ _ _ _ c.clear.ensures.items c.read_until-outcome.ensures.stops c.read_until-outcome.ensures.none_lost
     (sym c.pop-is_whole.ensures.found ∙ c.if-is_whole.true) c.pop-is_whole.ensures.text
-
-pub returns-in-Err-2-clause-piece : goal.returns-in-Err-2-clause-piece
-returns-in-Err-2-clause-piece g c =
-    let rest =
-    read_rest _ _ _ _ _ _ c.clear.ensures.items c.read_until-outcome.ensures.stops c.read_until-outcome.ensures.none_lost
-    (sym c.pop-is_whole.ensures.found ∙ c.if-is_whole.false) c.pop-is_whole.ensures.text in
-    (rest.1, rest.2)
 
 pub returns-in-Ok-clause-piece : goal.returns-in-Ok-clause-piece
 returns-in-Ok-clause-piece g c =
