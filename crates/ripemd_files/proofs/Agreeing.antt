@@ -15,12 +15,12 @@ use Rattle.ripemd_files.specs.declared.line.Ending.TheVariants.{Newline}
 use Rattle.ripemd_files.specs.declared.line.Variant.{Variant}
 use Rattle.ripemd_files.specs.declared.list.Rules.{Rules}
 use Rattle.ripemd_files.specs.declared.outcome.Outcome.{Outcome}
-use Rattle.ripemd_files.specs.declared.outcome.Outcome.TheVariants.{Digest, Refused, Broken}
+use Rattle.ripemd_files.specs.declared.outcome.Outcome.TheVariants.{Digest}
 use Rattle.ripemd_files.specs.declared.verdict.Verdict.{Verdict}
-use Rattle.ripemd_files.specs.declared.verdict.Verdict.TheVariants.{Differs, Matches, Missing, Unreadable}
+use Rattle.ripemd_files.specs.declared.verdict.Verdict.TheVariants.{Differs, Matches}
 use Rattle.ripemd_files.specs.Lines.{IsLine, RoundTrips, is_end}
 use Rattle.ripemd_files.specs.Files.{ComesTo, Gives, Place, parameters_of}
-use Rattle.ripemd_files.specs.Checking.{checked, is_missing, verdict_of}
+use Rattle.ripemd_files.specs.Checking.{checked, verdict_of}
 use Rattle.ripemd_files.specs.Lists.{IsEventOn, IsTaken, body_of_line}
 use Rattle.ripemd_files.specs.Printed.{IsPrinted, printed_line}
 use Rattle.ripemd_files.proofs.Written.{IsLine-line_of}
@@ -43,10 +43,6 @@ no_return (x ∷ rest) lacks =
 whole_line : (line : List ℕ) → list_any is_end line ≡ false → body_of_line line ≡ line
 whole_line line lacks = ap (λ (b : Bool). cond b (take (length line - 1) line) line) (no_return line lacks)
 
-unchosen : (b : Bool) (x y z : Verdict) → z ≡ cond b x y → y ≢ z → b ≡ true
-unchosen true x y z is other = refl
-unchosen false x y z is other = absurd (other (sym is))
-
 -- what came of a file whose verdict is this
 module _ {File : Type 0} (place : Place File) (hash : List ℕ → List ℕ) (name digest message : List ℕ) (same : digest ≡ hash message)
     (ignore_missing : Bool) where
@@ -56,22 +52,14 @@ module _ {File : Type 0} (place : Place File) (hash : List ℕ → List ℕ) (na
       let equal : d.items ≡ digest = comes.2 ∙ ap hash (gave comes.0 comes.1) ∙ sym same in
       let matches : Matches ≡ Differs = rw ((bytes_eq-Decides d.items digest).1 equal) at is in
       cc
-  not_different (Refused e) comes gave is = elim (ignore_missing && is_missing e) as (λ b. cond b Missing (Unreadable e) ≢ Differs) [
-    | true ↦ λ h. cc
-    | false ↦ λ h. cc
-  ] is
-  not_different (Broken e) comes gave is = cc
+  not_different _ comes gave is = absurd (grind arith)
 
-  same_digest : (outcome : Outcome) → ComesTo place hash name outcome → Matches ≡ verdict_of ignore_missing digest outcome
+  same_digest : (outcome : Outcome) → ComesTo place hash name outcome → verdict_of ignore_missing digest outcome ≡ Matches
       → (given : List ℕ) × Gives (place.opens name) place.left given × (hash given ≡ hash message)
   same_digest (Digest d) comes is =
-      let equal : bytes_eq d.items digest ≡ true = unchosen (bytes_eq d.items digest) Matches Differs Matches is (λ e. cc) in
+      let equal : bytes_eq d.items digest ≡ true = grind (arith, is) in
       (comes.0, comes.1, sym comes.2 ∙ (bytes_eq-Decides d.items digest).0 equal ∙ same)
-  same_digest (Refused e) comes is = absurd (elim (ignore_missing && is_missing e) as (λ b. Matches ≢ cond b Missing (Unreadable e)) [
-    | true ↦ λ h. cc
-    | false ↦ λ h. cc
-  ] is)
-  same_digest (Broken e) comes is = absurd cc
+  same_digest _ comes is = absurd (grind arith)
 
 module _ (kinds : Rules) (layout : Option Layout) (form : Form) (variant : Variant) (message name : List ℕ)
     (printed : IsPrinted kinds layout form variant name) where
@@ -127,7 +115,7 @@ module _ (kinds : Rules) (layout : Option Layout) (form : Form) (variant : Varia
     pub match_gives : verdict ≡ Matches
         → (given : List ℕ) × Gives (place.opens name) place.left given × (ripemd (parameters_of variant) given ≡ digest)
     match_gives matches =
-        same_digest place (ripemd (parameters_of variant)) name digest message refl ignore_missing event.2 came_to (sym matches ∙ is_verdict)
+        same_digest place (ripemd (parameters_of variant)) name digest message refl ignore_missing event.2 came_to (sym is_verdict ∙ matches)
 
     -- where the file gives no other message, this one has the digest
     pub equal_digests : verdict ≡ Matches → (given : List ℕ) → ((m : List ℕ) → Gives (place.opens name) place.left m → m ≡ given)
@@ -139,5 +127,4 @@ module _ (kinds : Rules) (layout : Option Layout) (form : Form) (variant : Varia
 pub none_found : {S T : Type 0} (wrap : S → T) (found : Option S) (answer : Option T)
     → MatchOption found (answer ≡ None) (λ c. IsSomeAnd answer (λ m. m ≡ wrap c)) → IsNone answer → IsNone found
 none_found wrap None answer is nothing = refl
-none_found wrap (Some c) None is nothing = absurd is
-none_found wrap (Some c) (Some m) is nothing = absurd cc
+none_found wrap (Some c) _ is nothing = absurd (grind arith)

@@ -26,6 +26,7 @@ use Rattle.ripemd_files.specs.Printing.{Reading, items_on, was_read, Prints}
 use Rattle.ripemd_files.specs.Files.{Breaks, ComesTo, Gives, Place, parameters_of}
 use Rattle.ripemd_files.specs.Said.{Adds, Item, AddsFirst, unreadable, written}
 use Rattle.ripemd_files.specs.Splitting.{ListState, lines_of}
+use Rattle.ripemd_files.specs.WorkedChecks.{tally}
 use Rattle.ripemd_files.proofs.Cutting.{cut}
 use Rattle.ripemd_files.proofs.Sayings.{one_line}
 
@@ -102,13 +103,9 @@ module _ {File : Type 0} (place : Place File) (contents : List ℕ → Result (L
   one_event layout number text (checked name verdict) (misformatted n) a b = absurd (b.1 a.0 a.1 name a.3)
   one_event layout number text (checked name verdict) (checked other_name other_verdict) a b =
       let one = one_line (unwrap_or layout Standard) (body_of_line text) a.0 b.0 a.1 b.1 name other_name a.3.is_line b.3.is_line in
-      cc (
-        one.0,
-        one.1,
-        one.2,
-        a.5 ∙ verdict_at place contents known ignore_missing _ name a.1 a.2 a.4,
-        b.5 ∙ verdict_at place contents known ignore_missing _ other_name b.1 b.2 b.4,
-      )
+      let first = a.5 ∙ verdict_at place contents known ignore_missing _ name a.1 a.2 a.4 in
+      let second = b.5 ∙ verdict_at place contents known ignore_missing _ other_name b.1 b.2 b.4 in
+      cc (one.0, one.1, one.2, first, second)
 
   -- one list of events comes of the lines of a list
   one_list : (layout : Option Layout) (number : ℕ) (lines : List (List ℕ)) (es fs : List Event) (last other : Option Layout)
@@ -126,17 +123,8 @@ module _ {File : Type 0} (place : Place File) (contents : List ℕ → Result (L
 
 one_tally : (events : List Event) (t u : Tally) → IsTally events t → IsTally events u → t ≡ u
 one_tally events t u a b =
-    ap (λ (n : ℕ). record t { misformatted = n }) (a.misformatted ∙ sym b.misformatted)
-    ∙ ap (λ (n : ℕ). record t { misformatted = u.misformatted; differing = n }) (a.differing ∙ sym b.differing)
-    ∙ ap (λ (n : ℕ). record u { unreadable = n; matched = t.matched; checked = t.checked }) (a.unreadable ∙ sym b.unreadable)
-    ∙ ap (λ (x : Bool). record u { matched = x; checked = t.checked }) (a.matched ∙ sym b.matched)
-    ∙ ap (λ (x : Bool). record u { checked = x }) (a.checked ∙ sym b.checked)
-
-one_growth : (old some more : List Item) (new other : Option (List Item)) → some ≡ more → Adds (Some old) new some → Adds (Some old) other more
-    → new ≡ other
-one_growth old some more None other same a b = absurd a
-one_growth old some more (Some xs) None same a b = absurd b
-one_growth old some more (Some xs) (Some ys) same a b = cc
+    let same : tally t.misformatted t.differing t.unreadable t.matched t.checked ≡ tally u.misformatted u.differing u.unreadable u.matched u.checked = cc in
+    same
 
 pub grown : (old more : List Item) (new : Option (List Item)) → Adds (Some old) new more → new ≡ Some (old ++ more)
 grown old more None a = absurd a
@@ -149,15 +137,8 @@ front_told before items more all early late told adds is = record {
   first = told.first;
   rest = told.rest ++ more;
   is_early = grown before told.first early told.adds;
-  is_late = grown before all late adds
-      ∙ ap (λ (l : List Item). Some (before ++ l)) (is ∙ ap (λ (l : List Item). l ++ more) told.split ∙ append_assoc told.first told.rest more);
+  is_late = rw (is, told.split, append_assoc) at (grown before all late adds);
 }
-
--- what is told of events, and then the rest, after the first of them
-grouped : (options : Options) (events es fs shown : List Event) (rest : List Item) → events ≡ es ++ fs → es ≡ shown
-    → flat_map (items_of_event options) events ++ rest
-    ≡ (flat_map (items_of_event options) shown ++ []) ++ (flat_map (items_of_event options) fs ++ rest)
-grouped options events es fs shown rest split same = rw (split, ← same, flat_map-append, append-nil, append_assoc) refl
 
 -- ---- lists
 
@@ -194,8 +175,7 @@ module _ (start : Start) {stage : Stage} {left : ListState} {lines : List (List 
     where
       none : (stage : Stage) → stage ≢ among → Reaches stage (list_before start) left read.behind read.rest → read.behind ≡ []
       none among over reached = absurd (over refl)
-      none ended over reached = reached.0
-      none failed over reached = reached.0
+      none _ over reached = reached.0
 
   pub lines_to_end : stage ≡ ended → lines_of start.list ≡ lines
   lines_to_end is =
@@ -213,8 +193,8 @@ same_far start a b same over too (inr far) =
     ∙ sym (front start.list b.bytes b.rest _ b.consumed))
     ∙ all_of start b too
 
-module _ {File : Type 0} (place : Place File) (contents : List ℕ → Result (List ℕ) Error) (known : IsKnown place contents)
-    (options : Options) (rules : Rules) (first : Option Layout) (start : Start) where
+module _ {File : Type 0} (place : Place File) (contents : List ℕ → Result (List ℕ) Error) (options : Options) (rules : Rules)
+    (first : Option Layout) (start : Start) (known : IsKnown place contents) where
   -- of the same lines one thing is said
   same_lines : {stage other : Stage} {left right : ListState} {last other_last : Option Layout} {xs ys : List Item} {t u : Tally}
       (a : IsReport place options rules first last (list_before start) left stage xs t)
@@ -232,7 +212,7 @@ module _ {File : Type 0} (place : Place File) (contents : List ℕ → Result (L
       let a = one.checks in
       let b = other.checks in
       let said = same_lines a.report b.report same (same_far start a.report.read b.report.read same a.is_over b.is_over far) in
-      (said.0, one_growth start.items a.items b.items one.told.items other.told.items said.2 a.tells.adds b.tells.adds, cc (a.answer, b.answer, same, said.1))
+      (said.0, cc (grown _ _ _ a.tells.adds, grown _ _ _ b.tells.adds, said.2), cc (a.answer, b.answer, same, said.1))
 
   -- what comes of the front of some lines
   reports_front : (layout : Option Layout) (number : ℕ) (lines more : List (List ℕ)) (events : List Event) (last : Option Layout)
@@ -243,55 +223,48 @@ module _ {File : Type 0} (place : Place File) (contents : List ℕ → Result (L
       let (es, fs, mid, is, front) = reports_front (layout_after rules layout text) (number + 1) rest more others last later in
       (here ++ es, fs, mid, are ∙ ap (λ l. here ++ l) is ∙ sym (append_assoc here es fs), (here, es, refl, on, front))
 
-  -- a run that ended among the lines, or at the end of the list, told the front of the report
+  -- what was told of lines among those of a list, or of all, is the front of what is told of the list
+  more_said : {left right : ListState} {last other_last : Option Layout} {xs ys : List Item} {t u : Tally} (stage : Stage)
+      → IsReport place options rules first last (list_before start) left ended xs t
+      → IsReport place options rules first other_last (list_before start) right stage ys u → stage ≢ failed → (more : List Item) × (xs ≡ ys ++ more)
+  more_said {left = left} {last = last} {other_last = other_last} {t = t} among a b works =
+      let (more, lines) = first_lines among start _ b.lines b.read in
+      let reports : Reports place options.ignore_missing rules first 1 (b.lines ++ more) a.events last =
+      rw (← lines, lines_to_end start a.read refl) a.reports in
+      let (es, fs, mid, split, come) = reports_front first 1 b.lines more a.events last reports in
+      let same = (one_list place contents known options.ignore_missing rules first 1 b.lines es b.events mid other_last come b.reports).0 in
+      let told = λ (events : List Event). flat_map (items_of_event options) events in
+      let rest = last_remarks ended options t in (
+        told fs ++ rest,
+        cc (a.said, b.said, split, same, flat_map-append (items_of_event options) es fs, append-nil (told es), append_assoc (told es) (told fs) rest),
+      )
+  more_said {ys = ys} ended a b works =
+      let said = same_lines a b refl (sym (lines_to_end start a.read refl) ∙ lines_to_end start b.read refl) in
+      ([], said.2 ∙ sym (append-nil ys))
+  more_said failed a b works = absurd (works refl)
+
   pub early_end : (one : Report place options rules first start) → one.checks.stage ≡ ended → (end : EarlyEnd place options rules first start)
       → end.stops.stage ≢ failed → IsFront start.items end.told.items one.told.items
-  early_end one whole end works = at end.stops.stage refl
-    where
-      a : IsReport place options rules first one.last (list_before start) one.left ended one.checks.items one.checks.tally
-      a = rw whole at one.checks.report
-
-      b : (stage : Stage) → end.stops.stage ≡ stage
-          → IsReport place options rules first end.stops.last (list_before start) end.left stage end.stops.items end.stops.tally
-      b stage is = rw is at end.stops.report
-
-      front_of : (more : List Item) → one.checks.items ≡ end.stops.items ++ more → IsFront start.items end.told.items one.told.items
-      front_of more is =
-          front_told start.items end.stops.items more one.checks.items end.told.items one.told.items end.stops.stops.told one.checks.tells.adds is
-
-      at : (stage : Stage) → end.stops.stage ≡ stage → IsFront start.items end.told.items one.told.items
-      at among is =
-          let report = b among is in
-          let (more, lines) = first_lines among start end.left report.lines report.read in
-          let reports : Reports place options.ignore_missing rules first 1 (report.lines ++ more) a.events one.last =
-          rw (← lines, lines_to_end start a.read refl) a.reports in
-          let (es, fs, mid, split, come) = reports_front first 1 report.lines more a.events one.last reports in
-          let same = (one_list place contents known options.ignore_missing rules first 1 report.lines es report.events mid end.stops.last come report.reports).0 in
-          let rest = last_remarks ended options one.checks.tally in
-          front_of (flat_map (items_of_event options) fs ++ rest)
-          (a.said ∙ grouped options a.events es fs report.events rest split same
-          ∙ ap (λ l. l ++ (flat_map (items_of_event options) fs ++ rest)) (sym report.said))
-      at ended is =
-          let report = b ended is in
-          let said = same_lines a report refl (sym (lines_to_end start a.read refl) ∙ lines_to_end start report.read refl) in
-          front_of [] (said.2 ∙ sym (append-nil end.stops.items))
-      at failed is = absurd (works is)
+  early_end one whole end works =
+      let (more, is) = more_said end.stops.stage (rw whole at one.checks.report) end.stops.report works in
+      front_told start.items end.stops.items more one.checks.items end.told.items one.told.items end.stops.stops.told one.checks.tells.adds is
 
 -- ---- files that are printed
 
-module _ {File : Type 0} (place : Place File) (contents : List ℕ → Result (List ℕ) Error) (known : IsKnown place contents) (style : Style) where
-  abbrev IsRead : Reading → Type 0
-  IsRead r = ComesTo place (ripemd (parameters_of style.variant)) r.name r.outcome
-
+module _ (contents : List ℕ → Result (List ℕ) Error) (style : Style) where
   abbrev pub items : List (List ℕ) → List Item
   items = flat_map (λ (name : List ℕ). items_by style name (contents name))
 
   abbrev pub are_given : List (List ℕ) → Bool
   are_given = list_all (λ (name : List ℕ). is_given (contents name))
 
+module _ {File : Type 0} (place : Place File) (contents : List ℕ → Result (List ℕ) Error) (style : Style) (known : IsKnown place contents) where
+  abbrev IsRead : Reading → Type 0
+  IsRead r = ComesTo place (ripemd (parameters_of style.variant)) r.name r.outcome
+
   of_readings : (rs : List Reading) → All IsRead rs
-      → (flat_map (λ (r : Reading). items_on style r.name r.outcome) rs ≡ items (map (λ (r : Reading). r.name) rs))
-      × (list_all (λ (r : Reading). was_read r.outcome) rs ≡ are_given (map (λ (r : Reading). r.name) rs))
+      → (flat_map (λ (r : Reading). items_on style r.name r.outcome) rs ≡ items contents style (map (λ (r : Reading). r.name) rs))
+      × (list_all (λ (r : Reading). was_read r.outcome) rs ≡ are_given contents style (map (λ (r : Reading). r.name) rs))
   of_readings [] read = (refl, refl)
   of_readings (r ∷ rs) read =
       let here = items_at place contents known style r.name r.outcome (All-head IsRead r rs read) in
@@ -300,28 +273,29 @@ module _ {File : Type 0} (place : Place File) (contents : List ℕ → Result (L
 
   -- what is printed of files is by what their names give
   pub prints_by : (names : List (List ℕ)) (told : List Item) (all : Bool) → Prints place style names told all
-      → (told ≡ items names) × (all ≡ are_given names)
-  prints_by names told all prints =
-      let come = of_readings prints.readings prints.each in
-      (prints.said ∙ come.0 ∙ ap items prints.named, prints.answer ∙ come.1 ∙ ap are_given prints.named)
+      → (told ≡ items contents style names) × (all ≡ are_given contents style names)
+  prints_by names told all prints = rw prints.named at (rw (← prints.said, ← prints.answer) at (of_readings prints.readings prints.each))
 
-  pub one_print : (files : List (List ℕ)) (before : List Item) (failure : Option Error)
-      (one other : Print place style files (record { items = Some before; failure = failure }))
+module _ {File : Type 0} (place : Place File) (contents : List ℕ → Result (List ℕ) Error) (style : Style) (files : List (List ℕ))
+    (before : List Item) (failure : Option Error) (known : IsKnown place contents)
+    (one : Print place style files (record { items = Some before; failure = failure })) where
+  by_one : (one.prints.items ≡ items contents style files) × (one.all ≡ are_given contents style files)
+  by_one = prints_by place contents style known files one.prints.items one.all one.prints.prints
+
+  pub one_print : (other : Print place style files (record { items = Some before; failure = failure }))
       → (one.told.items ≡ other.told.items) × (one.all ≡ other.all)
-  one_print files before failure one other =
-      let a = prints_by files one.prints.items one.all one.prints.prints in
-      let b = prints_by files other.prints.items other.all other.prints.prints in
-      (one_growth before _ _ _ _ (a.0 ∙ sym b.0) one.prints.tells.adds other.prints.tells.adds, a.1 ∙ sym b.1)
-
-  pub early_print : (files : List (List ℕ)) (before : List Item) (failure : Option Error)
-      (one : Print place style files (record { items = Some before; failure = failure }))
-      (end : EarlyPrint place style files (record { items = Some before; failure = failure })) → IsFront before end.told.items one.told.items
-  early_print files before failure one end =
-      let b = end.prints in
-      let back = drop b.count files in
-      front_told before b.items (items back) one.prints.items end.told.items one.told.items b.stops.told one.prints.tells.adds
-      (
-      (prints_by files one.prints.items one.all one.prints.prints).0 ∙ ap items (sym (take-append-drop b.count files))
-      ∙ flat_map-append (λ (name : List ℕ). items_by style name (contents name)) (take b.count files) back
-      ∙ ap (λ l. l ++ items back) (sym (prints_by (take b.count files) b.items b.all b.prints).0)
+  one_print other =
+      let by_other = prints_by place contents style known files other.prints.items other.all other.prints.prints in (
+        cc (by_one.0, by_other.0, grown _ _ _ one.prints.tells.adds, grown _ _ _ other.prints.tells.adds),
+        by_one.1 ∙ sym by_other.1,
       )
+
+  pub early_print : (end : EarlyPrint place style files (record { items = Some before; failure = failure }))
+      → IsFront before end.told.items one.told.items
+  early_print end =
+      let b = end.prints in
+      let back = items contents style (drop b.count files) in
+      let all : items contents style files ≡ b.items ++ back =
+      rw (take-append-drop, ← (prints_by place contents style known (take b.count files) b.items b.all b.prints).0) at
+      (flat_map-append (λ (name : List ℕ). items_by style name (contents name)) (take b.count files) (drop b.count files)) in
+      front_told before b.items back one.prints.items end.told.items one.told.items b.stops.told one.prints.tells.adds (by_one.0 ∙ all)
