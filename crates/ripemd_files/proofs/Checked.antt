@@ -1,5 +1,5 @@
 -- What a check finds of the files of some lines.
-use Rattle.std.proofs.Common.{◌≡◌, ◌≢◌, ◌⊎◌, ℕ, zero, suc, ◌+◌, ◌<◌, ◌≤◌, ◌-◌, ◌^◌, List, [], ◌∷◌, ◌++◌, flat_map, length, take, drop, get_or, Option, Bool, true, refl, subst, sym, ap, ◌∙◌, inl, inr, arith, append_assoc}
+use Rattle.std.proofs.Common.{◌≡◌, ◌≢◌, ◌⊎◌, ℕ, zero, suc, ◌+◌, ◌<◌, ◌≤◌, ◌-◌, ◌^◌, List, [], ◌∷◌, ◌++◌, flat_map, length, take, drop, get_or, Option, Bool, true, refl, sym, ap, ◌∙◌, inl, inr, arith, append_assoc}
 use Rattle.std.specs.Prelude.{IsTrue}
 use Rattle.std.specs.List.{AllZip, list_any}
 use Rattle.std.specs.Io.KnownBytes.{Consumes}
@@ -25,7 +25,7 @@ use Rattle.ripemd_files.specs.declared.verdict.Verdict.{Verdict}
 use Rattle.ripemd_files.specs.declared.verdict.Options.{Options}
 use Rattle.ripemd_files.specs.declared.verdict.Tally.{Tally}
 use Rattle.ripemd_files.specs.Files.{OfFirst, Place, ComesTo, parameters_of}
-use Rattle.ripemd_files.specs.Said.{Explains, Item, Pends, Stops, Tells, Told, written}
+use Rattle.ripemd_files.specs.Said.{Explains, Pends, Stops, Tells, Told, written}
 use Rattle.ripemd_files.specs.Splitting.{IsEnded, IsWhole, ListState, lines_of}
 use Rattle.ripemd_files.specs.Checking.{Event, Events, IsEventOf, IsNamed, IsOutcomeOf, IsTally, checked, counted, has_verdict, is_difference, is_match, is_misformatted, is_unreadable, items_of_event, verdict_of}
 use Rattle.ripemd_files.specs.Groups.{ChecksFirst, ChecksLines, ChecksSoFar, EndsAs, ExplainsReading, ReadsGroup, ReportsFirst, StopsReading, goes_on, misformatted_events}
@@ -82,9 +82,6 @@ checks_none place options old tally = record { events = []; are = no_events plac
 -- the next line of some whose files were read
 module _ {File : Type 0} (place : Place File) (options : Options) (lines : List Line) (outcomes : List Outcome)
     (read : AllZip (IsOutcomeOf place) lines outcomes) where
-  pub as_many_lines : length lines ≡ length outcomes
-  as_many_lines = sym (AllZip-long _ _ _ read)
-
   module _ (k : ℕ) (line : Line) (outcome : Outcome) (verdict : Verdict) (a b c : Told) (report : List ℕ) (first now : Tally)
       (within : k < length outcomes) (is_line : line ≡ get_or lines k line) (is_outcome : outcome ≡ get_or outcomes k outcome)
       (is_verdict : verdict ≡ verdict_of options.ignore_missing line.digest.items outcome)
@@ -92,23 +89,18 @@ module _ {File : Type 0} (place : Place File) (options : Options) (lines : List 
     abbrev event : Event
     event = checked line.name.items verdict
 
-    abbrev items : List Item
-    items = items_of_event options event
-
-    with_it : flat_map (items_of_event options) (before.events ++ event ∷ []) ≡ flat_map (items_of_event options) before.events ++ items
-    with_it =
-        flat_map-append (items_of_event options) before.events (event ∷ [])
-        ∙ ap (λ l. flat_map (items_of_event options) before.events ++ l) (append-nil items)
+    with_it : flat_map (items_of_event options) (before.events ++ event ∷ []) ≡ flat_map (items_of_event options) before.events ++ items_of_event options event
+    with_it = rw (flat_map-append, append-nil) refl
 
     each_next : AllZip (IsEventOf place options.ignore_missing) (take (k + 1) lines) (before.events ++ event ∷ [])
     each_next =
-        let short : k < length lines = omega (arith, as_many_lines) in
+        let short : k < length lines = omega (arith, AllZip-long _ _ _ read, within) in
         let comes : IsOutcomeOf place line outcome =
         rw (← is_line, ← is_outcome) at (all_zip_at (IsOutcomeOf place) lines outcomes k line outcome read short) in
         all_zip_next _ lines before.events k line event short (sym is_line) before.are.each
         (outcome, comes, ap (checked line.name.items) is_verdict)
 
-    pub told_next : (more : List ℕ) (next : Tally) → Pends b c report more items
+    pub told_next : (more : List ℕ) (next : Tally) → Pends b c report more (items_of_event options event)
         → ((earlier : List Event) (name : List ℕ) → IsTally earlier now → IsTally (earlier ++ checked name verdict ∷ []) next)
         → ToldSoFar place options (take (k + 1) lines) a c more first next
     told_next more next pends counts = record {
@@ -117,69 +109,63 @@ module _ {File : Type 0} (place : Place File) (options : Options) (lines : List 
         each = each_next;
         counts = λ earlier counted. rw (← append_assoc) (counts (earlier ++ before.events) line.name.items (before.are.counts earlier counted));
       };
-      pends = rw with_it (pends_more a b c [] report more _ items before.pends pends);
+      pends = rw with_it (pends_more a b c [] report more _ _ before.pends pends);
     }
 
     -- where the run ends
-    pub told_till : (fault : Fault) → Stops ⊥ b c (written report ++ items) fault → ChecksFirst place options lines a c fault
+    pub told_till : (fault : Fault) → Stops ⊥ b c (written report ++ items_of_event options event) fault → ChecksFirst place options lines a c fault
     told_till fault stops = record {
       count = k + 1;
       events = before.events ++ event ∷ [];
       each = each_next;
-      stops = rw with_it (pends_stops ⊥ a b c report _ items fault before.pends stops);
+      stops = rw with_it (pends_stops ⊥ a b c report _ _ fault before.pends stops);
     }
 
-  -- all of them
-  module _ (k : ℕ) (a b c : Told) (report : List ℕ) (first now : Tally) (over : length outcomes ≤ k)
-      (before : ToldSoFar place options (take k lines) a b report first now) where
-    whole : Events place options lines before.events first now
-    whole = rw (take_all k lines (omega (arith, as_many_lines, over))) at before.are
-
-    pub told_all : Tells b c (written report) → ChecksLines place options lines a c first now
-    told_all wrote = record { events = before.events; are = whole; tells = pends_done a b c report _ before.pends wrote }
-
-    pub told_unwritten : (fault : Fault) → Stops ⊥ b c (written report) fault → ChecksFirst place options lines a c fault
-    told_unwritten fault stops = record {
-      count = length lines;
-      events = before.events;
-      each = rw (take_all (length lines) lines (omega arith)) whole.each;
-      stops = pends_undone ⊥ a b c report _ fault before.pends stops;
-    }
-
--- the lines from a place on, after those before it
-module _ {File : Type 0} (place : Place File) (options : Options) (lines : List Line) (start : ℕ) (a b c : Told) (first now : Tally)
-    (before : ChecksLines place options (take start lines) a b first now) where
-  pub checks_lines_on : (end : ℕ) (next : Tally) → start ≤ end → ChecksLines place options (take (end - start) (drop start lines)) b c now next
-      → ChecksLines place options (take end lines) a c first next
-  checks_lines_on end next le after = record {
-    events = before.events ++ after.events;
-    are = record {
-      each = subst (λ l. AllZip (IsEventOf place options.ignore_missing) l (before.events ++ after.events))
-          (sym (take-add start (end - start) lines) ∙ ap (λ n. take n lines) (omega arith))
-          (all_zip_append _ _ _ _ _ before.are.each after.are.each);
-      counts = λ earlier counted. rw (← append_assoc) (after.are.counts (earlier ++ before.events) (before.are.counts earlier counted));
-    };
-    tells = rw flat_map-append (tells_more a b c _ _ before.tells after.tells);
+-- all of them
+module _ {File : Type 0} (place : Place File) (options : Options) (lines : List Line) (k : ℕ) (a b c : Told) (report : List ℕ) (first now : Tally)
+    (before : ToldSoFar place options (take k lines) a b report first now) where
+  pub told_all : length lines ≤ k → Tells b c (written report) → ChecksLines place options lines a c first now
+  told_all over wrote = record {
+    events = before.events;
+    are = rw (take_all k lines over) at before.are;
+    tells = pends_done a b c report _ before.pends wrote;
   }
 
+  pub told_unwritten : (fault : Fault) → Stops ⊥ b c (written report) fault → ChecksFirst place options lines a c fault
+  told_unwritten fault stops =
+      record { count = k; events = before.events; each = before.are.each; stops = pends_undone ⊥ a b c report _ fault before.pends stops }
+
+-- the lines from a place on, after those before it
+module _ {File : Type 0} (place : Place File) (options : Options) (lines : List Line) (start : ℕ) (a b : Told) (first now : Tally)
+    (before : ChecksLines place options (take start lines) a b first now) where
+  pub checks_lines_on : (c : Told) (end : ℕ) (next : Tally) → start ≤ end → ChecksLines place options (take (end - start) (drop start lines)) b c now next
+      → ChecksLines place options (take end lines) a c first next
+  checks_lines_on c end next le after =
+      let same : start + (end - start) ≡ end = omega (arith, le) in
+      record {
+        events = before.events ++ after.events;
+        are = record {
+          each = rw (← take-add, same) at (all_zip_append _ _ _ _ _ before.are.each after.are.each);
+          counts = λ earlier counted. rw (← append_assoc) (after.are.counts (earlier ++ before.events) (before.are.counts earlier counted));
+        };
+        tells = rw flat_map-append (tells_more a b c _ _ before.tells after.tells);
+      }
+
   -- or the first of these
-  pub checks_part : (end : ℕ) (fault : Fault) → ChecksFirst place options (take (end - start) (drop start lines)) b c fault
+  pub checks_part : (c : Told) (end : ℕ) (fault : Fault) → ChecksFirst place options (take (end - start) (drop start lines)) b c fault
       → ChecksFirst place options lines a c fault
-  checks_part end fault after =
+  checks_part c end fault after =
       let (count, same) = take_within after.count (end - start) (drop start lines) in
       record {
         count = start + count;
         events = before.events ++ after.events;
-        each = subst (λ l. AllZip (IsEventOf place options.ignore_missing) l (before.events ++ after.events)) (sym (take-add start count lines))
-            (all_zip_append _ _ _ _ _ before.are.each (rw same at after.each));
+        each = rw (same, ← take-add) at (all_zip_append _ _ _ _ _ before.are.each after.each);
         stops = rw flat_map-append (stops_after ⊥ a b c _ _ fault before.tells after.stops);
       }
 
--- there is no memory for the next
-pub checks_no_more : {File : Type 0} (place : Place File) (options : Options) (lines : List Line) (start : ℕ) (a b : Told) (first now : Tally)
-    → ChecksLines place options (take start lines) a b first now → ChecksFirst place options lines a b NoMemory
-checks_no_more place options lines start a b first now before =
-    record { count = start; events = before.events; each = before.are.each; stops = no_memory ⊥ a b _ before.tells }
+  -- there is no memory for the next
+  pub checks_no_more : ChecksFirst place options lines a b NoMemory
+  checks_no_more = record { count = start; events = before.events; each = before.are.each; stops = no_memory ⊥ a b _ before.tells }
 
 -- nothing of a list yet
 pub checks_begin : {File : Type 0} (place : Place File) (options : Options) (kinds : Rules) (cursor : Cursor) (list : ListState) (told : Told)

@@ -7,10 +7,8 @@ use Rattle.ripemd_files.specs.Files.{OfFirst}
 
 -- the first of the first of some items are the first of all
 pub take_within : {X : Type 0} (c n : ℕ) (xs : List X) → (m : ℕ) × (take c (take n xs) ≡ take m xs)
-take_within zero n xs = (0, refl)
-take_within (suc c) zero xs = (0, refl)
-take_within (suc c) (suc n) [] = (0, refl)
 take_within (suc c) (suc n) (x ∷ xs) = let (m, same) = take_within c n xs in (suc m, ap (λ l. x ∷ l) same)
+take_within _ _ _ = (0, refl)
 
 -- the item of the first list at the next place
 pub all_zip_next : {A B : Type 0} (R : A → B → Type 0) (xs : List A) (ys : List B) (i : ℕ) (x : A) (y : B) → i < length xs
@@ -39,13 +37,9 @@ module _ {A B C D : Type 0} (f : A → D) (g : B → C) (h : C → D) (xs : List
 
   pub same_at : (i : ℕ) (x : A) (y : B) → i < length ys → x ≡ get_or xs i x → y ≡ get_or ys i y → f x ≡ h (g y)
   same_at i x y within is_x is_y =
-      let long : i < length xs = omega (arith, same_length) in
-      ap f is_x
-      ∙ sym (get_or-map f xs i x (f x) long)
-      ∙ ap (λ l. get_or l i (f x)) same
-      ∙ get_or-map h (map g ys) i (g y) (f x) (rw length-map within)
-      ∙ ap h (get_or-map g ys i y (g y) within)
-      ∙ ap (λ z. h (g z)) (sym is_y)
+      rw (get_or-map f xs i x (f x) (omega (arith, same_length)), ← is_x) at
+      rw (get_or-map h (map g ys) i (g y) (f x) (rw length-map within), get_or-map g ys i y (g y) within, ← is_y) at
+      (ap (λ l. get_or l i (f x)) same)
 
 -- the items at a place
 pub all_zip_at : {A B : Type 0} (R : A → B → Type 0) (xs : List A) (ys : List B) (i : ℕ) (x : A) (y : B) → AllZip R xs ys → i < length xs
@@ -77,10 +71,9 @@ all_zip_append R (x ∷ xs) others (y ∷ ys) more first second = (first.0, all_
 all_zip_append R _ others _ more first second = absurd first
 
 all_zip_take : {A B : Type 0} (R : A → B → Type 0) (n : ℕ) (xs : List A) (ys : List B) → AllZip R xs ys → AllZip R (take n xs) (take n ys)
-all_zip_take R zero xs ys zipped = tt
-all_zip_take R (suc n) [] [] zipped = tt
 all_zip_take R (suc n) (x ∷ xs) (y ∷ ys) zipped = (zipped.0, all_zip_take R n xs ys zipped.1)
-all_zip_take R (suc n) _ _ zipped = absurd zipped
+all_zip_take R (suc n) [] [] zipped = tt
+all_zip_take R _ _ _ zipped = assumption
 
 -- what belongs to the first of the items between them
 pub first_through : {A B C : Type 0} (R : A → B → Type 0) (S : B → C → Type 0) (T : A → C → Type 0) (xs : List A) (ys : List B) (zs : List C)
