@@ -1,7 +1,7 @@
 -- Lines that were printed, and are checked.
-use Rattle.std.proofs.Common.{rules, ◌≡◌, ◌≢◌, ℕ, ◌-◌, ◌==◌, ◌&&◌, Bool, true, false, List, [], ◌∷◌, length, take, get_or, cond, Option, None, Some, unwrap_or, refl, sym, ap, subst, ◌∙◌, arith}
+use Rattle.std.proofs.Common.{rules, ◌≡◌, ◌≢◌, ℕ, ◌-◌, ◌==◌, ◌&&◌, Bool, true, false, List, [], ◌∷◌, length, take, get_or, cond, Option, None, Some, unwrap_or, refl, sym, ap, subst, ◌∙◌, arith, inl, inr}
 use Rattle.std.specs.List.{list_any}
-use Rattle.std.specs.Prelude.{IsNone, IsSomeAnd, MatchOption}
+use Rattle.std.specs.Prelude.{◌↔◌, ◌⊎◌, IsNone, IsSomeAnd, MatchOption}
 use Rattle.std.specs.Str.{bytes_eq}
 use Rattle.std.specs.Io.BufRead.{ends_with_byte}
 use Rattle.std.proofs.lemmas.Bool.{lt-ltb, eqb-true, false_from_ne_true}
@@ -117,14 +117,22 @@ module _ (kinds : Rules) (layout : Option Layout) (form : Form) (variant : Varia
     match_gives matches =
         same_digest place (ripemd (parameters_of variant)) name digest message refl ignore_missing event.2 came_to (sym is_verdict ∙ matches)
 
-    -- where the file gives no other message, this one has the digest
-    pub equal_digests : verdict ≡ Matches → (given : List ℕ) → ((m : List ℕ) → Gives (place.opens name) place.left m → m ≡ given)
-        → digest ≡ ripemd (parameters_of variant) given
-    equal_digests matches given gave =
-        let gives = match_gives matches in
-        sym gives.2 ∙ ap (ripemd (parameters_of variant)) (gave gives.0 gives.1)
-
-pub none_found : {S T : Type 0} (wrap : S → T) (found : Option S) (answer : Option T)
+none_found : {S T : Type 0} (wrap : S → T) (found : Option S) (answer : Option T)
     → MatchOption found (answer ≡ None) (λ c. IsSomeAnd answer (λ m. m ≡ wrap c)) → IsNone answer → IsNone found
 none_found wrap None answer is nothing = refl
 none_found wrap (Some c) _ is nothing = absurd (grind arith)
+
+-- a file that gives no other message matches, and there is no collision: it gave the printed one
+pub equal_messages : {File S T : Type 0} (place : Place File) (variant one : Variant) (message given : List ℕ) (wrap : S → T) (collision : Option S)
+    (answer : Option T) → variant ≡ one
+    → IsNone collision ↔ ((message ≡ given) ⊎ (ripemd (parameters_of one) message ≢ ripemd (parameters_of one) given))
+    → MatchOption collision (answer ≡ None) (λ c. IsSomeAnd answer (λ m. m ≡ wrap c)) → (rules : Rules) (layout : Option Layout) (form : Form)
+    (name found : List ℕ) (ignore_missing : Bool) (number : ℕ) → IsPrinted rules layout form variant name
+    → IsEventOn place ignore_missing rules layout number (printed_line form variant message name) (checked found Matches)
+    → ((m : List ℕ) → Gives (place.opens name) place.left m → m ≡ given) → IsNone answer → message ≡ given
+equal_messages place variant one message given wrap collision answer is none cases rules layout form name found ignore_missing number printed event gave nothing =
+    let gives = match_gives rules layout form variant message name printed place ignore_missing number found _ event refl in
+    elim (none.0 (none_found wrap collision answer cases nothing)) [
+      | inl equal ↦ equal
+      | inr apart ↦ absurd (apart (rw is at (sym gives.2 ∙ ap (ripemd (parameters_of variant)) (gave gives.0 gives.1))))
+    ]
