@@ -1,5 +1,5 @@
 -- What a check finds of the files of some lines.
-use Rattle.std.proofs.Common.{◌≡◌, ◌≢◌, ◌⊎◌, ℕ, zero, suc, ◌+◌, ◌<◌, ◌≤◌, ◌-◌, ◌^◌, List, [], ◌∷◌, ◌++◌, flat_map, length, take, drop, get_or, Option, Bool, true, refl, sym, ap, ◌∙◌, inl, inr, arith, append_assoc}
+use Rattle.std.proofs.Common.{◌≡◌, ◌≢◌, ◌⊎◌, ℕ, zero, suc, ◌+◌, ◌<◌, ◌≤◌, ◌-◌, ◌^◌, List, [], ◌∷◌, ◌++◌, flat_map, length, take, drop, get_or, Option, Bool, false, true, refl, sym, ap, ◌∙◌, inl, inr, arith, append_assoc}
 use Rattle.std.specs.Prelude.{IsTrue}
 use Rattle.std.specs.List.{AllZip, list_any}
 use Rattle.std.specs.Io.KnownBytes.{Consumes}
@@ -189,6 +189,9 @@ stage_of nexts.More = among
 stage_of nexts.Ended = ended
 stage_of nexts.Failed = failed
 
+is_over : (n : Next) → goes_on n ≡ false → stage_of n ≢ among
+is_over n over same = grind arith
+
 -- a list, after the groups before
 module _ {File : Type 0} {place : Place File} {options : Options} {kinds : Rules} {first now : Cursor} {old read : ListState} {a b : Told}
     {tally : Tally} (so_far : ChecksSoFar place options kinds first now old read a b tally) (begins : first.number ≡ 1) where
@@ -212,8 +215,7 @@ module _ {File : Type 0} {place : Place File} {options : Options} {kinds : Rules
         | inl entire ↦ inl (whole_more so_far.bytes bytes so_far.whole entire)
         | inr over ↦ inr (over.0, ended_since old.left read.left next.left so_far.bytes so_far.consumed over.1)
       ];
-      split = cut so_far.bytes bytes so_far.whole ∙ ap (λ l. lines_of so_far.bytes ++ l) reports.split
-          ∙ sym (append_assoc (lines_of so_far.bytes) reports.first reports.back);
+      split = rw (cut so_far.bytes bytes so_far.whole, reports.split, append_assoc) refl;
       reached = reached;
     };
     reports = rw begins at (so_far.told reports.first events reports.last reports.reports);
@@ -231,7 +233,7 @@ module _ {File : Type 0} {place : Place File} {options : Options} {kinds : Rules
       let (tally, counts) = some_tally (so_far.events ++ events) in
       record {
         stage = among;
-        items = flat_map (items_of_event options) (so_far.events ++ events) ++ [];
+        items = _;
         tally = tally;
         last = reports.last;
         report = report_on next bytes rest events among tally consumed ends reports tt counts;
@@ -268,22 +270,26 @@ module _ {File : Type 0} {place : Place File} {options : Options} {kinds : Rules
         at nexts.Failed entire over = inl over.0
 
     -- and of the first of its lines was told
-    pub stops_lines : {c : Told} {fault : Fault} → ChecksFirst place options group.lines.items b c fault
+    pub stops_lines : {lines : List Line} {c : Told} {fault : Fault} → lines ≡ group.lines.items → ChecksFirst place options lines b c fault
         → StopsList place options kinds first.layout old next a c fault
-    stops_lines {c} {fault} checks =
+    stops_lines {c = c} {fault = fault} are_lines checks =
         stopped next c reads.reads.bytes reads.rest checks.events fault reads.reads.consumed ends
-        (reads.reads.partly checks.count checks.events checks.each) (stops_for _ b c _ fault checks.stops)
+        (reads.reads.partly checks.count checks.events (rw are_lines at checks.each)) (stops_for _ b c _ fault checks.stops)
 
     -- or of all
-    module _ {c : Told} {counted : Tally} (checks : ChecksLines place options group.lines.items b c tally counted) where
+    module _ {lines : List Line} {c : Told} {counted : Tally} (are_lines : lines ≡ group.lines.items)
+        (checks : ChecksLines place options lines b c tally counted) where
       abbrev found : List Event
       found = checks.events ++ misformatted_events group.misformatted
+
+      each : AllZip (IsEventOf place options.ignore_missing) group.lines.items checks.events
+      each = rw are_lines at checks.are.each
 
       -- what comes of all of its lines
       abbrev reported : ReportsFirst place options.ignore_missing kinds now (lines_of reads.reads.bytes) found
       reported =
           first_of_all place options.ignore_missing kinds now (lines_of reads.reads.bytes) found after.layout
-          (rw (append-nil, append-nil) at (reads.reads.told checks.events checks.are.each [] [] after.layout (refl, refl)))
+          (rw (append-nil, append-nil) at (reads.reads.told checks.events each [] [] after.layout (refl, refl)))
 
       -- and the one that says nothing ended the run
       pub stops_misformatted : {d : Told} {fault : Fault}
@@ -323,7 +329,7 @@ module _ {File : Type 0} {place : Place File} {options : Options} {kinds : Rules
               told = λ behind more last report.
                   rw (cut so_far.bytes bytes so_far.whole, append_assoc, append_assoc, append_assoc)
                   (so_far.told (lines_of bytes ++ behind) (checks.events ++ (misformatted_events group.misformatted ++ more)) last
-                  (reads.reads.told checks.events checks.are.each behind more last report));
+                  (reads.reads.told checks.events each behind more last report));
             }
 
         -- or is over
@@ -339,15 +345,15 @@ module _ {File : Type 0} {place : Place File} {options : Options} {kinds : Rules
             at nexts.Ended over = (refl, over.0, ended_since old.left read.left next.left so_far.bytes so_far.consumed over.1, over.2 ∙ so_far.works)
             at nexts.Failed over = (refl, over.1, over.2)
 
-        pub checks_over : {n : Next} {e : Told} {success : Bool} → group.next ≡ n → stage_of n ≢ among
+        pub checks_over : {n : Next} {e : Told} {success : Bool} → group.next ≡ n → goes_on n ≡ false
             → Tells d e (last_remarks (stage_of n) options next_tally) → success ≡ succeeds (stage_of n) options next_tally
             → ChecksList place options kinds first.layout after.layout old next a e success
         checks_over {n} {e} is over said answer = record {
           stage = stage_of n;
-          items = flat_map (items_of_event options) (so_far.events ++ found) ++ last_remarks (stage_of n) options next_tally;
+          items = _;
           tally = next_tally;
           report = report_at n is;
-          is_over = over;
+          is_over = is_over n over;
           tells = tells_more a d e _ _ told_on said;
           answer = answer;
         }
@@ -356,7 +362,7 @@ module _ {File : Type 0} {place : Place File} {options : Options} {kinds : Rules
             → StopsList place options kinds first.layout old next a e fault
         stops_over {n} {e} {fault} is stops = record {
           stage = stage_of n;
-          items = flat_map (items_of_event options) (so_far.events ++ found) ++ last_remarks (stage_of n) options next_tally;
+          items = _;
           tally = next_tally;
           last = after.layout;
           report = report_at n is;
