@@ -253,21 +253,18 @@ module _ {File : Type 0} {place : Place File} {options : Options} {kinds : Rules
           → Explains (2 ^ 64 - 1 ≤ length (lines_of ((so_far.bytes ++ []) ++ stops.bytes))) b b fault
       explains (Write error) why = absurd why
       explains NoMemory why = refl
-      explains TooManyLines why = (
-        omega (arith, why, begins, so_far.numbered, ap (λ l. length (lines_of (l ++ stops.bytes))) (append-nil so_far.bytes), ap length (cut so_far.bytes stops.bytes so_far.whole), length-append (lines_of so_far.bytes) (lines_of stops.bytes)),
-        refl,
-      )
+      explains TooManyLines why =
+          (rw (append-nil, cut so_far.bytes stops.bytes so_far.whole, length-append) (omega (arith, why, begins, so_far.numbered)), refl)
 
   -- a group was read
   module _ {next : ListState} {after : Cursor} {group : Group} (reads : ReadsGroup place options.ignore_missing kinds read next now after group) where
     ends : IsWhole reads.reads.bytes ⊎ ((reads.rest ≡ []) × IsEnded read.left next.left)
-    ends = at group.next reads.reads.whole reads.ended
-      where
-        at : (n : Next) → (IsTrue (goes_on n) → IsWhole reads.reads.bytes) → EndsAs n read next reads.reads.bytes reads.rest
-            → IsWhole reads.reads.bytes ⊎ ((reads.rest ≡ []) × IsEnded read.left next.left)
-        at nexts.More entire over = inl (entire refl)
-        at nexts.Ended entire over = inr (over.0, over.1)
-        at nexts.Failed entire over = inl over.0
+    ends = (elim group.next as (λ n. (IsTrue (goes_on n) → IsWhole reads.reads.bytes) → EndsAs n read next reads.reads.bytes reads.rest
+        → IsWhole reads.reads.bytes ⊎ ((reads.rest ≡ []) × IsEnded read.left next.left)) [
+          | nexts.More ↦ λ entire over. inl (entire refl)
+          | nexts.Ended ↦ λ entire over. inr (over.0, over.1)
+          | nexts.Failed ↦ λ entire over. inl over.0
+        ]) reads.reads.whole reads.ended
 
     -- and of the first of its lines was told
     pub stops_lines : {lines : List Line} {c : Told} {fault : Fault} → lines ≡ group.lines.items → ChecksFirst place options lines b c fault

@@ -63,22 +63,16 @@ module _ {File : Type 0} (place : Place File) (ignore_missing : Bool) (kinds : R
 
   pub takes_skipped : IsTrue (is_passed_over text) → (lines : List Line) → Takes place ignore_missing kinds before after text lines lines None
   takes_skipped skipped lines = record {
-    told = λ events zipped.
-        (events, [], sym (append-nil events), zipped, goes_on [] (rw skipped refl));
+    told = λ events zipped. (events, [], sym (append-nil events), zipped, goes_on [] (rw skipped refl));
     grown = inl refl;
   }
 
   pub takes_misformatted : IsFalse (is_passed_over text) → IsEntry kinds after.layout text None → (lines : List Line)
       → Takes place ignore_missing kinds before after text lines lines (Some before.number)
   takes_misformatted counts entry lines = record {
-    told = λ events zipped. (
-      events,
-      [],
-      sym (append-nil events),
-      zipped,
-      goes_on (misformatted before.number ∷ [])
-          (rw counts (misformatted before.number, refl, (refl, entry))),
-    );
+    told = λ events zipped.
+        let on = goes_on (misformatted before.number ∷ []) (rw counts (misformatted before.number, refl, (refl, entry))) in
+        (events, [], sym (append-nil events), zipped, on);
     grown = inl refl;
   }
 
@@ -86,13 +80,8 @@ module _ {File : Type 0} (place : Place File) (ignore_missing : Bool) (kinds : R
       → Takes place ignore_missing kinds before after text lines (lines ++ line ∷ []) None
   takes_said line counts entry lines = record {
     told = λ events zipped.
-        let (earlier, event, same, first, both) = all_zip_last (IsEventOf place ignore_missing) lines line events zipped in (
-          earlier,
-          event ∷ [],
-          same,
-          first,
-          goes_on (event ∷ [])
-              (rw counts (event, refl, rw both.2 (line.variant, line.digest.items, both.0, entry, both.1, refl))),
-        );
+        let (earlier, event, same, first, both) = all_zip_last (IsEventOf place ignore_missing) lines line events zipped in
+        let on = goes_on (event ∷ []) (rw counts (event, refl, rw both.2 (line.variant, line.digest.items, both.0, entry, both.1, refl))) in
+        (earlier, event ∷ [], same, first, on);
     grown = inr (line, refl, refl);
   }

@@ -98,13 +98,8 @@ module _ {File : Type 0} (place : Place File) (style : Style) (names : List (Lis
 -- or the run ends before their lines are written
 pub prints_unwritten : {File : Type 0} (place : Place File) (style : Style) (names : List (List ℕ)) (k : ℕ) (a b c : Told) (lines : List ℕ) (all : Bool)
     (fault : Fault) → PrintsSoFar place style (take k names) a b lines all → Stops ⊥ b c (written lines) fault → PrintsFirst place style names a c fault
-prints_unwritten place style names k a b c lines all fault before stops = record {
-  count = k;
-  items = before.items;
-  all = all;
-  prints = before.prints;
-  stops = pends_undone ⊥ a b c lines before.items fault before.pends stops;
-}
+prints_unwritten place style names k a b c lines all fault before stops =
+    record { count = k; items = _; all = _; prints = before.prints; stops = pends_undone ⊥ a b c lines before.items fault before.pends stops }
 
 -- the files from a place on, after those before it
 module _ {File : Type 0} (place : Place File) (style : Style) (names : List (List ℕ)) (start : ℕ) (a b : Told) (all : Bool)

@@ -15,5 +15,4 @@ pub returns-in_err-outcomes-clause-err : goal.returns-in_err-outcomes-clause-err
 returns-in_err-outcomes-clause-err g c = search (rules, checks_no_more _ _ _ _ _ _ _ _ c.loop-start.invariant.checked)
 
 pub returns-in_err-check_outcomes-clause-err : goal.returns-in_err-check_outcomes-clause-err
-returns-in_err-check_outcomes-clause-err g c =
-    search (rules, checks_part _ _ _ _ _ _ _ _ c.loop-start.invariant.checked _ _ _ c.in_err-check_outcomes.ensures.err)
+returns-in_err-check_outcomes-clause-err g c = search (rules, checks_part _ _ _ _ _ _ _ _ c.loop-start.invariant.checked)

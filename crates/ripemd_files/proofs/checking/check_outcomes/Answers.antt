@@ -12,11 +12,9 @@ bounds-lines-k g c = omega (arith, c.loop-k-test.true, AllZip-long _ _ _ c.requi
 
 pub returns-in_err-tell-clause-err : goal.returns-in_err-tell-clause-err
 returns-in_err-tell-clause-err g c =
-    search (
-      rules,
-      told_till _ _ _ _ c.requires.read _ _ _ _ _ _ _ _ _ _ c.loop-k-test.true c.index-lines-k.is c.index-outcomes-k.is
-          (rw c.as_slice.ensures.value at c.of-verdict.ensures) c.loop-k.invariant _ (rw c.as_slice-in-loop-k.ensures.value at c.in_err-tell.ensures.err),
-    )
+    let stops = told_till _ _ _ _ c.requires.read _ _ _ _ _ _ _ _ _ _ c.loop-k-test.true c.index-lines-k.is c.index-outcomes-k.is
+    (rw c.as_slice.ensures.value at c.of-verdict.ensures) c.loop-k.invariant _ (rw c.as_slice-in-loop-k.ensures.value at c.in_err-tell.ensures.err) in
+    search (rules, stops)
 
 pub loop-k-preserved : goal.loop-k-preserved
 loop-k-preserved g c =

@@ -19,12 +19,10 @@ loop-k-preserved g c =
 
 pub returns-in_err-read-clause-err : goal.returns-in_err-read-clause-err
 returns-in_err-read-clause-err g c =
-    search (
-      rules,
-      prints_till _ _ _ _ c.requires.read _ _ _ _ _ _ _ _ c.loop-k-test.true
-          (get_or-map (λ r. r.now) c.args.names.now c.loop-k.k _ _ (omega (arith, c.loop-k-test.true, AllZip-long _ _ _ c.requires.read, length-map c.args.names.now (λ r. r.now))))
-          c.index-outcomes-k.is c.loop-k.invariant _ c.in_err-read.ensures.err,
-    )
+    let stops = prints_till _ _ _ _ c.requires.read _ _ _ _ _ _ _ _ c.loop-k-test.true
+    (get_or-map (λ r. r.now) c.args.names.now c.loop-k.k _ _ (omega (arith, c.loop-k-test.true, AllZip-long _ _ _ c.requires.read, length-map c.args.names.now (λ r. r.now))))
+    c.index-outcomes-k.is c.loop-k.invariant _ c.in_err-read.ensures.err in
+    search (rules, stops)
 
 pub returns-in_err-put-clause-err : goal.returns-in_err-put-clause-err
 returns-in_err-put-clause-err g c =
