@@ -136,3 +136,5 @@ equal_messages place variant one message given wrap collision answer is none cas
       | inl equal ↦ equal
       | inr apart ↦ absurd (apart (rw is at (sym gives.2 ∙ ap (ripemd (parameters_of variant)) (gave gives.0 gives.1))))
     ]
+
+pub ruleset digests = (length-ripemd, bytes-ripemd)

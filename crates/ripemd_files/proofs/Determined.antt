@@ -188,10 +188,7 @@ same_far : (start : Start) {stage other : Stage} {left right : ListState} {lines
     → stage ≡ ended ⊎ (length a.bytes ≡ length b.bytes) → lines ≡ more
 same_far start a b same over too (inl is) = sym (lines_to_end start a is) ∙ lines_to_end start b (sym same ∙ is)
 same_far start a b same over too (inr far) =
-    sym (all_of start a over)
-    ∙ ap lines_of (front start.list a.bytes a.rest _ a.consumed ∙ ap (λ (n : ℕ). take n start.list) far
-    ∙ sym (front start.list b.bytes b.rest _ b.consumed))
-    ∙ all_of start b too
+    cc (all_of start a over, all_of start b too, front start.list a.bytes a.rest _ a.consumed, front start.list b.bytes b.rest _ b.consumed, far)
 
 module _ {File : Type 0} (place : Place File) (contents : List ℕ → Result (List ℕ) Error) (options : Options) (rules : Rules)
     (first : Option Layout) (start : Start) (known : IsKnown place contents) where

@@ -6,7 +6,6 @@ pub mod Written
 pub mod Ends
 pub mod Pieces
 pub mod Zips
-pub mod Outcomes
 pub mod Telling
 pub mod Printed
 pub mod Checked

@@ -121,13 +121,15 @@ pub stops_between : (P : Type 0) (a b c : Told) (xs ys zs : List Item) (fault : 
     → Stops P a c (xs ++ (ys ++ zs)) fault
 stops_between P a b c xs ys zs fault first second = stops_after P a b c xs (ys ++ zs) fault first (stops_before P b c ys zs fault second)
 
-pub stops_in : (P : Type 0) (a b : Told) (xs ys zs : List Item) (fault : Fault) → Stops P a b (xs ++ ys) fault → Stops P a b (xs ++ (ys ++ zs)) fault
-stops_in P a b xs ys zs fault stops = rw append_assoc at (stops_before P a b (xs ++ ys) zs fault stops)
+pub stops_in : (P : Type 0) (a b : Told) (xs ys : List Item) (fault : Fault) → Stops P a b (xs ++ ys) fault → (zs : List Item)
+    → Stops P a b (xs ++ (ys ++ zs)) fault
+stops_in P a b xs ys fault stops zs = rw append_assoc at (stops_before P a b (xs ++ ys) zs fault stops)
 
 -- there is no memory for a line
-pub pends_no_memory : (P : Type 0) (a b : Told) (s t : List ℕ) (xs ys : List Item) → Pends a b s t xs → Stops P a b (written s ++ (xs ++ ys)) NoMemory
-pends_no_memory P a b s t xs ys before =
-    stops_in P a b (written s) xs ys NoMemory
+pub pends_no_memory : (P : Type 0) (a b : Told) (s t : List ℕ) (xs : List Item) → Pends a b s t xs → (ys : List Item)
+    → Stops P a b (written s ++ (xs ++ ys)) NoMemory
+pends_no_memory P a b s t xs before =
+    stops_in P a b (written s) xs NoMemory
     (rw before.split (stops_before P a b before.now (written t) NoMemory (no_memory P a b before.now before.tells)))
 
 pub ruleset telling = (tells_none, tells_more, stops_after, stops_before, stops_between, stops_in, stops_here, no_memory, stops_call, pends_none, pends_line, pends_remark, pends_no_memory)
