@@ -8,16 +8,7 @@ use Rattle.std.proofs.lemmas.Bool.{lt-ltb, eqb-true, false_from_ne_true}
 use Rattle.std.proofs.lemmas.Slice.Eq.{bytes_eq-Decides}
 use Rattle.std.proofs.lemmas.List.Folds.{list_any_at}
 use Rattle.ripemd.specs.Standard.Hashing.{ripemd}
-use Rattle.ripemd_files.specs.declared.line.Form.{Form}
-use Rattle.ripemd_files.specs.declared.line.Layout.{Layout}
-use Rattle.ripemd_files.specs.declared.line.Layout.TheVariants.{Standard}
-use Rattle.ripemd_files.specs.declared.line.Ending.TheVariants.{Newline}
-use Rattle.ripemd_files.specs.declared.line.Variant.{Variant}
-use Rattle.ripemd_files.specs.declared.list.Rules.{Rules}
-use Rattle.ripemd_files.specs.declared.outcome.Outcome.{Outcome}
-use Rattle.ripemd_files.specs.declared.outcome.Outcome.TheVariants.{Digest}
-use Rattle.ripemd_files.specs.declared.verdict.Verdict.{Verdict}
-use Rattle.ripemd_files.specs.declared.verdict.Verdict.TheVariants.{Differs, Matches}
+use Rattle.ripemd_files.proofs.Types.{Form, Layout, Standard, Newline, Variant, Rules, Outcome, Digest, Verdict, Differs, Matches}
 use Rattle.ripemd_files.specs.Lines.{IsLine, RoundTrips, is_end}
 use Rattle.ripemd_files.specs.Files.{ComesTo, Gives, Place, parameters_of}
 use Rattle.ripemd_files.specs.Checking.{checked, verdict_of}

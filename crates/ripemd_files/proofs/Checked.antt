@@ -9,21 +9,9 @@ use Rattle.std.proofs.lemmas.List.{append-nil, length-append, length-take-le, ta
 use Rattle.std.proofs.lemmas.Grind.{flat_map-append}
 use Rattle.std.proofs.Math.Seq.{take-add}
 use Rattle.ripemd.specs.Standard.Hashing.{ripemd}
-use Rattle.ripemd_files.specs.declared.fault.Fault.{Fault}
-use Rattle.ripemd_files.specs.declared.fault.Fault.TheVariants.{Write, NoMemory, TooManyLines}
-use Rattle.ripemd_files.specs.declared.line.Line.{Line}
-use Rattle.ripemd_files.specs.declared.line.Layout.{Layout}
-use Rattle.ripemd_files.specs.declared.line.Variant.{Variant}
-use Rattle.ripemd_files.specs.declared.list.Rules.{Rules}
-use Rattle.ripemd_files.specs.declared.list.Cursor.{Cursor}
-use Rattle.ripemd_files.specs.declared.list.Group.{Group}
-use Rattle.ripemd_files.specs.declared.list.Next.{Next}
+use Rattle.ripemd_files.proofs.Types.{Fault, Write, NoMemory, TooManyLines, Line, Layout, Variant, Rules, Cursor, Group, Next, Outcome, Verdict, Options, Tally}
 use Rattle.ripemd_files.specs.declared.list.Next.TheVariants as nexts
 use Rattle.ripemd_files.specs.declared.log.Complaint.TheVariants as complaints
-use Rattle.ripemd_files.specs.declared.outcome.Outcome.{Outcome}
-use Rattle.ripemd_files.specs.declared.verdict.Verdict.{Verdict}
-use Rattle.ripemd_files.specs.declared.verdict.Options.{Options}
-use Rattle.ripemd_files.specs.declared.verdict.Tally.{Tally}
 use Rattle.ripemd_files.specs.Files.{OfFirst, Place, ComesTo, parameters_of}
 use Rattle.ripemd_files.specs.Said.{Explains, Pends, Stops, Tells, Told, written}
 use Rattle.ripemd_files.specs.Splitting.{IsEnded, IsWhole, ListState, lines_of}

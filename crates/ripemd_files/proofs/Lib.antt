@@ -1,3 +1,4 @@
+pub mod Types
 pub mod Places
 pub mod Names
 pub mod Bodies

@@ -2,12 +2,7 @@
 use Rattle.std.proofs.Common.{◌≡◌, ◌≢◌, ℕ, ◌+◌, List, [], ◌∷◌, ◌++◌, codes, Option, Some, None, unwrap_or, Bool, IsTrue, refl, sym, inl, inr}
 use Rattle.std.specs.Prelude.{IsFalse, option_map}
 use Rattle.std.proofs.lemmas.List.{append-nil}
-use Rattle.ripemd_files.specs.declared.line.Variant.{Variant}
-use Rattle.ripemd_files.specs.declared.line.Layout.{Layout}
-use Rattle.ripemd_files.specs.declared.line.Layout.TheVariants.{Standard}
-use Rattle.ripemd_files.specs.declared.line.Line.{Line}
-use Rattle.ripemd_files.specs.declared.list.Rules.{Rules}
-use Rattle.ripemd_files.specs.declared.list.Cursor.{Cursor}
+use Rattle.ripemd_files.proofs.Types.{Variant, Layout, Standard, Line, Rules, Cursor}
 use Rattle.ripemd_files.specs.Lines.{Says}
 use Rattle.ripemd_files.specs.Files.{Place}
 use Rattle.ripemd_files.specs.Checking.{Event, IsEventOf, misformatted}

@@ -9,10 +9,7 @@ use Rattle.std.proofs.Math.Seq.{take-add}
 use Rattle.std.specs.List.{AllZip}
 use Rattle.ripemd.specs.Standard.Hashing.{ripemd}
 use Rattle.ripemd_batch.specs.Lanes.{targets}
-use Rattle.ripemd_files.specs.declared.fault.Fault.{Fault}
-use Rattle.ripemd_files.specs.declared.fault.Fault.TheVariants.{NoMemory}
-use Rattle.ripemd_files.specs.declared.printing.Style.{Style}
-use Rattle.ripemd_files.specs.declared.outcome.Outcome.{Outcome}
+use Rattle.ripemd_files.proofs.Types.{Fault, NoMemory, Style, Outcome}
 use Rattle.ripemd_files.specs.Files.{ComesTo, OfFirst, Place, parameters_of}
 use Rattle.ripemd_files.specs.Said.{Item, Pends, Stops, Tells, Told, written}
 use Rattle.ripemd_files.proofs.Telling.{no_memory, pends_done, pends_more, pends_none, pends_stops, pends_undone, stops_after, stops_here, tells_more, tells_none}

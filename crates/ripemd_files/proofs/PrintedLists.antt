@@ -10,15 +10,7 @@ use Rattle.std.proofs.lemmas.List.{map-append}
 use Rattle.std.proofs.lemmas.List.Elements.{All-head, All-tail}
 use Rattle.std.proofs.lemmas.List.Sums.{sum_by-cons}
 use Rattle.ripemd.specs.Standard.Hashing.{ripemd}
-use Rattle.ripemd_files.specs.declared.line.Form.{Form}
-use Rattle.ripemd_files.specs.declared.line.Layout.{Layout}
-use Rattle.ripemd_files.specs.declared.line.Layout.TheVariants.{Standard}
-use Rattle.ripemd_files.specs.declared.line.Variant.{Variant}
-use Rattle.ripemd_files.specs.declared.list.Rules.{Rules}
-use Rattle.ripemd_files.specs.declared.verdict.Options.{Options}
-use Rattle.ripemd_files.specs.declared.verdict.Verdict.TheVariants.{Matches}
-use Rattle.ripemd_files.specs.declared.line.Ending.TheVariants.{Newline}
-use Rattle.ripemd_files.specs.declared.printing.Style.{Style}
+use Rattle.ripemd_files.proofs.Types.{Form, Layout, Standard, Variant, Rules, Options, Matches, Newline, Style}
 use Rattle.ripemd_files.specs.Lines.{IsLine, is_end}
 use Rattle.ripemd_files.specs.Layouts.{layout_at, layout_of}
 use Rattle.ripemd_files.specs.Reading.{strip_tag}

@@ -2,8 +2,7 @@
 use Rattle.std.proofs.Common.{◌≡◌, ℕ, List, [], ◌++◌, Option, Some, None, refl, sym, ◌∙◌, append_assoc}
 use Rattle.std.specs.declared.io.Error.{Error}
 use Rattle.std.proofs.lemmas.List.{append-nil, map-append}
-use Rattle.ripemd_files.specs.declared.fault.Fault.{Fault}
-use Rattle.ripemd_files.specs.declared.fault.Fault.TheVariants.{Write, NoMemory, TooManyLines}
+use Rattle.ripemd_files.proofs.Types.{Fault, Write, NoMemory, TooManyLines}
 use Rattle.ripemd_files.specs.Said.{Adds, AddsFirst, Explains, Item, Pends, Stops, Tells, Told, written}
 
 adds_none : (old : Option (List Item)) → Adds old old []
