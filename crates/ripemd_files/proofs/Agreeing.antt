@@ -1,10 +1,10 @@
 -- Lines that were printed, and are checked.
-use Rattle.std.proofs.Common.{rules, ◌≡◌, ◌≢◌, ℕ, ◌-◌, ◌==◌, ◌&&◌, Bool, true, false, List, [], ◌∷◌, length, take, get_or, cond, Option, None, Some, unwrap_or, refl, sym, ap, subst, ◌∙◌, arith, inl, inr}
+use Rattle.std.proofs.Common.{rules, ◌≡◌, ◌≢◌, ℕ, ◌-◌, Bool, true, false, List, [], ◌∷◌, length, take, cond, Option, None, Some, unwrap_or, refl, sym, ap, subst, ◌∙◌, arith, inl, inr}
 use Rattle.std.specs.List.{list_any}
 use Rattle.std.specs.Prelude.{◌↔◌, ◌⊎◌, IsNone, IsSomeAnd, MatchOption}
 use Rattle.std.specs.Str.{bytes_eq}
 use Rattle.std.specs.Io.BufRead.{ends_with_byte}
-use Rattle.std.proofs.lemmas.Bool.{lt-ltb, eqb-true, false_from_ne_true}
+use Rattle.std.proofs.lemmas.Bool.Decides.{nat_tests}
 use Rattle.std.proofs.lemmas.Slice.Eq.{bytes_eq-Decides}
 use Rattle.std.proofs.lemmas.List.Folds.{list_any_at}
 use Rattle.ripemd.specs.Standard.Hashing.{ripemd}
@@ -22,14 +22,7 @@ use Rattle.ripemd_files.proofs.Sizes.{bytes-ripemd, length-ripemd}
 -- a line without the bytes that end lines has no carriage return at its end
 no_return : (line : List ℕ) → list_any is_end line ≡ false → ends_with_byte 13 line ≡ false
 no_return [] lacks = refl
-no_return (x ∷ rest) lacks =
-    let line : List ℕ = x ∷ rest in
-    let last : ℕ = get_or line (length line - 1) 0 in
-    ap (λ (b : Bool). b && (last == 13)) (lt-ltb 0 (length line) (omega arith))
-    ∙ false_from_ne_true (last == 13) (λ is.
-    let end : is_end last ≡ true = subst (λ b. is_end b ≡ true) (sym (eqb-true last 13 is)) refl in
-    let found : list_any is_end line ≡ true = list_any_at is_end line (length line - 1) 0 (omega arith) end in
-    absurd (search (rules, sym found ∙ lacks)))
+no_return (x ∷ rest) lacks = grind (arith, nat_tests, list_any_at is_end (x ∷ rest) (length rest) 0)
 
 whole_line : (line : List ℕ) → list_any is_end line ≡ false → body_of_line line ≡ line
 whole_line line lacks = ap (λ (b : Bool). cond b (take (length line - 1) line) line) (no_return line lacks)

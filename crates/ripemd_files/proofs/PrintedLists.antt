@@ -4,7 +4,7 @@ use Rattle.std.proofs.lemmas.Bool.Decides.{nat_tests}
 use Rattle.std.specs.Prelude.{IfSome, Result, Ok, count_by}
 use Rattle.std.specs.List.{list_any}
 use Rattle.std.specs.declared.io.Error.{Error}
-use Rattle.std.proofs.lemmas.Bool.{ne_eqb, or_parts, MatchBool-at_false}
+use Rattle.std.proofs.lemmas.Bool.{ne_eqb, MatchBool-at_false}
 use Rattle.std.proofs.lemmas.Slice.Eq.{bytes_eq-Decides}
 use Rattle.std.proofs.lemmas.List.{map-append}
 use Rattle.std.proofs.lemmas.List.Elements.{All-head, All-tail}
@@ -62,9 +62,7 @@ stays_standard only line variant digest name wanted h = elim h.form [
 
 no_newline : (text : List ℕ) → list_any is_end text ≡ false → list_any (λ x. x == 10) text ≡ false
 no_newline [] lacks = refl
-no_newline (x ∷ text) lacks =
-    let parts = or_parts (is_end x) (list_any is_end text) lacks in
-    rw (no_newline text parts.1) (grind (arith, nat_tests))
+no_newline (x ∷ text) lacks = grind (arith, nat_tests, no_newline text)
 
 module _ {File : Type 0} (place : Place File) (contents : List ℕ → Result (List ℕ) Error) (known : IsKnown place contents)
     (ignore_missing : Bool) (rules : Rules) (form : Form) (variant : Variant) where
