@@ -1,9 +1,8 @@
 -- Lines that were printed, and are checked.
-use Rattle.std.proofs.Common.{rules, ◌≡◌, ◌≢◌, ℕ, ◌-◌, Bool, true, false, List, [], ◌∷◌, length, take, cond, Option, None, Some, unwrap_or, refl, sym, ap, subst, ◌∙◌, arith, inl, inr}
+use Rattle.std.proofs.Common.{rules, ◌≡◌, ◌≢◌, ℕ, ◌-◌, Bool, true, false, List, [], ◌∷◌, length, Option, None, Some, unwrap_or, refl, sym, ap, subst, ◌∙◌, arith, inl, inr}
 use Rattle.std.specs.List.{list_any}
 use Rattle.std.specs.Prelude.{◌↔◌, ◌⊎◌, IsNone, IsSomeAnd, MatchOption}
 use Rattle.std.specs.Str.{bytes_eq}
-use Rattle.std.specs.Io.BufRead.{ends_with_byte}
 use Rattle.std.proofs.lemmas.Bool.Decides.{nat_tests}
 use Rattle.std.proofs.lemmas.Slice.Eq.{bytes_eq-Decides}
 use Rattle.std.proofs.lemmas.List.Folds.{list_any_at}
@@ -20,12 +19,9 @@ use Rattle.ripemd_files.proofs.Sayings.{one_line}
 use Rattle.ripemd_files.proofs.Sizes.{bytes-ripemd, length-ripemd}
 
 -- a line without the bytes that end lines has no carriage return at its end
-no_return : (line : List ℕ) → list_any is_end line ≡ false → ends_with_byte 13 line ≡ false
-no_return [] lacks = refl
-no_return (x ∷ rest) lacks = grind (arith, nat_tests, list_any_at is_end (x ∷ rest) (length rest) 0)
-
 whole_line : (line : List ℕ) → list_any is_end line ≡ false → body_of_line line ≡ line
-whole_line line lacks = ap (λ (b : Bool). cond b (take (length line - 1) line) line) (no_return line lacks)
+whole_line [] lacks = refl
+whole_line (x ∷ rest) lacks = grind (arith, nat_tests, list_any_at is_end (x ∷ rest) (length rest) 0)
 
 -- what came of a file whose verdict is this
 module _ {File : Type 0} (place : Place File) (hash : List ℕ → List ℕ) (name digest message : List ℕ) (same : digest ≡ hash message)

@@ -247,12 +247,7 @@ module _ {File : Type 0} {place : Place File} {options : Options} {kinds : Rules
   -- a group was read
   module _ {next : ListState} {after : Cursor} {group : Group} (reads : ReadsGroup place options.ignore_missing kinds read next now after group) where
     ends : IsWhole reads.reads.bytes ⊎ ((reads.rest ≡ []) × IsEnded read.left next.left)
-    ends = (elim group.next as (λ n. (IsTrue (goes_on n) → IsWhole reads.reads.bytes) → EndsAs n read next reads.reads.bytes reads.rest
-        → IsWhole reads.reads.bytes ⊎ ((reads.rest ≡ []) × IsEnded read.left next.left)) [
-          | nexts.More ↦ λ entire over. inl (entire refl)
-          | nexts.Ended ↦ λ entire over. inr (over.0, over.1)
-          | nexts.Failed ↦ λ entire over. inl over.0
-        ]) reads.reads.whole reads.ended
+    ends = grind (arith, reads.reads.whole, reads.ended)
 
     -- and of the first of its lines was told
     pub stops_lines : {lines : List Line} {c : Told} {fault : Fault} → lines ≡ group.lines.items → ChecksFirst place options lines b c fault

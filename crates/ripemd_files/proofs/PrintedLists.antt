@@ -1,5 +1,5 @@
 -- Lists that were printed, and are checked.
-use Rattle.std.proofs.Common.{◌≡◌, ℕ, ◌+◌, ◌<◌, ◌-◌, ◌==◌, Bool, true, false, List, [], ◌∷◌, ◌++◌, length, map, Option, Some, None, unwrap_or, All, inl, inr, refl, sym, ap, ◌∙◌, cond, arith, append_assoc}
+use Rattle.std.proofs.Common.{◌≡◌, ℕ, ◌+◌, ◌<◌, ◌-◌, ◌==◌, Bool, true, false, List, [], ◌∷◌, ◌++◌, length, map, Option, Some, None, unwrap_or, All, inl, inr, refl, sym, ap, ◌∙◌, arith, append_assoc}
 use Rattle.std.proofs.lemmas.Bool.Decides.{nat_tests}
 use Rattle.std.specs.Prelude.{IfSome, Result, Ok, count_by}
 use Rattle.std.specs.List.{list_any}
@@ -148,8 +148,7 @@ all_match contents ignore_missing variant (f ∷ files) gave =
 none_counted : (test : Event → Bool) → ((name : List ℕ) → test (checked name Matches) ≡ false) → (files : List Printed)
     → count_by test (matching files) ≡ 0
 none_counted test none [] = refl
-none_counted test none (f ∷ files) =
-    sum_by-cons (λ e. cond (test e) 1 0) (checked f.name Matches) (matching files) ∙ rw (none f.name) (omega (arith, none_counted test none files))
+none_counted test none (f ∷ files) = grind (arith, sum_by-cons, none f.name, none_counted test none files)
 
 any_of : (test : Event → Bool) → ((name : List ℕ) → test (checked name Matches) ≡ true) → (files : List Printed) → 0 < length files
     → list_any test (matching files) ≡ true
