@@ -99,8 +99,7 @@ module _ (kinds : Rules) (layout : Option Layout) (form : Form) (variant : Varia
 
 none_found : {S T : Type 0} (wrap : S → T) (found : Option S) (answer : Option T)
     → MatchOption found (answer ≡ None) (λ c. IsSomeAnd answer (λ m. m ≡ wrap c)) → IsNone answer → IsNone found
-none_found wrap None answer is nothing = refl
-none_found wrap (Some c) _ is nothing = absurd (grind arith)
+none_found wrap found answer is nothing = grind (arith, is, nothing)
 
 -- a file that gives no other message matches, and there is no collision: it gave the printed one
 pub equal_messages : {File S T : Type 0} (place : Place File) (variant one : Variant) (message given : List ℕ) (wrap : S → T) (collision : Option S)

@@ -26,13 +26,11 @@ use Rattle.ripemd_files.proofs.Sayings.{one_line}
 
 -- what was taken of known bytes up to their end is all of them
 taken_all : (bytes message : List ℕ) (left : Option (List ℕ)) → Consumes (Some bytes) left message → IsAtEnd left → bytes ≡ message
-taken_all bytes message None taken end = absurd taken
-taken_all bytes message (Some rest) taken end = taken ∙ ap (λ (r : List ℕ). message ++ r) end ∙ append-nil message
+taken_all bytes message left taken end = grind (arith, append-nil, taken, end)
 
 -- and otherwise not more than these
 taken_some : (bytes message : List ℕ) (left : Option (List ℕ)) → Consumes (Some bytes) left message → length message < length bytes + 1
-taken_some bytes message None taken = absurd taken
-taken_some bytes message (Some rest) taken = omega (arith, ap (λ (l : List ℕ). length l) taken, length-append message rest)
+taken_some bytes message left taken = grind (arith, length-append, taken)
 
 -- the verdict on a file, and what is printed of it, by what its name gives
 abbrev pub verdict_by : Bool → (List ℕ → List ℕ) → List ℕ → Result (List ℕ) Error → Verdict
@@ -119,8 +117,7 @@ one_tally events t u a b =
     same
 
 pub grown : (old more : List Item) (new : Option (List Item)) → Adds (Some old) new more → new ≡ Some (old ++ more)
-grown old more None a = absurd a
-grown old more (Some xs) a = ap Some a
+grown old more new a = grind (arith, a)
 
 -- of more items the first of some were told
 front_told : (before items more all : List Item) (early late : Option (List Item)) → AddsFirst (Some before) early items → Adds (Some before) late all
@@ -163,11 +160,7 @@ first_lines stage start left lines read = elim read.cut [
 -- or all that were read
 module _ (start : Start) {stage : Stage} {left : ListState} {lines : List (List ℕ)} (read : WasRead stage (list_before start) left lines) where
   all_of : stage ≢ among → lines_of read.bytes ≡ lines
-  all_of over = read.split ∙ ap (λ l. lines ++ l) (none stage over read.reached) ∙ append-nil lines
-    where
-      none : (stage : Stage) → stage ≢ among → Reaches stage (list_before start) left read.behind read.rest → read.behind ≡ []
-      none among over reached = absurd (over refl)
-      none _ over reached = reached.0
+  all_of over = grind (arith, append-nil, over, read.split, read.reached)
 
   pub lines_to_end : stage ≡ ended → lines_of start.list ≡ lines
   lines_to_end is =
