@@ -10,13 +10,13 @@ use Rattle.std.proofs.lemmas.List.{map-append}
 use Rattle.std.proofs.lemmas.List.Elements.{All-head, All-tail}
 use Rattle.std.proofs.lemmas.List.Sums.{sum_by-cons}
 use Rattle.ripemd.specs.Standard.Hashing.{ripemd}
-use Rattle.ripemd_files.proofs.Types.{Form, Layout, Standard, Variant, Rules, Options, Matches, Newline, Style}
+use Rattle.ripemd_files.proofs.Types.{Tally, Form, Layout, Standard, Variant, Rules, Options, Matches, Newline, Style}
 use Rattle.ripemd_files.specs.Lines.{IsLine, is_end}
 use Rattle.ripemd_files.specs.Layouts.{layout_at, layout_of}
 use Rattle.ripemd_files.specs.Reading.{strip_tag}
 use Rattle.ripemd_files.specs.Files.{Place, parameters_of}
 use Rattle.ripemd_files.specs.Splitting.{lines_of}
-use Rattle.ripemd_files.specs.Checking.{Event, IsTally, checked, counted, has_verdict, is_difference, is_match, is_misformatted, is_unreadable, misformatted}
+use Rattle.ripemd_files.specs.Checking.{Event, IsTally, checked, counted, has_verdict, is_difference, is_success, is_match, is_misformatted, is_unreadable, misformatted}
 use Rattle.ripemd_files.specs.Lists.{IsEventOn, IsWanted, Reports, ended, is_passed_over, layout_after}
 use Rattle.ripemd_files.specs.Determined.{IsKnown, Print, Report, Start}
 use Rattle.ripemd_files.specs.Said.{Item, written}
@@ -145,15 +145,17 @@ all_match contents ignore_missing variant (f ∷ files) gave =
     ) refl
 
 -- no count but that of matches
-none_counted : (test : Event → Bool) → ((name : List ℕ) → test (checked name Matches) ≡ false) → (files : List Printed)
-    → count_by test (matching files) ≡ 0
-none_counted test none [] = refl
-none_counted test none (f ∷ files) = grind (arith, sum_by-cons, none f.name, none_counted test none files)
+no_other : (files : List Printed)
+    → (count_by is_misformatted (matching files) ≡ 0) × (count_by (has_verdict is_difference) (matching files) ≡ 0)
+    × (count_by (has_verdict is_unreadable) (matching files) ≡ 0)
+no_other [] = (refl, refl, refl)
+no_other (f ∷ files) = grind (arith, sum_by-cons, no_other files)
 
-any_of : (test : Event → Bool) → ((name : List ℕ) → test (checked name Matches) ≡ true) → (files : List Printed) → 0 < length files
-    → list_any test (matching files) ≡ true
-any_of test is [] some = absurd (omega (arith, some))
-any_of test is (f ∷ files) some = rw (is f.name) refl
+succeeds_all : (options : Options) (files : List Printed) (tally : Tally) → 0 < length files → IsTally (matching files) tally
+    → is_success options tally ≡ true
+succeeds_all options [] tally some counts = absurd (omega (arith, some))
+succeeds_all options (f ∷ files) tally some counts =
+    rw (counts.misformatted, counts.differing, counts.unreadable, counts.matched, counts.checked) (grind (arith, nat_tests, no_other (f ∷ files)))
 
 -- its lines were read to the end
 module _ {File : Type 0} (place : Place File) (contents : List ℕ → Result (List ℕ) Error) (options : Options) (rules : Rules) (first : Option Layout)
@@ -173,23 +175,7 @@ module _ {File : Type 0} (place : Place File) (contents : List ℕ → Result (L
       → (one.checks.report.events ≡ matching files) × (one.success ≡ true)
   all_matches gave some one over =
       let match = all_events one over ∙ all_match contents options.ignore_missing variant files gave in
-      let counts : IsTally (matching files) one.checks.tally = rw match at one.checks.report.counts in (
-        match,
-        one.checks.answer
-            ∙ rw (
-              over,
-              counts.misformatted,
-              counts.differing,
-              counts.unreadable,
-              counts.matched,
-              counts.checked,
-              none_counted is_misformatted (λ name. refl) files,
-              none_counted (has_verdict is_difference) (λ name. refl) files,
-              none_counted (has_verdict is_unreadable) (λ name. refl) files,
-              any_of (has_verdict is_match) (λ name. refl) files some,
-              any_of (has_verdict (λ verdict. true)) (λ name. refl) files some,
-            ) (grind arith),
-      )
+      (match, one.checks.answer ∙ rw over (succeeds_all options files one.checks.tally some (rw match at one.checks.report.counts)))
 
 -- ---- a print of the list
 
