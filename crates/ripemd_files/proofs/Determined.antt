@@ -57,10 +57,7 @@ module _ {File : Type 0} (place : Place File) (contents : List ℕ → Result (L
   not_broken name error breaks =
       let (bytes, named, left, short) = known.opened name breaks.gave.opened breaks.gave.is_opened in
       let taken : Consumes (Some bytes) (place.left breaks.now) breaks.bytes = rw left at breaks.gave.given in
-      elim breaks.fails [
-        | inl fails ↦ known.sound breaks.now error fails
-        | inr long ↦ omega (arith, short, long.0, taken_some bytes breaks.bytes (place.left breaks.now) taken)
-      ]
+      grind (arith, known.sound breaks.now error, breaks.fails, short, taken_some bytes breaks.bytes (place.left breaks.now) taken)
 
   pub verdict_at : (ignore_missing : Bool) (hash : List ℕ → List ℕ) (name wanted : List ℕ) (outcome : Outcome) → ComesTo place hash name outcome
       → verdict_of ignore_missing wanted outcome ≡ verdict_by ignore_missing hash wanted (contents name)
@@ -81,8 +78,8 @@ module _ {File : Type 0} (place : Place File) (contents : List ℕ → Result (L
 one_or_none : (none : Bool) (Is : Event → Type 0) (xs ys : List Event) → ((e f : Event) → Is e → Is f → e ≡ f)
     → MatchBool none (xs ≡ []) ((e : Event) × (xs ≡ e ∷ []) × Is e) → MatchBool none (ys ≡ []) ((e : Event) × (ys ≡ e ∷ []) × Is e)
     → xs ≡ ys
-one_or_none true Is xs ys once a b = a ∙ sym b
-one_or_none false Is xs ys once (e, are, is) (f, others, too) = are ∙ ap (λ (e : Event). e ∷ []) (once e f is too) ∙ sym others
+one_or_none true Is xs ys once a b = cc
+one_or_none false Is xs ys once (e, are, is) (f, others, too) = cc (are, others, once e f is too)
 
 module _ {File : Type 0} (place : Place File) (contents : List ℕ → Result (List ℕ) Error) (known : IsKnown place contents)
     (ignore_missing : Bool) (rules : Rules) where
@@ -107,7 +104,7 @@ module _ {File : Type 0} (place : Place File) (contents : List ℕ → Result (L
       let here : first ≡ head =
       one_or_none (is_passed_over text) (IsEventOn place ignore_missing rules next number text) first head (one_event next number text) on too in
       let behind = one_list next (number + 1) rest more others last other later after in
-      (are ∙ ap (λ (l : List Event). l ++ more) here ∙ ap (λ (l : List Event). head ++ l) behind.0 ∙ sym be, behind.1)
+      (cc (are, be, here, behind.0), behind.1)
 
 -- ---- what is counted and said
 
