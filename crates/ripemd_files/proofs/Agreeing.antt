@@ -1,5 +1,5 @@
 -- Lines that were printed, and are checked.
-use Rattle.std.proofs.Common.{rules, ◌≡◌, ◌≢◌, ℕ, ◌-◌, Bool, true, false, List, [], ◌∷◌, length, Option, None, Some, unwrap_or, refl, sym, ap, subst, ◌∙◌, arith, inl, inr}
+use Rattle.std.proofs.Common.{rules, ◌≡◌, ◌≢◌, ℕ, ◌-◌, Bool, true, false, List, [], ◌∷◌, length, Option, None, unwrap_or, refl, sym, ap, subst, ◌∙◌, arith, inl, inr}
 use Rattle.std.specs.List.{list_any}
 use Rattle.std.specs.Prelude.{◌↔◌, ◌⊎◌, IsNone, IsSomeAnd, MatchOption}
 use Rattle.std.specs.Str.{bytes_eq}
@@ -28,10 +28,7 @@ module _ {File : Type 0} (place : Place File) (hash : List ℕ → List ℕ) (na
     (ignore_missing : Bool) where
   not_different : (outcome : Outcome) → ComesTo place hash name outcome
       → ((given : List ℕ) → Gives (place.opens name) place.left given → given ≡ message) → verdict_of ignore_missing digest outcome ≢ Differs
-  not_different (Digest d) comes gave is =
-      let equal : d.items ≡ digest = comes.2 ∙ ap hash (gave comes.0 comes.1) ∙ sym same in
-      let matches : Matches ≡ Differs = rw ((bytes_eq-Decides d.items digest).1 equal) at is in
-      cc
+  not_different (Digest d) comes gave is = grind (arith, (bytes_eq-Decides d.items digest).1, gave comes.0 comes.1, comes.2)
   not_different _ comes gave is = absurd (grind arith)
 
   same_digest : (outcome : Outcome) → ComesTo place hash name outcome → verdict_of ignore_missing digest outcome ≡ Matches

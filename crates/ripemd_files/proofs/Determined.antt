@@ -13,7 +13,7 @@ use Rattle.ripemd.specs.Standard.Hashing.{ripemd}
 use Rattle.ripemd_files.proofs.Types.{Layout, Standard, Rules, Outcome, Digest, Refused, Broken, Style, Options, Tally, Verdict}
 use Rattle.ripemd_files.specs.Checking.{Event, IsTally, checked, items_of_event, misformatted, verdict_of, verdict_of_digest}
 use Rattle.ripemd_files.specs.Determined.{EarlyEnd, EarlyPrint, IsFront, IsKnown, Print, Report, Start, list_before}
-use Rattle.ripemd_files.specs.Lists.{IsEventOn, IsReport, Reaches, Reports, Stage, WasRead, among, body_of_line, ended, failed, is_passed_over, last_remarks, layout_after}
+use Rattle.ripemd_files.specs.Lists.{IsEventOn, IsReport, Reports, Stage, WasRead, among, body_of_line, ended, failed, is_passed_over, last_remarks, layout_after}
 use Rattle.ripemd_files.specs.Printing.{Reading, items_on, was_read, Prints}
 use Rattle.ripemd_files.specs.Files.{Breaks, ComesTo, Gives, Place, parameters_of}
 use Rattle.ripemd_files.specs.Said.{Adds, Item, AddsFirst, unreadable, written}
@@ -135,9 +135,7 @@ behind_front list bytes rest (Some more) read = (rest ++ more, read ∙ append_a
 
 -- which is its front
 front : (list bytes rest : List ℕ) (left : Option (List ℕ)) → Consumes (Some list) left (bytes ++ rest) → bytes ≡ take (length bytes) list
-front list bytes rest left read =
-    let (more, is) = behind_front list bytes rest left read in
-    sym (take-append_seam bytes more) ∙ ap (take (length bytes)) (sym is)
+front list bytes rest left read = grind (arith, take-append_seam, append_assoc, read)
 
 -- all of it was read
 pub all_read : (list bytes rest : List ℕ) (left : Option (List ℕ)) → Consumes (Some list) left (bytes ++ rest) → rest ≡ [] → IsAtEnd left → list ≡ bytes
@@ -160,9 +158,7 @@ module _ (start : Start) {stage : Stage} {left : ListState} {lines : List (List 
   all_of over = grind (arith, append-nil, over, read.split, read.reached)
 
   pub lines_to_end : stage ≡ ended → lines_of start.list ≡ lines
-  lines_to_end is =
-      let reached : Reaches ended (list_before start) left read.behind read.rest = rw is at read.reached in
-      ap lines_of (all_read start.list read.bytes read.rest left.left read.consumed reached.1 reached.2) ∙ all_of (λ same. cc)
+  lines_to_end is = grind (arith, append-nil, is, read.split, read.reached, read.consumed)
 
 -- which are the same if all of the list was read, or as much of it
 same_far : (start : Start) {stage other : Stage} {left right : ListState} {lines more : List (List ℕ)}

@@ -4,7 +4,7 @@ use Rattle.std.proofs.lemmas.Bool.Decides.{nat_tests}
 use Rattle.std.specs.Prelude.{IfSome, Result, Ok, count_by}
 use Rattle.std.specs.List.{list_any}
 use Rattle.std.specs.declared.io.Error.{Error}
-use Rattle.std.proofs.lemmas.Bool.{ne_eqb, MatchBool-at_false}
+use Rattle.std.proofs.lemmas.Bool.{MatchBool-at_false}
 use Rattle.std.proofs.lemmas.Slice.Eq.{bytes_eq-Decides}
 use Rattle.std.proofs.lemmas.List.{map-append}
 use Rattle.std.proofs.lemmas.List.Elements.{All-head, All-tail}
@@ -16,7 +16,7 @@ use Rattle.ripemd_files.specs.Layouts.{layout_at, layout_of}
 use Rattle.ripemd_files.specs.Reading.{strip_tag}
 use Rattle.ripemd_files.specs.Files.{Place, parameters_of}
 use Rattle.ripemd_files.specs.Splitting.{lines_of}
-use Rattle.ripemd_files.specs.Checking.{Event, IsTally, checked, counted, has_verdict, is_difference, is_success, is_match, is_misformatted, is_unreadable, misformatted}
+use Rattle.ripemd_files.specs.Checking.{Event, IsTally, checked, counted, has_verdict, is_difference, is_success, is_misformatted, is_unreadable, misformatted}
 use Rattle.ripemd_files.specs.Lists.{IsEventOn, IsWanted, Reports, ended, is_passed_over, layout_after}
 use Rattle.ripemd_files.specs.Determined.{IsKnown, Print, Report, Start}
 use Rattle.ripemd_files.specs.Said.{Item, written}
@@ -88,9 +88,8 @@ module _ {File : Type 0} (place : Place File) (contents : List ℕ → Result (L
   module _ (f : Printed) (printed : Counts f) where
     not_passed : is_passed_over (line f) ≡ false
     not_passed =
-        let (first, others, starts, other) =
-        starts_line Standard (line f) variant _ f.name (is_line rules None form variant f.message f.name printed) in
-        rw (whole rules None form variant f.message f.name printed, starts, ne_eqb first 35 other) refl
+        let line_of_it = is_line rules None form variant f.message f.name printed in
+        grind (arith, nat_tests, whole rules None form variant f.message f.name printed, starts_line Standard (line f) variant _ f.name line_of_it)
 
     standard_after : (layout : Option Layout) → unwrap_or layout Standard ≡ Standard → unwrap_or (layout_after rules layout (line f)) Standard ≡ Standard
     standard_after layout is =
