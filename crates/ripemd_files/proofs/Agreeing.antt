@@ -1,5 +1,5 @@
 -- Lines that were printed, and are checked.
-use Rattle.std.proofs.Common.{rules, ◌≡◌, ◌≢◌, ℕ, ◌-◌, Bool, true, false, List, [], ◌∷◌, length, Option, None, unwrap_or, refl, sym, ap, subst, ◌∙◌, arith, inl, inr}
+use Rattle.std.proofs.Common.{rules, ◌≡◌, ◌≢◌, ℕ, ◌-◌, Bool, true, false, List, [], ◌∷◌, length, Option, None, unwrap_or, refl, sym, subst, ◌∙◌, arith}
 use Rattle.std.specs.List.{list_any}
 use Rattle.std.specs.Prelude.{◌↔◌, ◌⊎◌, IsNone, IsSomeAnd, MatchOption}
 use Rattle.std.specs.Str.{bytes_eq}
@@ -108,9 +108,6 @@ pub equal_messages : {File S T : Type 0} (place : Place File) (variant one : Var
     → ((m : List ℕ) → Gives (place.opens name) place.left m → m ≡ given) → IsNone answer → message ≡ given
 equal_messages place variant one message given wrap collision answer is none cases rules layout form name found ignore_missing number printed event gave nothing =
     let gives = match_gives rules layout form variant message name printed place ignore_missing number found _ event refl in
-    elim (none.0 (none_found wrap collision answer cases nothing)) [
-      | inl equal ↦ equal
-      | inr apart ↦ absurd (apart (rw is at (sym gives.2 ∙ ap (ripemd (parameters_of variant)) (gave gives.0 gives.1))))
-    ]
+    grind (arith, none.0 (none_found wrap collision answer cases nothing), is, gives.2, gave gives.0 gives.1)
 
 pub ruleset digests = (length-ripemd, bytes-ripemd)

@@ -208,11 +208,8 @@ module _ {File : Type 0} (place : Place File) (contents : List ℕ → Result (L
       rw (← lines, lines_to_end start a.read refl) a.reports in
       let (es, fs, mid, split, come) = reports_front first 1 b.lines more a.events last reports in
       let same = (one_list place contents known options.ignore_missing rules first 1 b.lines es b.events mid other_last come b.reports).0 in
-      let told = λ (events : List Event). flat_map (items_of_event options) events in
-      let rest = last_remarks ended options t in (
-        told fs ++ rest,
-        cc (a.said, b.said, split, same, flat_map-append (items_of_event options) es fs, append-nil (told es), append_assoc (told es) (told fs) rest),
-      )
+      let rest = flat_map (items_of_event options) fs ++ last_remarks ended options t in
+      (rest, grind (arith, flat_map-append, append-nil, append_assoc, a.said, b.said, split, same))
   more_said {ys = ys} ended a b works =
       let said = same_lines a b refl (sym (lines_to_end start a.read refl) ∙ lines_to_end start b.read refl) in
       ([], said.2 ∙ sym (append-nil ys))

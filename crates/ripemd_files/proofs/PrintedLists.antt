@@ -137,11 +137,8 @@ all_match : (contents : List ℕ → Result (List ℕ) Error) (ignore_missing : 
 all_match contents ignore_missing variant [] gave = refl
 all_match contents ignore_missing variant (f ∷ files) gave =
     let digest = ripemd (parameters_of variant) f.message in
-    rw (
-      All-head (Gives contents) f files gave,
-      (bytes_eq-Decides digest digest).1 refl,
-      all_match contents ignore_missing variant files (All-tail (Gives contents) f files gave),
-    ) refl
+    let more = all_match contents ignore_missing variant files (All-tail (Gives contents) f files gave) in
+    rw (All-head (Gives contents) f files gave, (bytes_eq-Decides digest digest).1 refl, more) refl
 
 -- no count but that of matches
 no_other : (files : List Printed)
