@@ -1,5 +1,5 @@
 -- Lines that were printed, and are checked.
-use Rattle.std.proofs.Common.{rules, ◌≡◌, ◌≢◌, ℕ, ◌-◌, Bool, true, false, List, [], ◌∷◌, length, Option, None, unwrap_or, refl, sym, subst, ◌∙◌, arith}
+use Rattle.std.proofs.Common.{rules, ◌≡◌, ◌≢◌, ℕ, Bool, true, false, List, [], ◌∷◌, length, Option, None, unwrap_or, refl, sym, subst, ◌∙◌, arith}
 use Rattle.std.specs.List.{list_any}
 use Rattle.std.specs.Prelude.{◌↔◌, ◌⊎◌, IsNone, IsSomeAnd, MatchOption}
 use Rattle.std.specs.Str.{bytes_eq}
@@ -34,8 +34,7 @@ module _ {File : Type 0} (place : Place File) (hash : List ℕ → List ℕ) (na
   same_digest : (outcome : Outcome) → ComesTo place hash name outcome → verdict_of ignore_missing digest outcome ≡ Matches
       → (given : List ℕ) × Gives (place.opens name) place.left given × (hash given ≡ hash message)
   same_digest (Digest d) comes is =
-      let equal : bytes_eq d.items digest ≡ true = grind (arith, is) in
-      (comes.0, comes.1, sym comes.2 ∙ (bytes_eq-Decides d.items digest).0 equal ∙ same)
+      (comes.0, comes.1, grind (arith, (bytes_eq-Decides d.items digest).0, comes.2, same, is))
   same_digest _ comes is = absurd (grind arith)
 
 module _ (kinds : Rules) (layout : Option Layout) (form : Form) (variant : Variant) (message name : List ℕ)

@@ -11,7 +11,6 @@ use Rattle.std.proofs.Math.Seq.{take-add}
 use Rattle.ripemd.specs.Standard.Hashing.{ripemd}
 use Rattle.ripemd_files.proofs.Types.{Fault, Write, NoMemory, TooManyLines, Line, Layout, Variant, Rules, Cursor, Group, Next, Outcome, Verdict, Options, Tally}
 use Rattle.ripemd_files.specs.declared.list.Next.TheVariants as nexts
-use Rattle.ripemd_files.specs.declared.log.Complaint.TheVariants as complaints
 use Rattle.ripemd_files.specs.Files.{OfFirst, Place, ComesTo, parameters_of}
 use Rattle.ripemd_files.specs.Said.{Explains, Pends, Stops, Tells, Told, written}
 use Rattle.ripemd_files.specs.Splitting.{IsEnded, IsWhole, ListState, lines_of}

@@ -257,10 +257,8 @@ module _ {File : Type 0} (place : Place File) (contents : List ℕ → Result (L
   pub one_print : (other : Print place style files (record { items = Some before; failure = failure }))
       → (one.told.items ≡ other.told.items) × (one.all ≡ other.all)
   one_print other =
-      let by_other = prints_by place contents style known files other.prints.items other.all other.prints.prints in (
-        cc (by_one.0, by_other.0, grown _ _ _ one.prints.tells.adds, grown _ _ _ other.prints.tells.adds),
-        by_one.1 ∙ sym by_other.1,
-      )
+      let by_other = prints_by place contents style known files other.prints.items other.all other.prints.prints in
+      (cc (by_one.0, by_other.0, grown _ _ _ one.prints.tells.adds, grown _ _ _ other.prints.tells.adds), by_one.1 ∙ sym by_other.1)
 
   pub early_print : (end : EarlyPrint place style files (record { items = Some before; failure = failure }))
       → IsFront before end.told.items one.told.items

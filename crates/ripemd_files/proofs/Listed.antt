@@ -48,13 +48,7 @@ module _ {File : Type 0} (place : Place File) (ignore_missing : Bool) (kinds : R
   goes_on : (own : List Event) → AreEventsOn place ignore_missing kinds after.layout before.number text own
       → (rest : List (List ℕ)) (more : List Event) (last : Option Layout) → ReportsFrom place ignore_missing kinds after rest more last
       → ReportsFrom place ignore_missing kinds before (text ∷ rest) (own ++ more) last
-  goes_on own are rest more last report = (
-    own,
-    more,
-    refl,
-    rw next at are,
-    rw (next, step) at report,
-  )
+  goes_on own are rest more last report = (own, more, refl, rw next at are, rw (next, step) at report)
 
   pub takes_skipped : IsTrue (is_passed_over text) → (lines : List Line) → Takes place ignore_missing kinds before after text lines lines None
   takes_skipped skipped lines = record {

@@ -1,5 +1,5 @@
 -- Lists that were printed, and are checked.
-use Rattle.std.proofs.Common.{◌≡◌, ℕ, ◌+◌, ◌<◌, ◌-◌, ◌==◌, Bool, true, false, List, [], ◌∷◌, ◌++◌, length, map, Option, Some, None, unwrap_or, All, inl, inr, refl, sym, ap, ◌∙◌, arith, append_assoc}
+use Rattle.std.proofs.Common.{◌≡◌, ℕ, ◌+◌, ◌<◌, ◌==◌, Bool, true, false, List, [], ◌∷◌, ◌++◌, length, map, Option, Some, None, unwrap_or, All, inl, inr, refl, sym, ap, ◌∙◌, arith, append_assoc}
 use Rattle.std.proofs.lemmas.Bool.Decides.{nat_tests}
 use Rattle.std.specs.Prelude.{IfSome, Result, Ok, count_by}
 use Rattle.std.specs.List.{list_any}
@@ -16,7 +16,7 @@ use Rattle.ripemd_files.specs.Layouts.{layout_at, layout_of}
 use Rattle.ripemd_files.specs.Reading.{strip_tag}
 use Rattle.ripemd_files.specs.Files.{Place, parameters_of}
 use Rattle.ripemd_files.specs.Splitting.{lines_of}
-use Rattle.ripemd_files.specs.Checking.{Event, IsTally, checked, counted, has_verdict, is_difference, is_success, is_misformatted, is_unreadable, misformatted}
+use Rattle.ripemd_files.specs.Checking.{Event, IsTally, checked, has_verdict, is_difference, is_success, is_misformatted, is_unreadable, misformatted}
 use Rattle.ripemd_files.specs.Lists.{IsEventOn, IsWanted, Reports, ended, is_passed_over, layout_after}
 use Rattle.ripemd_files.specs.Determined.{IsKnown, Print, Report, Start}
 use Rattle.ripemd_files.specs.Said.{Item, written}
