@@ -196,7 +196,6 @@ fn outcome_of<D: Digest>(
 }
 
 // The same of some files.
-#[tactic(auto, using(crate::proofs::Zips::all_zip_next, crate::proofs::Zips::same_at))]
 fn outcomes_of<D: Digest>(
     alloc: Global,
     contents: &[Content<D::Output>],
