@@ -1,26 +1,16 @@
 -- Lines that were printed, and are checked.
-use Rattle.std.proofs.Common.{rules, ◌≡◌, ◌≢◌, ℕ, ◌-◌, ◌==◌, ◌&&◌, Bool, true, false, List, [], ◌∷◌, length, take, get_or, cond, Option, None, Some, unwrap_or, refl, sym, ap, subst, ◌∙◌, arith}
+use Rattle.std.proofs.Common.{rules, ◌≡◌, ◌≢◌, ℕ, Bool, true, false, List, [], ◌∷◌, length, Option, None, unwrap_or, refl, sym, subst, ◌∙◌, arith}
 use Rattle.std.specs.List.{list_any}
-use Rattle.std.specs.Prelude.{IsNone, IsSomeAnd, MatchOption}
+use Rattle.std.specs.Prelude.{◌↔◌, ◌⊎◌, IsNone, IsSomeAnd, MatchOption}
 use Rattle.std.specs.Str.{bytes_eq}
-use Rattle.std.specs.Io.BufRead.{ends_with_byte}
-use Rattle.std.proofs.lemmas.Bool.{lt-ltb, eqb-true, false_from_ne_true}
+use Rattle.std.proofs.lemmas.Bool.Decides.{nat_tests}
 use Rattle.std.proofs.lemmas.Slice.Eq.{bytes_eq-Decides}
 use Rattle.std.proofs.lemmas.List.Folds.{list_any_at}
 use Rattle.ripemd.specs.Standard.Hashing.{ripemd}
-use Rattle.ripemd_files.specs.declared.line.Form.{Form}
-use Rattle.ripemd_files.specs.declared.line.Layout.{Layout}
-use Rattle.ripemd_files.specs.declared.line.Layout.TheVariants.{Standard}
-use Rattle.ripemd_files.specs.declared.line.Ending.TheVariants.{Newline}
-use Rattle.ripemd_files.specs.declared.line.Variant.{Variant}
-use Rattle.ripemd_files.specs.declared.list.Rules.{Rules}
-use Rattle.ripemd_files.specs.declared.outcome.Outcome.{Outcome}
-use Rattle.ripemd_files.specs.declared.outcome.Outcome.TheVariants.{Digest, Refused, Broken}
-use Rattle.ripemd_files.specs.declared.verdict.Verdict.{Verdict}
-use Rattle.ripemd_files.specs.declared.verdict.Verdict.TheVariants.{Differs, Matches, Missing, Unreadable}
+use Rattle.ripemd_files.proofs.Types.{Form, Layout, Standard, Newline, Variant, Rules, Outcome, Digest, Verdict, Differs, Matches}
 use Rattle.ripemd_files.specs.Lines.{IsLine, RoundTrips, is_end}
 use Rattle.ripemd_files.specs.Files.{ComesTo, Gives, Place, parameters_of}
-use Rattle.ripemd_files.specs.Checking.{checked, is_missing, verdict_of}
+use Rattle.ripemd_files.specs.Checking.{checked, verdict_of}
 use Rattle.ripemd_files.specs.Lists.{IsEventOn, IsTaken, body_of_line}
 use Rattle.ripemd_files.specs.Printed.{IsPrinted, printed_line}
 use Rattle.ripemd_files.proofs.Written.{IsLine-line_of}
@@ -29,49 +19,23 @@ use Rattle.ripemd_files.proofs.Sayings.{one_line}
 use Rattle.ripemd_files.proofs.Sizes.{bytes-ripemd, length-ripemd}
 
 -- a line without the bytes that end lines has no carriage return at its end
-no_return : (line : List ℕ) → list_any is_end line ≡ false → ends_with_byte 13 line ≡ false
-no_return [] lacks = refl
-no_return (x ∷ rest) lacks =
-    let line : List ℕ = x ∷ rest in
-    let last : ℕ = get_or line (length line - 1) 0 in
-    ap (λ (b : Bool). b && (last == 13)) (lt-ltb 0 (length line) (omega arith))
-    ∙ false_from_ne_true (last == 13) (λ is.
-    let end : is_end last ≡ true = subst (λ b. is_end b ≡ true) (sym (eqb-true last 13 is)) refl in
-    let found : list_any is_end line ≡ true = list_any_at is_end line (length line - 1) 0 (omega arith) end in
-    absurd (search (rules, sym found ∙ lacks)))
-
 whole_line : (line : List ℕ) → list_any is_end line ≡ false → body_of_line line ≡ line
-whole_line line lacks = ap (λ (b : Bool). cond b (take (length line - 1) line) line) (no_return line lacks)
-
-unchosen : (b : Bool) (x y z : Verdict) → z ≡ cond b x y → y ≢ z → b ≡ true
-unchosen true x y z is other = refl
-unchosen false x y z is other = absurd (other (sym is))
+whole_line [] lacks = refl
+whole_line (x ∷ rest) lacks = grind (arith, nat_tests, list_any_at is_end (x ∷ rest) (length rest) 0)
 
 -- what came of a file whose verdict is this
 module _ {File : Type 0} (place : Place File) (hash : List ℕ → List ℕ) (name digest message : List ℕ) (same : digest ≡ hash message)
     (ignore_missing : Bool) where
   not_different : (outcome : Outcome) → ComesTo place hash name outcome
       → ((given : List ℕ) → Gives (place.opens name) place.left given → given ≡ message) → verdict_of ignore_missing digest outcome ≢ Differs
-  not_different (Digest d) comes gave is =
-      let equal : d.items ≡ digest = comes.2 ∙ ap hash (gave comes.0 comes.1) ∙ sym same in
-      let matches : Matches ≡ Differs = rw ((bytes_eq-Decides d.items digest).1 equal) at is in
-      cc
-  not_different (Refused e) comes gave is = elim (ignore_missing && is_missing e) as (λ b. cond b Missing (Unreadable e) ≢ Differs) [
-    | true ↦ λ h. cc
-    | false ↦ λ h. cc
-  ] is
-  not_different (Broken e) comes gave is = cc
+  not_different (Digest d) comes gave is = grind (arith, (bytes_eq-Decides d.items digest).1, gave comes.0 comes.1, comes.2)
+  not_different _ comes gave is = absurd (grind arith)
 
-  same_digest : (outcome : Outcome) → ComesTo place hash name outcome → Matches ≡ verdict_of ignore_missing digest outcome
+  same_digest : (outcome : Outcome) → ComesTo place hash name outcome → verdict_of ignore_missing digest outcome ≡ Matches
       → (given : List ℕ) × Gives (place.opens name) place.left given × (hash given ≡ hash message)
   same_digest (Digest d) comes is =
-      let equal : bytes_eq d.items digest ≡ true = unchosen (bytes_eq d.items digest) Matches Differs Matches is (λ e. cc) in
-      (comes.0, comes.1, sym comes.2 ∙ (bytes_eq-Decides d.items digest).0 equal ∙ same)
-  same_digest (Refused e) comes is = absurd (elim (ignore_missing && is_missing e) as (λ b. Matches ≢ cond b Missing (Unreadable e)) [
-    | true ↦ λ h. cc
-    | false ↦ λ h. cc
-  ] is)
-  same_digest (Broken e) comes is = absurd cc
+      (comes.0, comes.1, grind (arith, (bytes_eq-Decides d.items digest).0, comes.2, same, is))
+  same_digest _ comes is = absurd (grind arith)
 
 module _ (kinds : Rules) (layout : Option Layout) (form : Form) (variant : Variant) (message name : List ℕ)
     (printed : IsPrinted kinds layout form variant name) where
@@ -127,17 +91,22 @@ module _ (kinds : Rules) (layout : Option Layout) (form : Form) (variant : Varia
     pub match_gives : verdict ≡ Matches
         → (given : List ℕ) × Gives (place.opens name) place.left given × (ripemd (parameters_of variant) given ≡ digest)
     match_gives matches =
-        same_digest place (ripemd (parameters_of variant)) name digest message refl ignore_missing event.2 came_to (sym matches ∙ is_verdict)
+        same_digest place (ripemd (parameters_of variant)) name digest message refl ignore_missing event.2 came_to (sym is_verdict ∙ matches)
 
-    -- where the file gives no other message, this one has the digest
-    pub equal_digests : verdict ≡ Matches → (given : List ℕ) → ((m : List ℕ) → Gives (place.opens name) place.left m → m ≡ given)
-        → digest ≡ ripemd (parameters_of variant) given
-    equal_digests matches given gave =
-        let gives = match_gives matches in
-        sym gives.2 ∙ ap (ripemd (parameters_of variant)) (gave gives.0 gives.1)
-
-pub none_found : {S T : Type 0} (wrap : S → T) (found : Option S) (answer : Option T)
+none_found : {S T : Type 0} (wrap : S → T) (found : Option S) (answer : Option T)
     → MatchOption found (answer ≡ None) (λ c. IsSomeAnd answer (λ m. m ≡ wrap c)) → IsNone answer → IsNone found
-none_found wrap None answer is nothing = refl
-none_found wrap (Some c) None is nothing = absurd is
-none_found wrap (Some c) (Some m) is nothing = absurd cc
+none_found wrap found answer is nothing = grind (arith, is, nothing)
+
+-- a file that gives no other message matches, and there is no collision: it gave the printed one
+pub equal_messages : {File S T : Type 0} (place : Place File) (variant one : Variant) (message given : List ℕ) (wrap : S → T) (collision : Option S)
+    (answer : Option T) → variant ≡ one
+    → IsNone collision ↔ ((message ≡ given) ⊎ (ripemd (parameters_of one) message ≢ ripemd (parameters_of one) given))
+    → MatchOption collision (answer ≡ None) (λ c. IsSomeAnd answer (λ m. m ≡ wrap c)) → (rules : Rules) (layout : Option Layout) (form : Form)
+    (name found : List ℕ) (ignore_missing : Bool) (number : ℕ) → IsPrinted rules layout form variant name
+    → IsEventOn place ignore_missing rules layout number (printed_line form variant message name) (checked found Matches)
+    → ((m : List ℕ) → Gives (place.opens name) place.left m → m ≡ given) → IsNone answer → message ≡ given
+equal_messages place variant one message given wrap collision answer is none cases rules layout form name found ignore_missing number printed event gave nothing =
+    let gives = match_gives rules layout form variant message name printed place ignore_missing number found _ event refl in
+    grind (arith, none.0 (none_found wrap collision answer cases nothing), is, gives.2, gave gives.0 gives.1)
+
+pub ruleset digests = (length-ripemd, bytes-ripemd)

@@ -1,5 +1,5 @@
 -- What a check finds of the files of some lines.
-use Rattle.std.proofs.Common.{◌≡◌, ◌≢◌, ◌⊎◌, ℕ, zero, suc, ◌+◌, ◌<◌, ◌≤◌, ◌-◌, ◌^◌, List, [], ◌∷◌, ◌++◌, flat_map, length, take, drop, get_or, Option, Bool, true, refl, subst, sym, ap, ◌∙◌, inl, inr, arith, append_assoc}
+use Rattle.std.proofs.Common.{◌≡◌, ◌≢◌, ◌⊎◌, ℕ, zero, suc, ◌+◌, ◌<◌, ◌≤◌, ◌-◌, ◌^◌, List, [], ◌∷◌, ◌++◌, flat_map, length, take, drop, get_or, Option, Bool, false, true, refl, sym, ap, ◌∙◌, inl, inr, arith, append_assoc}
 use Rattle.std.specs.Prelude.{IsTrue}
 use Rattle.std.specs.List.{AllZip, list_any}
 use Rattle.std.specs.Io.KnownBytes.{Consumes}
@@ -9,23 +9,10 @@ use Rattle.std.proofs.lemmas.List.{append-nil, length-append, length-take-le, ta
 use Rattle.std.proofs.lemmas.Grind.{flat_map-append}
 use Rattle.std.proofs.Math.Seq.{take-add}
 use Rattle.ripemd.specs.Standard.Hashing.{ripemd}
-use Rattle.ripemd_files.specs.declared.fault.Fault.{Fault}
-use Rattle.ripemd_files.specs.declared.fault.Fault.TheVariants.{Write, NoMemory, TooManyLines}
-use Rattle.ripemd_files.specs.declared.line.Line.{Line}
-use Rattle.ripemd_files.specs.declared.line.Layout.{Layout}
-use Rattle.ripemd_files.specs.declared.line.Variant.{Variant}
-use Rattle.ripemd_files.specs.declared.list.Rules.{Rules}
-use Rattle.ripemd_files.specs.declared.list.Cursor.{Cursor}
-use Rattle.ripemd_files.specs.declared.list.Group.{Group}
-use Rattle.ripemd_files.specs.declared.list.Next.{Next}
+use Rattle.ripemd_files.proofs.Types.{Fault, Write, NoMemory, TooManyLines, Line, Layout, Variant, Rules, Cursor, Group, Next, Outcome, Verdict, Options, Tally}
 use Rattle.ripemd_files.specs.declared.list.Next.TheVariants as nexts
-use Rattle.ripemd_files.specs.declared.log.Complaint.TheVariants as complaints
-use Rattle.ripemd_files.specs.declared.outcome.Outcome.{Outcome}
-use Rattle.ripemd_files.specs.declared.verdict.Verdict.{Verdict}
-use Rattle.ripemd_files.specs.declared.verdict.Options.{Options}
-use Rattle.ripemd_files.specs.declared.verdict.Tally.{Tally}
 use Rattle.ripemd_files.specs.Files.{OfFirst, Place, ComesTo, parameters_of}
-use Rattle.ripemd_files.specs.Said.{Explains, Item, Pends, Stops, Tells, Told, written}
+use Rattle.ripemd_files.specs.Said.{Explains, Pends, Stops, Tells, Told, written}
 use Rattle.ripemd_files.specs.Splitting.{IsEnded, IsWhole, ListState, lines_of}
 use Rattle.ripemd_files.specs.Checking.{Event, Events, IsEventOf, IsNamed, IsOutcomeOf, IsTally, checked, counted, has_verdict, is_difference, is_match, is_misformatted, is_unreadable, items_of_event, verdict_of}
 use Rattle.ripemd_files.specs.Groups.{ChecksFirst, ChecksLines, ChecksSoFar, EndsAs, ExplainsReading, ReadsGroup, ReportsFirst, StopsReading, goes_on, misformatted_events}
@@ -82,9 +69,6 @@ checks_none place options old tally = record { events = []; are = no_events plac
 -- the next line of some whose files were read
 module _ {File : Type 0} (place : Place File) (options : Options) (lines : List Line) (outcomes : List Outcome)
     (read : AllZip (IsOutcomeOf place) lines outcomes) where
-  pub as_many_lines : length lines ≡ length outcomes
-  as_many_lines = sym (AllZip-long _ _ _ read)
-
   module _ (k : ℕ) (line : Line) (outcome : Outcome) (verdict : Verdict) (a b c : Told) (report : List ℕ) (first now : Tally)
       (within : k < length outcomes) (is_line : line ≡ get_or lines k line) (is_outcome : outcome ≡ get_or outcomes k outcome)
       (is_verdict : verdict ≡ verdict_of options.ignore_missing line.digest.items outcome)
@@ -92,23 +76,18 @@ module _ {File : Type 0} (place : Place File) (options : Options) (lines : List 
     abbrev event : Event
     event = checked line.name.items verdict
 
-    abbrev items : List Item
-    items = items_of_event options event
-
-    with_it : flat_map (items_of_event options) (before.events ++ event ∷ []) ≡ flat_map (items_of_event options) before.events ++ items
-    with_it =
-        flat_map-append (items_of_event options) before.events (event ∷ [])
-        ∙ ap (λ l. flat_map (items_of_event options) before.events ++ l) (append-nil items)
+    with_it : flat_map (items_of_event options) (before.events ++ event ∷ []) ≡ flat_map (items_of_event options) before.events ++ items_of_event options event
+    with_it = rw (flat_map-append, append-nil) refl
 
     each_next : AllZip (IsEventOf place options.ignore_missing) (take (k + 1) lines) (before.events ++ event ∷ [])
     each_next =
-        let short : k < length lines = omega (arith, as_many_lines) in
+        let short : k < length lines = omega (arith, AllZip-long _ _ _ read, within) in
         let comes : IsOutcomeOf place line outcome =
         rw (← is_line, ← is_outcome) at (all_zip_at (IsOutcomeOf place) lines outcomes k line outcome read short) in
         all_zip_next _ lines before.events k line event short (sym is_line) before.are.each
         (outcome, comes, ap (checked line.name.items) is_verdict)
 
-    pub told_next : (more : List ℕ) (next : Tally) → Pends b c report more items
+    pub told_next : (more : List ℕ) (next : Tally) → Pends b c report more (items_of_event options event)
         → ((earlier : List Event) (name : List ℕ) → IsTally earlier now → IsTally (earlier ++ checked name verdict ∷ []) next)
         → ToldSoFar place options (take (k + 1) lines) a c more first next
     told_next more next pends counts = record {
@@ -117,69 +96,63 @@ module _ {File : Type 0} (place : Place File) (options : Options) (lines : List 
         each = each_next;
         counts = λ earlier counted. rw (← append_assoc) (counts (earlier ++ before.events) line.name.items (before.are.counts earlier counted));
       };
-      pends = rw with_it (pends_more a b c [] report more _ items before.pends pends);
+      pends = rw with_it (pends_more a b c [] report more _ _ before.pends pends);
     }
 
     -- where the run ends
-    pub told_till : (fault : Fault) → Stops ⊥ b c (written report ++ items) fault → ChecksFirst place options lines a c fault
+    pub told_till : (fault : Fault) → Stops ⊥ b c (written report ++ items_of_event options event) fault → ChecksFirst place options lines a c fault
     told_till fault stops = record {
       count = k + 1;
       events = before.events ++ event ∷ [];
       each = each_next;
-      stops = rw with_it (pends_stops ⊥ a b c report _ items fault before.pends stops);
+      stops = rw with_it (pends_stops ⊥ a b c report _ _ fault before.pends stops);
     }
 
-  -- all of them
-  module _ (k : ℕ) (a b c : Told) (report : List ℕ) (first now : Tally) (over : length outcomes ≤ k)
-      (before : ToldSoFar place options (take k lines) a b report first now) where
-    whole : Events place options lines before.events first now
-    whole = rw (take_all k lines (omega (arith, as_many_lines, over))) at before.are
-
-    pub told_all : Tells b c (written report) → ChecksLines place options lines a c first now
-    told_all wrote = record { events = before.events; are = whole; tells = pends_done a b c report _ before.pends wrote }
-
-    pub told_unwritten : (fault : Fault) → Stops ⊥ b c (written report) fault → ChecksFirst place options lines a c fault
-    told_unwritten fault stops = record {
-      count = length lines;
-      events = before.events;
-      each = rw (take_all (length lines) lines (omega arith)) whole.each;
-      stops = pends_undone ⊥ a b c report _ fault before.pends stops;
-    }
-
--- the lines from a place on, after those before it
-module _ {File : Type 0} (place : Place File) (options : Options) (lines : List Line) (start : ℕ) (a b c : Told) (first now : Tally)
-    (before : ChecksLines place options (take start lines) a b first now) where
-  pub checks_lines_on : (end : ℕ) (next : Tally) → start ≤ end → ChecksLines place options (take (end - start) (drop start lines)) b c now next
-      → ChecksLines place options (take end lines) a c first next
-  checks_lines_on end next le after = record {
-    events = before.events ++ after.events;
-    are = record {
-      each = subst (λ l. AllZip (IsEventOf place options.ignore_missing) l (before.events ++ after.events))
-          (sym (take-add start (end - start) lines) ∙ ap (λ n. take n lines) (omega arith))
-          (all_zip_append _ _ _ _ _ before.are.each after.are.each);
-      counts = λ earlier counted. rw (← append_assoc) (after.are.counts (earlier ++ before.events) (before.are.counts earlier counted));
-    };
-    tells = rw flat_map-append (tells_more a b c _ _ before.tells after.tells);
+-- all of them
+module _ {File : Type 0} (place : Place File) (options : Options) (lines : List Line) (k : ℕ) (a b c : Told) (report : List ℕ) (first now : Tally)
+    (before : ToldSoFar place options (take k lines) a b report first now) where
+  pub told_all : length lines ≤ k → Tells b c (written report) → ChecksLines place options lines a c first now
+  told_all over wrote = record {
+    events = before.events;
+    are = rw (take_all k lines over) at before.are;
+    tells = pends_done a b c report _ before.pends wrote;
   }
 
+  pub told_unwritten : (fault : Fault) → Stops ⊥ b c (written report) fault → ChecksFirst place options lines a c fault
+  told_unwritten fault stops =
+      record { count = k; events = before.events; each = before.are.each; stops = pends_undone ⊥ a b c report _ fault before.pends stops }
+
+-- the lines from a place on, after those before it
+module _ {File : Type 0} (place : Place File) (options : Options) (lines : List Line) (start : ℕ) (a b : Told) (first now : Tally)
+    (before : ChecksLines place options (take start lines) a b first now) where
+  pub checks_lines_on : (c : Told) (end : ℕ) (next : Tally) → start ≤ end → ChecksLines place options (take (end - start) (drop start lines)) b c now next
+      → ChecksLines place options (take end lines) a c first next
+  checks_lines_on c end next le after =
+      let same : start + (end - start) ≡ end = omega (arith, le) in
+      record {
+        events = before.events ++ after.events;
+        are = record {
+          each = rw (← take-add, same) at (all_zip_append _ _ _ _ _ before.are.each after.are.each);
+          counts = λ earlier counted. rw (← append_assoc) (after.are.counts (earlier ++ before.events) (before.are.counts earlier counted));
+        };
+        tells = rw flat_map-append (tells_more a b c _ _ before.tells after.tells);
+      }
+
   -- or the first of these
-  pub checks_part : (end : ℕ) (fault : Fault) → ChecksFirst place options (take (end - start) (drop start lines)) b c fault
+  pub checks_part : (c : Told) (end : ℕ) (fault : Fault) → ChecksFirst place options (take (end - start) (drop start lines)) b c fault
       → ChecksFirst place options lines a c fault
-  checks_part end fault after =
+  checks_part c end fault after =
       let (count, same) = take_within after.count (end - start) (drop start lines) in
       record {
         count = start + count;
         events = before.events ++ after.events;
-        each = subst (λ l. AllZip (IsEventOf place options.ignore_missing) l (before.events ++ after.events)) (sym (take-add start count lines))
-            (all_zip_append _ _ _ _ _ before.are.each (rw same at after.each));
+        each = rw (same, ← take-add) at (all_zip_append _ _ _ _ _ before.are.each after.each);
         stops = rw flat_map-append (stops_after ⊥ a b c _ _ fault before.tells after.stops);
       }
 
--- there is no memory for the next
-pub checks_no_more : {File : Type 0} (place : Place File) (options : Options) (lines : List Line) (start : ℕ) (a b : Told) (first now : Tally)
-    → ChecksLines place options (take start lines) a b first now → ChecksFirst place options lines a b NoMemory
-checks_no_more place options lines start a b first now before =
-    record { count = start; events = before.events; each = before.are.each; stops = no_memory ⊥ a b _ before.tells }
+  -- there is no memory for the next
+  pub checks_no_more : ChecksFirst place options lines a b NoMemory
+  checks_no_more = record { count = start; events = before.events; each = before.are.each; stops = no_memory ⊥ a b _ before.tells }
 
 -- nothing of a list yet
 pub checks_begin : {File : Type 0} (place : Place File) (options : Options) (kinds : Rules) (cursor : Cursor) (list : ListState) (told : Told)
@@ -202,6 +175,9 @@ abbrev pub stage_of : Next → Stage
 stage_of nexts.More = among
 stage_of nexts.Ended = ended
 stage_of nexts.Failed = failed
+
+is_over : (n : Next) → goes_on n ≡ false → stage_of n ≢ among
+is_over n over same = grind arith
 
 -- a list, after the groups before
 module _ {File : Type 0} {place : Place File} {options : Options} {kinds : Rules} {first now : Cursor} {old read : ListState} {a b : Told}
@@ -226,8 +202,7 @@ module _ {File : Type 0} {place : Place File} {options : Options} {kinds : Rules
         | inl entire ↦ inl (whole_more so_far.bytes bytes so_far.whole entire)
         | inr over ↦ inr (over.0, ended_since old.left read.left next.left so_far.bytes so_far.consumed over.1)
       ];
-      split = cut so_far.bytes bytes so_far.whole ∙ ap (λ l. lines_of so_far.bytes ++ l) reports.split
-          ∙ sym (append_assoc (lines_of so_far.bytes) reports.first reports.back);
+      split = rw (cut so_far.bytes bytes so_far.whole, reports.split, append_assoc) refl;
       reached = reached;
     };
     reports = rw begins at (so_far.told reports.first events reports.last reports.reports);
@@ -245,7 +220,7 @@ module _ {File : Type 0} {place : Place File} {options : Options} {kinds : Rules
       let (tally, counts) = some_tally (so_far.events ++ events) in
       record {
         stage = among;
-        items = flat_map (items_of_event options) (so_far.events ++ events) ++ [];
+        items = _;
         tally = tally;
         last = reports.last;
         report = report_on next bytes rest events among tally consumed ends reports tt counts;
@@ -265,39 +240,35 @@ module _ {File : Type 0} {place : Place File} {options : Options} {kinds : Rules
           → Explains (2 ^ 64 - 1 ≤ length (lines_of ((so_far.bytes ++ []) ++ stops.bytes))) b b fault
       explains (Write error) why = absurd why
       explains NoMemory why = refl
-      explains TooManyLines why = (
-        omega (arith, why, begins, so_far.numbered, ap (λ l. length (lines_of (l ++ stops.bytes))) (append-nil so_far.bytes), ap length (cut so_far.bytes stops.bytes so_far.whole), length-append (lines_of so_far.bytes) (lines_of stops.bytes)),
-        refl,
-      )
+      explains TooManyLines why =
+          (rw (append-nil, cut so_far.bytes stops.bytes so_far.whole, length-append) (omega (arith, why, begins, so_far.numbered)), refl)
 
   -- a group was read
   module _ {next : ListState} {after : Cursor} {group : Group} (reads : ReadsGroup place options.ignore_missing kinds read next now after group) where
     ends : IsWhole reads.reads.bytes ⊎ ((reads.rest ≡ []) × IsEnded read.left next.left)
-    ends = at group.next reads.reads.whole reads.ended
-      where
-        at : (n : Next) → (IsTrue (goes_on n) → IsWhole reads.reads.bytes) → EndsAs n read next reads.reads.bytes reads.rest
-            → IsWhole reads.reads.bytes ⊎ ((reads.rest ≡ []) × IsEnded read.left next.left)
-        at nexts.More entire over = inl (entire refl)
-        at nexts.Ended entire over = inr (over.0, over.1)
-        at nexts.Failed entire over = inl over.0
+    ends = grind (arith, reads.reads.whole, reads.ended)
 
     -- and of the first of its lines was told
-    pub stops_lines : {c : Told} {fault : Fault} → ChecksFirst place options group.lines.items b c fault
+    pub stops_lines : {lines : List Line} {c : Told} {fault : Fault} → lines ≡ group.lines.items → ChecksFirst place options lines b c fault
         → StopsList place options kinds first.layout old next a c fault
-    stops_lines {c} {fault} checks =
+    stops_lines {c = c} {fault = fault} are_lines checks =
         stopped next c reads.reads.bytes reads.rest checks.events fault reads.reads.consumed ends
-        (reads.reads.partly checks.count checks.events checks.each) (stops_for _ b c _ fault checks.stops)
+        (reads.reads.partly checks.count checks.events (rw are_lines at checks.each)) (stops_for _ b c _ fault checks.stops)
 
     -- or of all
-    module _ {c : Told} {counted : Tally} (checks : ChecksLines place options group.lines.items b c tally counted) where
+    module _ {lines : List Line} {c : Told} {counted : Tally} (are_lines : lines ≡ group.lines.items)
+        (checks : ChecksLines place options lines b c tally counted) where
       abbrev found : List Event
       found = checks.events ++ misformatted_events group.misformatted
+
+      each : AllZip (IsEventOf place options.ignore_missing) group.lines.items checks.events
+      each = rw are_lines at checks.are.each
 
       -- what comes of all of its lines
       abbrev reported : ReportsFirst place options.ignore_missing kinds now (lines_of reads.reads.bytes) found
       reported =
           first_of_all place options.ignore_missing kinds now (lines_of reads.reads.bytes) found after.layout
-          (rw (append-nil, append-nil) at (reads.reads.told checks.events checks.are.each [] [] after.layout (refl, refl)))
+          (rw (append-nil, append-nil) at (reads.reads.told checks.events each [] [] after.layout (refl, refl)))
 
       -- and the one that says nothing ended the run
       pub stops_misformatted : {d : Told} {fault : Fault}
@@ -337,7 +308,7 @@ module _ {File : Type 0} {place : Place File} {options : Options} {kinds : Rules
               told = λ behind more last report.
                   rw (cut so_far.bytes bytes so_far.whole, append_assoc, append_assoc, append_assoc)
                   (so_far.told (lines_of bytes ++ behind) (checks.events ++ (misformatted_events group.misformatted ++ more)) last
-                  (reads.reads.told checks.events checks.are.each behind more last report));
+                  (reads.reads.told checks.events each behind more last report));
             }
 
         -- or is over
@@ -353,15 +324,15 @@ module _ {File : Type 0} {place : Place File} {options : Options} {kinds : Rules
             at nexts.Ended over = (refl, over.0, ended_since old.left read.left next.left so_far.bytes so_far.consumed over.1, over.2 ∙ so_far.works)
             at nexts.Failed over = (refl, over.1, over.2)
 
-        pub checks_over : {n : Next} {e : Told} {success : Bool} → group.next ≡ n → stage_of n ≢ among
+        pub checks_over : {n : Next} {e : Told} {success : Bool} → group.next ≡ n → goes_on n ≡ false
             → Tells d e (last_remarks (stage_of n) options next_tally) → success ≡ succeeds (stage_of n) options next_tally
             → ChecksList place options kinds first.layout after.layout old next a e success
         checks_over {n} {e} is over said answer = record {
           stage = stage_of n;
-          items = flat_map (items_of_event options) (so_far.events ++ found) ++ last_remarks (stage_of n) options next_tally;
+          items = _;
           tally = next_tally;
           report = report_at n is;
-          is_over = over;
+          is_over = is_over n over;
           tells = tells_more a d e _ _ told_on said;
           answer = answer;
         }
@@ -370,7 +341,7 @@ module _ {File : Type 0} {place : Place File} {options : Options} {kinds : Rules
             → StopsList place options kinds first.layout old next a e fault
         stops_over {n} {e} {fault} is stops = record {
           stage = stage_of n;
-          items = flat_map (items_of_event options) (so_far.events ++ found) ++ last_remarks (stage_of n) options next_tally;
+          items = _;
           tally = next_tally;
           last = after.layout;
           report = report_at n is;

@@ -10,22 +10,15 @@ use Rattle.std.proofs.lemmas.List.Elements.{All-tail, All-head}
 use Rattle.std.proofs.lemmas.Grind.{flat_map-append}
 use Rattle.std.proofs.Math.Seq.{take-append_seam}
 use Rattle.ripemd.specs.Standard.Hashing.{ripemd}
-use Rattle.ripemd_files.specs.declared.line.Layout.{Layout}
-use Rattle.ripemd_files.specs.declared.line.Layout.TheVariants.{Standard}
-use Rattle.ripemd_files.specs.declared.list.Rules.{Rules}
-use Rattle.ripemd_files.specs.declared.outcome.Outcome.{Outcome}
-use Rattle.ripemd_files.specs.declared.outcome.Outcome.TheVariants.{Digest, Refused, Broken}
-use Rattle.ripemd_files.specs.declared.printing.Style.{Style}
-use Rattle.ripemd_files.specs.declared.verdict.Options.{Options}
-use Rattle.ripemd_files.specs.declared.verdict.Tally.{Tally}
-use Rattle.ripemd_files.specs.declared.verdict.Verdict.{Verdict}
+use Rattle.ripemd_files.proofs.Types.{Layout, Standard, Rules, Outcome, Digest, Refused, Broken, Style, Options, Tally, Verdict}
 use Rattle.ripemd_files.specs.Checking.{Event, IsTally, checked, items_of_event, misformatted, verdict_of, verdict_of_digest}
 use Rattle.ripemd_files.specs.Determined.{EarlyEnd, EarlyPrint, IsFront, IsKnown, Print, Report, Start, list_before}
-use Rattle.ripemd_files.specs.Lists.{IsEventOn, IsReport, Reaches, Reports, Stage, WasRead, among, body_of_line, ended, failed, is_passed_over, last_remarks, layout_after}
+use Rattle.ripemd_files.specs.Lists.{IsEventOn, IsReport, Reports, Stage, WasRead, among, body_of_line, ended, failed, is_passed_over, last_remarks, layout_after}
 use Rattle.ripemd_files.specs.Printing.{Reading, items_on, was_read, Prints}
 use Rattle.ripemd_files.specs.Files.{Breaks, ComesTo, Gives, Place, parameters_of}
 use Rattle.ripemd_files.specs.Said.{Adds, Item, AddsFirst, unreadable, written}
 use Rattle.ripemd_files.specs.Splitting.{ListState, lines_of}
+use Rattle.ripemd_files.specs.WorkedChecks.{tally}
 use Rattle.ripemd_files.proofs.Cutting.{cut}
 use Rattle.ripemd_files.proofs.Sayings.{one_line}
 
@@ -33,13 +26,11 @@ use Rattle.ripemd_files.proofs.Sayings.{one_line}
 
 -- what was taken of known bytes up to their end is all of them
 taken_all : (bytes message : List ℕ) (left : Option (List ℕ)) → Consumes (Some bytes) left message → IsAtEnd left → bytes ≡ message
-taken_all bytes message None taken end = absurd taken
-taken_all bytes message (Some rest) taken end = taken ∙ ap (λ (r : List ℕ). message ++ r) end ∙ append-nil message
+taken_all bytes message left taken end = grind (arith, append-nil, taken, end)
 
 -- and otherwise not more than these
 taken_some : (bytes message : List ℕ) (left : Option (List ℕ)) → Consumes (Some bytes) left message → length message < length bytes + 1
-taken_some bytes message None taken = absurd taken
-taken_some bytes message (Some rest) taken = omega (arith, ap (λ (l : List ℕ). length l) taken, length-append message rest)
+taken_some bytes message left taken = grind (arith, length-append, taken)
 
 -- the verdict on a file, and what is printed of it, by what its name gives
 abbrev pub verdict_by : Bool → (List ℕ → List ℕ) → List ℕ → Result (List ℕ) Error → Verdict
@@ -66,10 +57,7 @@ module _ {File : Type 0} (place : Place File) (contents : List ℕ → Result (L
   not_broken name error breaks =
       let (bytes, named, left, short) = known.opened name breaks.gave.opened breaks.gave.is_opened in
       let taken : Consumes (Some bytes) (place.left breaks.now) breaks.bytes = rw left at breaks.gave.given in
-      elim breaks.fails [
-        | inl fails ↦ known.sound breaks.now error fails
-        | inr long ↦ omega (arith, short, long.0, taken_some bytes breaks.bytes (place.left breaks.now) taken)
-      ]
+      grind (arith, known.sound breaks.now error, breaks.fails, short, taken_some bytes breaks.bytes (place.left breaks.now) taken)
 
   pub verdict_at : (ignore_missing : Bool) (hash : List ℕ → List ℕ) (name wanted : List ℕ) (outcome : Outcome) → ComesTo place hash name outcome
       → verdict_of ignore_missing wanted outcome ≡ verdict_by ignore_missing hash wanted (contents name)
@@ -90,8 +78,8 @@ module _ {File : Type 0} (place : Place File) (contents : List ℕ → Result (L
 one_or_none : (none : Bool) (Is : Event → Type 0) (xs ys : List Event) → ((e f : Event) → Is e → Is f → e ≡ f)
     → MatchBool none (xs ≡ []) ((e : Event) × (xs ≡ e ∷ []) × Is e) → MatchBool none (ys ≡ []) ((e : Event) × (ys ≡ e ∷ []) × Is e)
     → xs ≡ ys
-one_or_none true Is xs ys once a b = a ∙ sym b
-one_or_none false Is xs ys once (e, are, is) (f, others, too) = are ∙ ap (λ (e : Event). e ∷ []) (once e f is too) ∙ sym others
+one_or_none true Is xs ys once a b = cc
+one_or_none false Is xs ys once (e, are, is) (f, others, too) = cc (are, others, once e f is too)
 
 module _ {File : Type 0} (place : Place File) (contents : List ℕ → Result (List ℕ) Error) (known : IsKnown place contents)
     (ignore_missing : Bool) (rules : Rules) where
@@ -102,13 +90,9 @@ module _ {File : Type 0} (place : Place File) (contents : List ℕ → Result (L
   one_event layout number text (checked name verdict) (misformatted n) a b = absurd (b.1 a.0 a.1 name a.3)
   one_event layout number text (checked name verdict) (checked other_name other_verdict) a b =
       let one = one_line (unwrap_or layout Standard) (body_of_line text) a.0 b.0 a.1 b.1 name other_name a.3.is_line b.3.is_line in
-      cc (
-        one.0,
-        one.1,
-        one.2,
-        a.5 ∙ verdict_at place contents known ignore_missing _ name a.1 a.2 a.4,
-        b.5 ∙ verdict_at place contents known ignore_missing _ other_name b.1 b.2 b.4,
-      )
+      let first = a.5 ∙ verdict_at place contents known ignore_missing _ name a.1 a.2 a.4 in
+      let second = b.5 ∙ verdict_at place contents known ignore_missing _ other_name b.1 b.2 b.4 in
+      cc (one.0, one.1, one.2, first, second)
 
   -- one list of events comes of the lines of a list
   one_list : (layout : Option Layout) (number : ℕ) (lines : List (List ℕ)) (es fs : List Event) (last other : Option Layout)
@@ -120,27 +104,17 @@ module _ {File : Type 0} (place : Place File) (contents : List ℕ → Result (L
       let here : first ≡ head =
       one_or_none (is_passed_over text) (IsEventOn place ignore_missing rules next number text) first head (one_event next number text) on too in
       let behind = one_list next (number + 1) rest more others last other later after in
-      (are ∙ ap (λ (l : List Event). l ++ more) here ∙ ap (λ (l : List Event). head ++ l) behind.0 ∙ sym be, behind.1)
+      (cc (are, be, here, behind.0), behind.1)
 
 -- ---- what is counted and said
 
 one_tally : (events : List Event) (t u : Tally) → IsTally events t → IsTally events u → t ≡ u
 one_tally events t u a b =
-    ap (λ (n : ℕ). record t { misformatted = n }) (a.misformatted ∙ sym b.misformatted)
-    ∙ ap (λ (n : ℕ). record t { misformatted = u.misformatted; differing = n }) (a.differing ∙ sym b.differing)
-    ∙ ap (λ (n : ℕ). record u { unreadable = n; matched = t.matched; checked = t.checked }) (a.unreadable ∙ sym b.unreadable)
-    ∙ ap (λ (x : Bool). record u { matched = x; checked = t.checked }) (a.matched ∙ sym b.matched)
-    ∙ ap (λ (x : Bool). record u { checked = x }) (a.checked ∙ sym b.checked)
-
-one_growth : (old some more : List Item) (new other : Option (List Item)) → some ≡ more → Adds (Some old) new some → Adds (Some old) other more
-    → new ≡ other
-one_growth old some more None other same a b = absurd a
-one_growth old some more (Some xs) None same a b = absurd b
-one_growth old some more (Some xs) (Some ys) same a b = cc
+    let same : tally t.misformatted t.differing t.unreadable t.matched t.checked ≡ tally u.misformatted u.differing u.unreadable u.matched u.checked = cc in
+    same
 
 pub grown : (old more : List Item) (new : Option (List Item)) → Adds (Some old) new more → new ≡ Some (old ++ more)
-grown old more None a = absurd a
-grown old more (Some xs) a = ap Some a
+grown old more new a = grind (arith, a)
 
 -- of more items the first of some were told
 front_told : (before items more all : List Item) (early late : Option (List Item)) → AddsFirst (Some before) early items → Adds (Some before) late all
@@ -149,15 +123,8 @@ front_told before items more all early late told adds is = record {
   first = told.first;
   rest = told.rest ++ more;
   is_early = grown before told.first early told.adds;
-  is_late = grown before all late adds
-      ∙ ap (λ (l : List Item). Some (before ++ l)) (is ∙ ap (λ (l : List Item). l ++ more) told.split ∙ append_assoc told.first told.rest more);
+  is_late = rw (is, told.split, append_assoc) at (grown before all late adds);
 }
-
--- what is told of events, and then the rest, after the first of them
-grouped : (options : Options) (events es fs shown : List Event) (rest : List Item) → events ≡ es ++ fs → es ≡ shown
-    → flat_map (items_of_event options) events ++ rest
-    ≡ (flat_map (items_of_event options) shown ++ []) ++ (flat_map (items_of_event options) fs ++ rest)
-grouped options events es fs shown rest split same = rw (split, ← same, flat_map-append, append-nil, append_assoc) refl
 
 -- ---- lists
 
@@ -168,9 +135,7 @@ behind_front list bytes rest (Some more) read = (rest ++ more, read ∙ append_a
 
 -- which is its front
 front : (list bytes rest : List ℕ) (left : Option (List ℕ)) → Consumes (Some list) left (bytes ++ rest) → bytes ≡ take (length bytes) list
-front list bytes rest left read =
-    let (more, is) = behind_front list bytes rest left read in
-    sym (take-append_seam bytes more) ∙ ap (take (length bytes)) (sym is)
+front list bytes rest left read = grind (arith, take-append_seam, append_assoc, read)
 
 -- all of it was read
 pub all_read : (list bytes rest : List ℕ) (left : Option (List ℕ)) → Consumes (Some list) left (bytes ++ rest) → rest ≡ [] → IsAtEnd left → list ≡ bytes
@@ -190,17 +155,10 @@ first_lines stage start left lines read = elim read.cut [
 -- or all that were read
 module _ (start : Start) {stage : Stage} {left : ListState} {lines : List (List ℕ)} (read : WasRead stage (list_before start) left lines) where
   all_of : stage ≢ among → lines_of read.bytes ≡ lines
-  all_of over = read.split ∙ ap (λ l. lines ++ l) (none stage over read.reached) ∙ append-nil lines
-    where
-      none : (stage : Stage) → stage ≢ among → Reaches stage (list_before start) left read.behind read.rest → read.behind ≡ []
-      none among over reached = absurd (over refl)
-      none ended over reached = reached.0
-      none failed over reached = reached.0
+  all_of over = grind (arith, append-nil, over, read.split, read.reached)
 
   pub lines_to_end : stage ≡ ended → lines_of start.list ≡ lines
-  lines_to_end is =
-      let reached : Reaches ended (list_before start) left read.behind read.rest = rw is at read.reached in
-      ap lines_of (all_read start.list read.bytes read.rest left.left read.consumed reached.1 reached.2) ∙ all_of (λ same. cc)
+  lines_to_end is = grind (arith, append-nil, is, read.split, read.reached, read.consumed)
 
 -- which are the same if all of the list was read, or as much of it
 same_far : (start : Start) {stage other : Stage} {left right : ListState} {lines more : List (List ℕ)}
@@ -208,13 +166,10 @@ same_far : (start : Start) {stage other : Stage} {left right : ListState} {lines
     → stage ≡ ended ⊎ (length a.bytes ≡ length b.bytes) → lines ≡ more
 same_far start a b same over too (inl is) = sym (lines_to_end start a is) ∙ lines_to_end start b (sym same ∙ is)
 same_far start a b same over too (inr far) =
-    sym (all_of start a over)
-    ∙ ap lines_of (front start.list a.bytes a.rest _ a.consumed ∙ ap (λ (n : ℕ). take n start.list) far
-    ∙ sym (front start.list b.bytes b.rest _ b.consumed))
-    ∙ all_of start b too
+    cc (all_of start a over, all_of start b too, front start.list a.bytes a.rest _ a.consumed, front start.list b.bytes b.rest _ b.consumed, far)
 
-module _ {File : Type 0} (place : Place File) (contents : List ℕ → Result (List ℕ) Error) (known : IsKnown place contents)
-    (options : Options) (rules : Rules) (first : Option Layout) (start : Start) where
+module _ {File : Type 0} (place : Place File) (contents : List ℕ → Result (List ℕ) Error) (options : Options) (rules : Rules)
+    (first : Option Layout) (start : Start) (known : IsKnown place contents) where
   -- of the same lines one thing is said
   same_lines : {stage other : Stage} {left right : ListState} {last other_last : Option Layout} {xs ys : List Item} {t u : Tally}
       (a : IsReport place options rules first last (list_before start) left stage xs t)
@@ -232,7 +187,7 @@ module _ {File : Type 0} (place : Place File) (contents : List ℕ → Result (L
       let a = one.checks in
       let b = other.checks in
       let said = same_lines a.report b.report same (same_far start a.report.read b.report.read same a.is_over b.is_over far) in
-      (said.0, one_growth start.items a.items b.items one.told.items other.told.items said.2 a.tells.adds b.tells.adds, cc (a.answer, b.answer, same, said.1))
+      (said.0, cc (grown _ _ _ a.tells.adds, grown _ _ _ b.tells.adds, said.2), cc (a.answer, b.answer, same, said.1))
 
   -- what comes of the front of some lines
   reports_front : (layout : Option Layout) (number : ℕ) (lines more : List (List ℕ)) (events : List Event) (last : Option Layout)
@@ -243,55 +198,45 @@ module _ {File : Type 0} (place : Place File) (contents : List ℕ → Result (L
       let (es, fs, mid, is, front) = reports_front (layout_after rules layout text) (number + 1) rest more others last later in
       (here ++ es, fs, mid, are ∙ ap (λ l. here ++ l) is ∙ sym (append_assoc here es fs), (here, es, refl, on, front))
 
-  -- a run that ended among the lines, or at the end of the list, told the front of the report
+  -- what was told of lines among those of a list, or of all, is the front of what is told of the list
+  more_said : {left right : ListState} {last other_last : Option Layout} {xs ys : List Item} {t u : Tally} (stage : Stage)
+      → IsReport place options rules first last (list_before start) left ended xs t
+      → IsReport place options rules first other_last (list_before start) right stage ys u → stage ≢ failed → (more : List Item) × (xs ≡ ys ++ more)
+  more_said {left = left} {last = last} {other_last = other_last} {t = t} among a b works =
+      let (more, lines) = first_lines among start _ b.lines b.read in
+      let reports : Reports place options.ignore_missing rules first 1 (b.lines ++ more) a.events last =
+      rw (← lines, lines_to_end start a.read refl) a.reports in
+      let (es, fs, mid, split, come) = reports_front first 1 b.lines more a.events last reports in
+      let same = (one_list place contents known options.ignore_missing rules first 1 b.lines es b.events mid other_last come b.reports).0 in
+      let rest = flat_map (items_of_event options) fs ++ last_remarks ended options t in
+      (rest, grind (arith, flat_map-append, append-nil, append_assoc, a.said, b.said, split, same))
+  more_said {ys = ys} ended a b works =
+      let said = same_lines a b refl (sym (lines_to_end start a.read refl) ∙ lines_to_end start b.read refl) in
+      ([], said.2 ∙ sym (append-nil ys))
+  more_said failed a b works = absurd (works refl)
+
   pub early_end : (one : Report place options rules first start) → one.checks.stage ≡ ended → (end : EarlyEnd place options rules first start)
       → end.stops.stage ≢ failed → IsFront start.items end.told.items one.told.items
-  early_end one whole end works = at end.stops.stage refl
-    where
-      a : IsReport place options rules first one.last (list_before start) one.left ended one.checks.items one.checks.tally
-      a = rw whole at one.checks.report
-
-      b : (stage : Stage) → end.stops.stage ≡ stage
-          → IsReport place options rules first end.stops.last (list_before start) end.left stage end.stops.items end.stops.tally
-      b stage is = rw is at end.stops.report
-
-      front_of : (more : List Item) → one.checks.items ≡ end.stops.items ++ more → IsFront start.items end.told.items one.told.items
-      front_of more is =
-          front_told start.items end.stops.items more one.checks.items end.told.items one.told.items end.stops.stops.told one.checks.tells.adds is
-
-      at : (stage : Stage) → end.stops.stage ≡ stage → IsFront start.items end.told.items one.told.items
-      at among is =
-          let report = b among is in
-          let (more, lines) = first_lines among start end.left report.lines report.read in
-          let reports : Reports place options.ignore_missing rules first 1 (report.lines ++ more) a.events one.last =
-          rw (← lines, lines_to_end start a.read refl) a.reports in
-          let (es, fs, mid, split, come) = reports_front first 1 report.lines more a.events one.last reports in
-          let same = (one_list place contents known options.ignore_missing rules first 1 report.lines es report.events mid end.stops.last come report.reports).0 in
-          let rest = last_remarks ended options one.checks.tally in
-          front_of (flat_map (items_of_event options) fs ++ rest)
-          (a.said ∙ grouped options a.events es fs report.events rest split same
-          ∙ ap (λ l. l ++ (flat_map (items_of_event options) fs ++ rest)) (sym report.said))
-      at ended is =
-          let report = b ended is in
-          let said = same_lines a report refl (sym (lines_to_end start a.read refl) ∙ lines_to_end start report.read refl) in
-          front_of [] (said.2 ∙ sym (append-nil end.stops.items))
-      at failed is = absurd (works is)
+  early_end one whole end works =
+      let (more, is) = more_said end.stops.stage (rw whole at one.checks.report) end.stops.report works in
+      front_told start.items end.stops.items more one.checks.items end.told.items one.told.items end.stops.stops.told one.checks.tells.adds is
 
 -- ---- files that are printed
 
-module _ {File : Type 0} (place : Place File) (contents : List ℕ → Result (List ℕ) Error) (known : IsKnown place contents) (style : Style) where
-  abbrev IsRead : Reading → Type 0
-  IsRead r = ComesTo place (ripemd (parameters_of style.variant)) r.name r.outcome
-
+module _ (contents : List ℕ → Result (List ℕ) Error) (style : Style) where
   abbrev pub items : List (List ℕ) → List Item
   items = flat_map (λ (name : List ℕ). items_by style name (contents name))
 
   abbrev pub are_given : List (List ℕ) → Bool
   are_given = list_all (λ (name : List ℕ). is_given (contents name))
 
+module _ {File : Type 0} (place : Place File) (contents : List ℕ → Result (List ℕ) Error) (style : Style) (known : IsKnown place contents) where
+  abbrev IsRead : Reading → Type 0
+  IsRead r = ComesTo place (ripemd (parameters_of style.variant)) r.name r.outcome
+
   of_readings : (rs : List Reading) → All IsRead rs
-      → (flat_map (λ (r : Reading). items_on style r.name r.outcome) rs ≡ items (map (λ (r : Reading). r.name) rs))
-      × (list_all (λ (r : Reading). was_read r.outcome) rs ≡ are_given (map (λ (r : Reading). r.name) rs))
+      → (flat_map (λ (r : Reading). items_on style r.name r.outcome) rs ≡ items contents style (map (λ (r : Reading). r.name) rs))
+      × (list_all (λ (r : Reading). was_read r.outcome) rs ≡ are_given contents style (map (λ (r : Reading). r.name) rs))
   of_readings [] read = (refl, refl)
   of_readings (r ∷ rs) read =
       let here = items_at place contents known style r.name r.outcome (All-head IsRead r rs read) in
@@ -300,28 +245,27 @@ module _ {File : Type 0} (place : Place File) (contents : List ℕ → Result (L
 
   -- what is printed of files is by what their names give
   pub prints_by : (names : List (List ℕ)) (told : List Item) (all : Bool) → Prints place style names told all
-      → (told ≡ items names) × (all ≡ are_given names)
-  prints_by names told all prints =
-      let come = of_readings prints.readings prints.each in
-      (prints.said ∙ come.0 ∙ ap items prints.named, prints.answer ∙ come.1 ∙ ap are_given prints.named)
+      → (told ≡ items contents style names) × (all ≡ are_given contents style names)
+  prints_by names told all prints = rw prints.named at (rw (← prints.said, ← prints.answer) at (of_readings prints.readings prints.each))
 
-  pub one_print : (files : List (List ℕ)) (before : List Item) (failure : Option Error)
-      (one other : Print place style files (record { items = Some before; failure = failure }))
+module _ {File : Type 0} (place : Place File) (contents : List ℕ → Result (List ℕ) Error) (style : Style) (files : List (List ℕ))
+    (before : List Item) (failure : Option Error) (known : IsKnown place contents)
+    (one : Print place style files (record { items = Some before; failure = failure })) where
+  by_one : (one.prints.items ≡ items contents style files) × (one.all ≡ are_given contents style files)
+  by_one = prints_by place contents style known files one.prints.items one.all one.prints.prints
+
+  pub one_print : (other : Print place style files (record { items = Some before; failure = failure }))
       → (one.told.items ≡ other.told.items) × (one.all ≡ other.all)
-  one_print files before failure one other =
-      let a = prints_by files one.prints.items one.all one.prints.prints in
-      let b = prints_by files other.prints.items other.all other.prints.prints in
-      (one_growth before _ _ _ _ (a.0 ∙ sym b.0) one.prints.tells.adds other.prints.tells.adds, a.1 ∙ sym b.1)
+  one_print other =
+      let by_other = prints_by place contents style known files other.prints.items other.all other.prints.prints in
+      (cc (by_one.0, by_other.0, grown _ _ _ one.prints.tells.adds, grown _ _ _ other.prints.tells.adds), by_one.1 ∙ sym by_other.1)
 
-  pub early_print : (files : List (List ℕ)) (before : List Item) (failure : Option Error)
-      (one : Print place style files (record { items = Some before; failure = failure }))
-      (end : EarlyPrint place style files (record { items = Some before; failure = failure })) → IsFront before end.told.items one.told.items
-  early_print files before failure one end =
+  pub early_print : (end : EarlyPrint place style files (record { items = Some before; failure = failure }))
+      → IsFront before end.told.items one.told.items
+  early_print end =
       let b = end.prints in
-      let back = drop b.count files in
-      front_told before b.items (items back) one.prints.items end.told.items one.told.items b.stops.told one.prints.tells.adds
-      (
-      (prints_by files one.prints.items one.all one.prints.prints).0 ∙ ap items (sym (take-append-drop b.count files))
-      ∙ flat_map-append (λ (name : List ℕ). items_by style name (contents name)) (take b.count files) back
-      ∙ ap (λ l. l ++ items back) (sym (prints_by (take b.count files) b.items b.all b.prints).0)
-      )
+      let back = items contents style (drop b.count files) in
+      let all : items contents style files ≡ b.items ++ back =
+      rw (take-append-drop, ← (prints_by place contents style known (take b.count files) b.items b.all b.prints).0) at
+      (flat_map-append (λ (name : List ℕ). items_by style name (contents name)) (take b.count files) (drop b.count files)) in
+      front_told before b.items back one.prints.items end.told.items one.told.items b.stops.told one.prints.tells.adds (by_one.0 ∙ all)

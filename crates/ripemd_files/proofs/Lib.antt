@@ -1,3 +1,4 @@
+pub mod Types
 pub mod Places
 pub mod Names
 pub mod Bodies
@@ -6,7 +7,6 @@ pub mod Written
 pub mod Ends
 pub mod Pieces
 pub mod Zips
-pub mod Outcomes
 pub mod Telling
 pub mod Printed
 pub mod Checked

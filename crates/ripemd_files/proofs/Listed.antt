@@ -2,12 +2,7 @@
 use Rattle.std.proofs.Common.{◌≡◌, ◌≢◌, ℕ, ◌+◌, List, [], ◌∷◌, ◌++◌, codes, Option, Some, None, unwrap_or, Bool, IsTrue, refl, sym, inl, inr}
 use Rattle.std.specs.Prelude.{IsFalse, option_map}
 use Rattle.std.proofs.lemmas.List.{append-nil}
-use Rattle.ripemd_files.specs.declared.line.Variant.{Variant}
-use Rattle.ripemd_files.specs.declared.line.Layout.{Layout}
-use Rattle.ripemd_files.specs.declared.line.Layout.TheVariants.{Standard}
-use Rattle.ripemd_files.specs.declared.line.Line.{Line}
-use Rattle.ripemd_files.specs.declared.list.Rules.{Rules}
-use Rattle.ripemd_files.specs.declared.list.Cursor.{Cursor}
+use Rattle.ripemd_files.proofs.Types.{Variant, Layout, Standard, Line, Rules, Cursor}
 use Rattle.ripemd_files.specs.Lines.{Says}
 use Rattle.ripemd_files.specs.Files.{Place}
 use Rattle.ripemd_files.specs.Checking.{Event, IsEventOf, misformatted}
@@ -53,32 +48,20 @@ module _ {File : Type 0} (place : Place File) (ignore_missing : Bool) (kinds : R
   goes_on : (own : List Event) → AreEventsOn place ignore_missing kinds after.layout before.number text own
       → (rest : List (List ℕ)) (more : List Event) (last : Option Layout) → ReportsFrom place ignore_missing kinds after rest more last
       → ReportsFrom place ignore_missing kinds before (text ∷ rest) (own ++ more) last
-  goes_on own are rest more last report = (
-    own,
-    more,
-    refl,
-    rw next at are,
-    rw (next, step) at report,
-  )
+  goes_on own are rest more last report = (own, more, refl, rw next at are, rw (next, step) at report)
 
   pub takes_skipped : IsTrue (is_passed_over text) → (lines : List Line) → Takes place ignore_missing kinds before after text lines lines None
   takes_skipped skipped lines = record {
-    told = λ events zipped.
-        (events, [], sym (append-nil events), zipped, goes_on [] (rw skipped refl));
+    told = λ events zipped. (events, [], sym (append-nil events), zipped, goes_on [] (rw skipped refl));
     grown = inl refl;
   }
 
   pub takes_misformatted : IsFalse (is_passed_over text) → IsEntry kinds after.layout text None → (lines : List Line)
       → Takes place ignore_missing kinds before after text lines lines (Some before.number)
   takes_misformatted counts entry lines = record {
-    told = λ events zipped. (
-      events,
-      [],
-      sym (append-nil events),
-      zipped,
-      goes_on (misformatted before.number ∷ [])
-          (rw counts (misformatted before.number, refl, (refl, entry))),
-    );
+    told = λ events zipped.
+        let on = goes_on (misformatted before.number ∷ []) (rw counts (misformatted before.number, refl, (refl, entry))) in
+        (events, [], sym (append-nil events), zipped, on);
     grown = inl refl;
   }
 
@@ -86,13 +69,8 @@ module _ {File : Type 0} (place : Place File) (ignore_missing : Bool) (kinds : R
       → Takes place ignore_missing kinds before after text lines (lines ++ line ∷ []) None
   takes_said line counts entry lines = record {
     told = λ events zipped.
-        let (earlier, event, same, first, both) = all_zip_last (IsEventOf place ignore_missing) lines line events zipped in (
-          earlier,
-          event ∷ [],
-          same,
-          first,
-          goes_on (event ∷ [])
-              (rw counts (event, refl, rw both.2 (line.variant, line.digest.items, both.0, entry, both.1, refl))),
-        );
+        let (earlier, event, same, first, both) = all_zip_last (IsEventOf place ignore_missing) lines line events zipped in
+        let on = goes_on (event ∷ []) (rw counts (event, refl, rw both.2 (line.variant, line.digest.items, both.0, entry, both.1, refl))) in
+        (earlier, event ∷ [], same, first, on);
     grown = inr (line, refl, refl);
   }

@@ -1,18 +1,15 @@
 -- What is printed of files, one after another.
-use Rattle.std.proofs.Common.{◌≡◌, ℕ, List, [], ◌∷◌, ◌++◌, map, flat_map, Bool, true, ◌&&◌, refl, sym, ap, ◌∙◌, rules, arith, length, take, get_or, subst, ◌+◌, ◌-◌, ◌<◌, ◌≤◌, drop, Bor}
-use Rattle.std.proofs.lemmas.List.{map-append, append-nil, length-drop, length-map, length-take, get_or-map, take-map, take-take, take_more, take_all}
+use Rattle.std.proofs.Common.{◌≡◌, ℕ, List, [], ◌∷◌, ◌++◌, Bool, true, ◌&&◌, refl, sym, rules, arith, length, take, get_or, ◌+◌, ◌-◌, ◌<◌, ◌≤◌, drop, Bor}
+use Rattle.std.proofs.lemmas.List.{map-append, append-nil, length-drop, length-map, length-take, take-map, take-take, take_more, take_all}
 use Rattle.std.proofs.lemmas.List.Elements.{All-append, All-cons}
 use Rattle.std.proofs.lemmas.List.Folds.{list_all-append}
 use Rattle.std.proofs.lemmas.Grind.{flat_map-append}
 use Rattle.std.proofs.Math.Bool.{and-true}
 use Rattle.std.proofs.Math.Seq.{take-add}
-use Rattle.std.specs.List.{list_all, AllZip}
+use Rattle.std.specs.List.{AllZip}
 use Rattle.ripemd.specs.Standard.Hashing.{ripemd}
 use Rattle.ripemd_batch.specs.Lanes.{targets}
-use Rattle.ripemd_files.specs.declared.fault.Fault.{Fault}
-use Rattle.ripemd_files.specs.declared.fault.Fault.TheVariants.{NoMemory}
-use Rattle.ripemd_files.specs.declared.printing.Style.{Style}
-use Rattle.ripemd_files.specs.declared.outcome.Outcome.{Outcome}
+use Rattle.ripemd_files.proofs.Types.{Fault, NoMemory, Style, Outcome}
 use Rattle.ripemd_files.specs.Files.{ComesTo, OfFirst, Place, parameters_of}
 use Rattle.ripemd_files.specs.Said.{Item, Pends, Stops, Tells, Told, written}
 use Rattle.ripemd_files.proofs.Telling.{no_memory, pends_done, pends_more, pends_none, pends_stops, pends_undone, stops_after, stops_here, tells_more, tells_none}
@@ -46,12 +43,10 @@ more_files : {File : Type 0} (place : Place File) (style : Style) (names others 
     → Prints place style names xs all → Prints place style others ys more → Prints place style (names ++ others) (xs ++ ys) (all && more)
 more_files place style names others xs ys all more first second = record {
   readings = first.readings ++ second.readings;
-  named = map-append _ first.readings second.readings ∙ ap (λ l. l ++ map (λ (r : Reading). r.name) second.readings) first.named ∙ ap (λ l. names ++ l) second.named;
+  named = rw (map-append, first.named, second.named) refl;
   each = All-append (λ (r : Reading). ComesTo place (ripemd (parameters_of style.variant)) r.name r.outcome) _ _ first.each second.each;
-  said = ap (λ l. l ++ ys) first.said ∙ ap (λ l. flat_map (λ (r : Reading). items_on style r.name r.outcome) first.readings ++ l) second.said
-      ∙ sym (flat_map-append (λ (r : Reading). items_on style r.name r.outcome) first.readings second.readings);
-  answer = ap (λ x. x && more) first.answer ∙ ap (λ x. list_all (λ (r : Reading). was_read r.outcome) first.readings && x) second.answer
-      ∙ sym (list_all-append _ first.readings second.readings);
+  said = rw (first.said, second.said, flat_map-append) refl;
+  answer = rw (first.answer, second.answer, list_all-append) refl;
 }
 
 pub prints_none : {File : Type 0} (place : Place File) (style : Style) (old : Told) → PrintsSoFar place style [] old old [] true
@@ -66,114 +61,81 @@ prints_no_memory place style names old =
     record { count = 0; items = []; all = true; prints = no_files place style; stops = stops_here ⊥ old [] }
 
 -- the next file of some that were read
-module _ {File N : Type 0} (place : Place File) (style : Style) (view : N → List ℕ) (names : List N) (outcomes : List Outcome)
-    (read : AllZip (ComesTo place (ripemd (parameters_of style.variant))) (map view names) outcomes) where
-  pub as_many : length outcomes ≡ length names
-  as_many = AllZip-long _ _ _ read ∙ length-map names view
-
-  module _ (k : ℕ) (name : N) (outcome : Outcome) (a b c : Told) (lines : List ℕ) (all : Bool) (within : k < length outcomes)
-      (is_name : name ≡ get_or names k name) (is_outcome : outcome ≡ get_or outcomes k outcome)
-      (before : PrintsSoFar place style (map view (take k names)) a b lines all) where
-    next : Prints place style (map view (take (k + 1) names)) (before.items ++ items_on style (view name) outcome) (all && was_read outcome)
+module _ {File : Type 0} (place : Place File) (style : Style) (names : List (List ℕ)) (outcomes : List Outcome)
+    (read : AllZip (ComesTo place (ripemd (parameters_of style.variant))) names outcomes) where
+  module _ (k : ℕ) (name : List ℕ) (outcome : Outcome) (a b c : Told) (lines : List ℕ) (all : Bool) (within : k < length outcomes)
+      (is_name : get_or names k name ≡ name) (is_outcome : outcome ≡ get_or outcomes k outcome)
+      (before : PrintsSoFar place style (take k names) a b lines all) where
+    next : Prints place style (take (k + 1) names) (before.items ++ items_on style name outcome) (all && was_read outcome)
     next =
-        let short : k < length names = omega (arith, as_many) in
-        let comes : ComesTo place (ripemd (parameters_of style.variant)) (view name) outcome =
-        rw (get_or-map view names k name (view name) short, ← is_name, ← is_outcome) at
-        (all_zip_at (ComesTo place (ripemd (parameters_of style.variant))) (map view names) outcomes k (view name) outcome read
-        (rw length-map short)) in
-        rw (take_more names k name short, ← is_name, map-append)
-        (more_files place style _ _ before.items (items_on style (view name) outcome) all (was_read outcome) before.prints (one_file place style (view name) outcome comes))
+        let short : k < length names = omega (arith, within, AllZip-long _ _ _ read) in
+        let comes = rw (is_name, ← is_outcome) at
+        (all_zip_at (ComesTo place (ripemd (parameters_of style.variant))) names outcomes k name outcome read short) in
+        rw (take_more names k name short, is_name) (more_files place style _ _ _ _ _ _ before.prints (one_file place style name outcome comes))
 
-    pub prints_next : (more : List ℕ) (was : Bool) → Pends b c lines more (items_on style (view name) outcome) → was ≡ was_read outcome
-        → PrintsSoFar place style (map view (take (k + 1) names)) a c more (all && was)
-    prints_next more was pends answer = record {
-      items = before.items ++ items_on style (view name) outcome;
-      prints = rw answer next;
-      pends = pends_more a b c [] lines more before.items (items_on style (view name) outcome) before.pends pends;
-    }
+    pub prints_next : (more : List ℕ) (was : Bool) → Pends b c lines more (items_on style name outcome) → was ≡ was_read outcome
+        → PrintsSoFar place style (take (k + 1) names) a c more (all && was)
+    prints_next more was pends answer =
+        record { items = _; prints = rw answer next; pends = pends_more a b c [] lines more before.items _ before.pends pends }
 
     -- where the run ends
-    pub prints_till : (fault : Fault) → Stops ⊥ b c (written lines ++ items_on style (view name) outcome) fault
-        → PrintsFirst place style (map view names) a c fault
-    prints_till fault stops = record {
-      count = k + 1;
-      items = before.items ++ items_on style (view name) outcome;
-      all = all && was_read outcome;
-      prints = rw take-map next;
-      stops = pends_stops ⊥ a b c lines before.items (items_on style (view name) outcome) fault before.pends stops;
-    }
+    pub prints_till : (fault : Fault) → Stops ⊥ b c (written lines ++ items_on style name outcome) fault → PrintsFirst place style names a c fault
+    prints_till fault stops =
+        record { count = k + 1; items = _; all = _; prints = next; stops = pends_stops ⊥ a b c lines before.items _ fault before.pends stops }
 
   -- all of them
-  module _ (k : ℕ) (a b c : Told) (lines : List ℕ) (all : Bool) (over : length outcomes ≤ k)
-      (before : PrintsSoFar place style (map view (take k names)) a b lines all) where
-    whole : Prints place style (map view names) before.items all
-    whole = rw (take_all k names (omega (arith, as_many, over))) at before.prints
-
-    pub prints_end : Tells b c (written lines) → PrintsAll place style (map view names) a c all
-    prints_end wrote =
-        record { items = before.items; prints = whole; tells = pends_done a b c lines before.items before.pends wrote }
-
-    pub prints_unwritten : (fault : Fault) → Stops ⊥ b c (written lines) fault → PrintsFirst place style (map view names) a c fault
-    prints_unwritten fault stops = record {
-      count = length (map view names);
-      items = before.items;
-      all = all;
-      prints = rw (take_all (length (map view names)) (map view names) (omega arith)) whole;
-      stops = pends_undone ⊥ a b c lines before.items fault before.pends stops;
-    }
-
--- the files from a place on, after those before it
-module _ {File N : Type 0} (place : Place File) (style : Style) (view : N → List ℕ) (names : List N) (start : ℕ) (a b c : Told) (all : Bool)
-    (first : PrintsAll place style (map view (take start names)) a b all) where
-  pub prints_on : (end : ℕ) (more : Bool) → start ≤ end → PrintsAll place style (map view (take (end - start) (drop start names))) b c more
-      → PrintsAll place style (map view (take end names)) a c (all && more)
-  prints_on end more le second = record {
-    items = first.items ++ second.items;
-    prints = subst (λ l. Prints place style l (first.items ++ second.items) (all && more))
-        (sym (map-append view (take start names) (take (end - start) (drop start names))) ∙ ap (map view) (sym (take-add start (end - start) names) ∙ ap (λ n. take n names) (omega arith)))
-        (more_files place style _ _ first.items second.items all more first.prints second.prints);
-    tells = tells_more a b c first.items second.items first.tells second.tells;
+  pub prints_end : (k : ℕ) (a b c : Told) (lines : List ℕ) (all : Bool) → length outcomes ≤ k → PrintsSoFar place style (take k names) a b lines all
+      → Tells b c (written lines) → PrintsAll place style names a c all
+  prints_end k a b c lines all over before wrote = record {
+    items = before.items;
+    prints = rw (take_all k names (omega (arith, AllZip-long _ _ _ read, over))) at before.prints;
+    tells = pends_done a b c lines before.items before.pends wrote;
   }
 
+-- or the run ends before their lines are written
+pub prints_unwritten : {File : Type 0} (place : Place File) (style : Style) (names : List (List ℕ)) (k : ℕ) (a b c : Told) (lines : List ℕ) (all : Bool)
+    (fault : Fault) → PrintsSoFar place style (take k names) a b lines all → Stops ⊥ b c (written lines) fault → PrintsFirst place style names a c fault
+prints_unwritten place style names k a b c lines all fault before stops =
+    record { count = k; items = _; all = _; prints = before.prints; stops = pends_undone ⊥ a b c lines before.items fault before.pends stops }
+
+-- the files from a place on, after those before it
+module _ {File : Type 0} (place : Place File) (style : Style) (names : List (List ℕ)) (start : ℕ) (a b : Told) (all : Bool)
+    (first : PrintsAll place style (take start names) a b all) where
+  pub prints_on : (c : Told) (end : ℕ) (more : Bool) → start ≤ end → PrintsAll place style (take (end - start) (drop start names)) b c more
+      → PrintsAll place style (take end names) a c (all && more)
+  prints_on c end more le second =
+      let same : start + (end - start) ≡ end = omega (arith, le) in
+      record {
+        items = first.items ++ second.items;
+        prints = rw (← take-add, same) at (more_files place style _ _ first.items second.items all more first.prints second.prints);
+        tells = tells_more a b c first.items second.items first.tells second.tells;
+      }
+
   -- or the first of these
-  pub prints_part : (end : ℕ) (fault : Fault) → PrintsFirst place style (map view (take (end - start) (drop start names))) b c fault
-      → PrintsFirst place style (map view names) a c fault
-  prints_part end fault second =
+  pub prints_part : (c : Told) (end : ℕ) (fault : Fault) → PrintsFirst place style (take (end - start) (drop start names)) b c fault
+      → PrintsFirst place style names a c fault
+  prints_part c end fault second =
       let (count, same) = take_within second.count (end - start) (drop start names) in
       record {
         count = start + count;
         items = first.items ++ second.items;
         all = all && second.all;
-        prints = subst (λ l. Prints place style l (first.items ++ second.items) (all && second.all))
-            (ap (λ l. map view (take start names) ++ l) (take-map view second.count _ ∙ ap (map view) same)
-            ∙ sym (map-append view (take start names) (take count (drop start names)))
-            ∙ ap (map view) (sym (take-add start count names))
-            ∙ sym (take-map view (start + count) names))
-            (more_files place style _ _ first.items second.items all second.all first.prints second.prints);
+        prints = rw (same, ← take-add) at (more_files place style _ _ first.items second.items all second.all first.prints second.prints);
         stops = stops_after ⊥ a b c first.items second.items fault first.tells second.stops;
       }
 
--- there is no memory for the next
-pub prints_no_more : {File N : Type 0} (place : Place File) (style : Style) (view : N → List ℕ) (names : List N) (start : ℕ) (a b : Told) (all : Bool)
-    → PrintsAll place style (map view (take start names)) a b all → PrintsFirst place style (map view names) a b NoMemory
-prints_no_more place style view names start a b all first = record {
-  count = start;
-  items = first.items;
-  all = all;
-  prints = rw take-map first.prints;
-  stops = no_memory ⊥ a b first.items first.tells;
-}
+  -- there is no memory for the next
+  pub prints_no_more : PrintsFirst place style names a b NoMemory
+  prints_no_more =
+      record { count = start; items = first.items; all = all; prints = first.prints; stops = no_memory ⊥ a b first.items first.tells }
 
 -- the first of the files from a place on
 pub first_from : (R : List ℕ → Outcome → Type 0) (names : List (Bor (List ℕ))) (outcomes : List Outcome) (start count : ℕ)
     → start ≤ length names → count ≡ length outcomes → OfFirst R (targets (take (length names - start) (drop start names))) outcomes
     → (start + count ≤ length names) × AllZip R (targets (take (start + count - start) (drop start names))) outcomes
 first_from R names outcomes start count le counted first =
-    let within : count ≤ length names - start = omega (arith, counted, rw (length-map, length-take, length-drop) at first.within) in (
+    let within : count ≤ length names - start = omega (arith, counted, rw (length-map, length-take, length-drop) at first.within) in
+    let same : start + count - start ≡ count = omega arith in (
       omega (arith, within, le),
-      subst (λ l. AllZip R l outcomes)
-          (ap (λ n. take n (targets (take (length names - start) (drop start names)))) (sym counted)
-          ∙ take-map (λ r. r.now) count _
-          ∙ ap targets (take-take count (length names - start) (drop start names) within ∙ ap (λ n. take n (drop start names)) (omega arith)))
-          first.each,
+      rw same (rw (← counted, take-map, take-take count (length names - start) (drop start names) within) at first.each),
     )

@@ -1,39 +1,30 @@
 -- Lists that were printed, and are checked.
-use Rattle.std.proofs.Common.{◌≡◌, ℕ, ◌+◌, ◌<◌, ◌-◌, ◌==◌, ◌&&◌, ◌||◌, Bool, true, false, List, [], ◌∷◌, ◌++◌, codes, length, map, Option, Some, None, unwrap_or, All, inl, inr, refl, sym, ap, ◌∙◌, cond, arith, append_assoc}
+use Rattle.std.proofs.Common.{◌≡◌, ℕ, ◌+◌, ◌<◌, ◌==◌, Bool, true, false, List, [], ◌∷◌, ◌++◌, length, map, Option, Some, None, unwrap_or, All, inl, inr, refl, sym, ap, ◌∙◌, arith, append_assoc}
 use Rattle.std.proofs.lemmas.Bool.Decides.{nat_tests}
-use Rattle.std.specs.Prelude.{IfSome, not, Result, Ok, count_by, Err}
+use Rattle.std.specs.Prelude.{IfSome, Result, Ok, count_by}
 use Rattle.std.specs.List.{list_any}
 use Rattle.std.specs.declared.io.Error.{Error}
-use Rattle.std.proofs.lemmas.Bool.{ne_eqb, or_parts, MatchBool-at_false}
+use Rattle.std.proofs.lemmas.Bool.{MatchBool-at_false}
 use Rattle.std.proofs.lemmas.Slice.Eq.{bytes_eq-Decides}
 use Rattle.std.proofs.lemmas.List.{map-append}
 use Rattle.std.proofs.lemmas.List.Elements.{All-head, All-tail}
 use Rattle.std.proofs.lemmas.List.Sums.{sum_by-cons}
 use Rattle.ripemd.specs.Standard.Hashing.{ripemd}
-use Rattle.ripemd_files.specs.declared.line.Form.{Form}
-use Rattle.ripemd_files.specs.declared.line.Layout.{Layout}
-use Rattle.ripemd_files.specs.declared.line.Layout.TheVariants.{Standard}
-use Rattle.ripemd_files.specs.declared.line.Variant.{Variant}
-use Rattle.ripemd_files.specs.declared.list.Rules.{Rules}
-use Rattle.ripemd_files.specs.declared.verdict.Options.{Options}
-use Rattle.ripemd_files.specs.declared.verdict.Verdict.TheVariants.{Matches}
-use Rattle.ripemd_files.specs.declared.line.Ending.TheVariants.{Newline}
-use Rattle.ripemd_files.specs.declared.printing.Style.{Style}
+use Rattle.ripemd_files.proofs.Types.{Tally, Form, Layout, Standard, Variant, Rules, Options, Matches, Newline, Style}
 use Rattle.ripemd_files.specs.Lines.{IsLine, is_end}
 use Rattle.ripemd_files.specs.Layouts.{layout_at, layout_of}
 use Rattle.ripemd_files.specs.Reading.{strip_tag}
-use Rattle.std.specs.Option.{option_or}
 use Rattle.ripemd_files.specs.Files.{Place, parameters_of}
 use Rattle.ripemd_files.specs.Splitting.{lines_of}
-use Rattle.ripemd_files.specs.Checking.{Event, IsTally, checked, counted, has_verdict, is_difference, is_match, is_misformatted, is_unreadable, misformatted}
+use Rattle.ripemd_files.specs.Checking.{Event, IsTally, checked, has_verdict, is_difference, is_success, is_misformatted, is_unreadable, misformatted}
 use Rattle.ripemd_files.specs.Lists.{IsEventOn, IsWanted, Reports, ended, is_passed_over, layout_after}
 use Rattle.ripemd_files.specs.Determined.{IsKnown, Print, Report, Start}
-use Rattle.ripemd_files.specs.Said.{Item, byte, written}
-use Rattle.ripemd_files.specs.Printed.{IsPrinted, Printed, printed_line, printed_text, verdict_now}
+use Rattle.ripemd_files.specs.Said.{Item, written}
+use Rattle.ripemd_files.specs.Printed.{IsPrinted, Printed, events_now, printed_line, printed_text, verdict_now}
 use Rattle.ripemd_files.proofs.Agreeing.{came_to, is_line, is_verdict, printed_is_taken, round_trips, same_line, whole}
 use Rattle.ripemd_files.proofs.Bodies.{strip_tag-tag}
 use Rattle.ripemd_files.proofs.Cutting.{lines_first}
-use Rattle.ripemd_files.proofs.Determined.{grown, lines_to_end, prints_by, items, are_given, verdict_at, verdict_by}
+use Rattle.ripemd_files.proofs.Determined.{grown, lines_to_end, prints_by, items, are_given, verdict_at}
 use Rattle.ripemd_files.proofs.Ends.{no_end, starts_line}
 use Rattle.ripemd_files.proofs.Layouts.{layout_of-standard}
 use Rattle.ripemd_files.proofs.Sayings.{marked_body}
@@ -71,9 +62,7 @@ stays_standard only line variant digest name wanted h = elim h.form [
 
 no_newline : (text : List ℕ) → list_any is_end text ≡ false → list_any (λ x. x == 10) text ≡ false
 no_newline [] lacks = refl
-no_newline (x ∷ text) lacks =
-    let parts = or_parts (is_end x) (list_any is_end text) lacks in
-    rw (no_newline text parts.1) (grind (arith, nat_tests))
+no_newline (x ∷ text) lacks = grind (arith, nat_tests, no_newline text)
 
 module _ {File : Type 0} (place : Place File) (contents : List ℕ → Result (List ℕ) Error) (known : IsKnown place contents)
     (ignore_missing : Bool) (rules : Rules) (form : Form) (variant : Variant) where
@@ -99,19 +88,13 @@ module _ {File : Type 0} (place : Place File) (contents : List ℕ → Result (L
   module _ (f : Printed) (printed : Counts f) where
     not_passed : is_passed_over (line f) ≡ false
     not_passed =
-        let (first, others, starts, other) =
-        starts_line Standard (line f) variant _ f.name (is_line rules None form variant f.message f.name printed) in
-        rw (whole rules None form variant f.message f.name printed, starts, ne_eqb first 35 other) refl
+        let line_of_it = is_line rules None form variant f.message f.name printed in
+        grind (arith, nat_tests, whole rules None form variant f.message f.name printed, starts_line Standard (line f) variant _ f.name line_of_it)
 
     standard_after : (layout : Option Layout) → unwrap_or layout Standard ≡ Standard → unwrap_or (layout_after rules layout (line f)) Standard ≡ Standard
     standard_after layout is =
         let stays = stays_standard rules.only (line f) variant _ f.name printed.wanted (is_line rules None form variant f.message f.name printed) in
-        rw (not_passed, whole rules None form variant f.message f.name printed) (of layout (layout_of rules.only (line f)) is stays)
-      where
-        of : (one other : Option Layout) → unwrap_or one Standard ≡ Standard → unwrap_or other Standard ≡ Standard
-            → unwrap_or (option_or one other) Standard ≡ Standard
-        of None other is stays = stays
-        of (Some l) other is stays = is
+        rw (not_passed, whole rules None form variant f.message f.name printed) (grind (arith, is, stays))
 
     there : (layout : Option Layout) → unwrap_or layout Standard ≡ Standard → IsPrinted rules layout form variant f.name
     there layout is =
@@ -127,13 +110,7 @@ module _ {File : Type 0} (place : Place File) (contents : List ℕ → Result (L
         let told = is_verdict rules layout form variant f.message f.name (there layout is) place ignore_missing number found verdict on in
         let given = verdict_at place contents known ignore_missing (ripemd (parameters_of variant)) f.name
         (ripemd (parameters_of variant) f.message) on.2 came in
-        ap (λ n. checked n verdict) same.2 ∙ ap (λ v. checked f.name v) (told ∙ given ∙ now (contents f.name))
-      where
-        now : (r : Result (List ℕ) Error)
-            → verdict_by ignore_missing (ripemd (parameters_of variant)) (ripemd (parameters_of variant) f.message) r
-            ≡ verdict_now ignore_missing variant f.message r
-        now (Ok given) = refl
-        now (Err error) = refl
+        ap (λ n. checked n verdict) same.2 ∙ ap (λ v. checked f.name v) (told ∙ given ∙ grind arith)
 
   events_of : (layout : Option Layout) (number : ℕ) (files : List Printed) → unwrap_or layout Standard ≡ Standard → All Counts files
       → (events : List Event) (last : Option Layout) → Reports place ignore_missing rules layout number (map line files) events last
@@ -147,92 +124,71 @@ module _ {File : Type 0} (place : Place File) (contents : List ℕ → Result (L
       both ∙ ap (λ l. l ++ others) (here.1 ∙ ap (λ e. e ∷ []) (one_event_on f printed next number standard here.0 here.2))
       ∙ ap (λ l. event f ∷ l) (events_of next (number + 1) files standard (All-tail Counts f files are) others last later)
 
-  -- ---- a check of the list
+-- ---- a check of the list
 
-  -- its lines were read to the end
-  module _ (options : Options) (same : ignore_missing ≡ options.ignore_missing) (first : Option Layout) (start : Start) (files : List Printed)
-      (standard : unwrap_or first Standard ≡ Standard) (printed : All Counts files) (text : start.list ≡ printed_text form variant files)
-      (one : Report place options rules first start) (over : one.checks.stage ≡ ended) where
-    pub all_events : one.checks.report.events ≡ map event files
-    all_events =
-        let report = one.checks.report in
-        let lines : report.lines ≡ map line files = sym (lines_to_end start report.read over) ∙ ap lines_of text ∙ split_text files printed in
-        events_of first 1 files standard printed report.events one.last (rw (same, ← lines) report.reports)
+abbrev Gives : (List ℕ → Result (List ℕ) Error) → Printed → Type 0
+Gives contents f = contents f.name ≡ Ok f.message
 
-    -- the files gave the same messages
-    module _ (gave : All (λ (f : Printed). contents f.name ≡ Ok f.message) files) where
-      abbrev matching : List Printed → List Event
-      matching fs = map (λ (f : Printed). checked f.name Matches) fs
+abbrev matching : List Printed → List Event
+matching = map (λ (f : Printed). checked f.name Matches)
 
-      all_match : (fs : List Printed) → All (λ (f : Printed). contents f.name ≡ Ok f.message) fs → map event fs ≡ matching fs
-      all_match [] are = refl
-      all_match (f ∷ fs) are =
-          let digest = ripemd (parameters_of variant) f.message in
-          rw (
-            All-head (λ (f : Printed). contents f.name ≡ Ok f.message) f fs are,
-            (bytes_eq-Decides digest digest).1 refl,
-            all_match fs (All-tail (λ (f : Printed). contents f.name ≡ Ok f.message) f fs are),
-          ) refl
+all_match : (contents : List ℕ → Result (List ℕ) Error) (ignore_missing : Bool) (variant : Variant) (files : List Printed) → All (Gives contents) files
+    → events_now ignore_missing variant contents files ≡ matching files
+all_match contents ignore_missing variant [] gave = refl
+all_match contents ignore_missing variant (f ∷ files) gave =
+    let digest = ripemd (parameters_of variant) f.message in
+    let more = all_match contents ignore_missing variant files (All-tail (Gives contents) f files gave) in
+    rw (All-head (Gives contents) f files gave, (bytes_eq-Decides digest digest).1 refl, more) refl
 
-      -- no count but that of matches
-      none_counted : (test : Event → Bool) → ((name : List ℕ) → test (checked name Matches) ≡ false) → (fs : List Printed)
-          → count_by test (matching fs) ≡ 0
-      none_counted test none [] = refl
-      none_counted test none (f ∷ fs) =
-          sum_by-cons (λ e. cond (test e) 1 0) (checked f.name Matches) (matching fs) ∙ rw (none f.name) (omega (arith, none_counted test none fs))
+-- no count but that of matches
+no_other : (files : List Printed)
+    → (count_by is_misformatted (matching files) ≡ 0) × (count_by (has_verdict is_difference) (matching files) ≡ 0)
+    × (count_by (has_verdict is_unreadable) (matching files) ≡ 0)
+no_other [] = (refl, refl, refl)
+no_other (f ∷ files) = grind (arith, sum_by-cons, no_other files)
 
-      any_of : (test : Event → Bool) → ((name : List ℕ) → test (checked name Matches) ≡ true) → (fs : List Printed) → 0 < length fs
-          → list_any test (matching fs) ≡ true
-      any_of test is [] some = absurd (omega (arith, some))
-      any_of test is (f ∷ fs) some = rw (is f.name) refl
+succeeds_all : (options : Options) (files : List Printed) (tally : Tally) → 0 < length files → IsTally (matching files) tally
+    → is_success options tally ≡ true
+succeeds_all options [] tally some counts = absurd (omega (arith, some))
+succeeds_all options (f ∷ files) tally some counts =
+    rw (counts.misformatted, counts.differing, counts.unreadable, counts.matched, counts.checked) (grind (arith, nat_tests, no_other (f ∷ files)))
 
-      pub all_matches : one.checks.report.events ≡ matching files
-      all_matches = all_events ∙ all_match files gave
+-- its lines were read to the end
+module _ {File : Type 0} (place : Place File) (contents : List ℕ → Result (List ℕ) Error) (options : Options) (rules : Rules) (first : Option Layout)
+    (form : Form) (variant : Variant) (files : List Printed) (start : Start) (known : IsKnown place contents) (standard : unwrap_or first Standard ≡ Standard)
+    (printed : All (λ (f : Printed). IsPrinted rules None form variant f.name) files) (text : start.list ≡ printed_text form variant files) where
+  pub all_events : (one : Report place options rules first start) → one.checks.stage ≡ ended
+      → one.checks.report.events ≡ events_now options.ignore_missing variant contents files
+  all_events one over =
+      let report = one.checks.report in
+      let lines = rw (text, split_text place contents known options.ignore_missing rules form variant files printed) at
+      (lines_to_end start report.read over) in
+      events_of place contents known options.ignore_missing rules form variant first 1 files standard printed report.events one.last
+      (rw (← lines) at report.reports)
 
-      pub succeeds_all : 0 < length files → one.success ≡ true
-      succeeds_all some =
-          let counts : IsTally (matching files) one.checks.tally = rw all_matches at one.checks.report.counts in
-          one.checks.answer
-          ∙ rw (
-            over,
-            counts.misformatted,
-            counts.differing,
-            counts.unreadable,
-            counts.matched,
-            counts.checked,
-            none_counted is_misformatted (λ name. refl) files,
-            none_counted (has_verdict is_difference) (λ name. refl) files,
-            none_counted (has_verdict is_unreadable) (λ name. refl) files,
-            any_of (has_verdict is_match) (λ name. refl) files some,
-            any_of (has_verdict (λ verdict. true)) (λ name. refl) files some,
-          ) (settled options.ignore_missing options.strict)
-        where
-          settled : (ignoring strict : Bool) → ((not ignoring || true) && (not strict || true)) ≡ true
-          settled ignoring strict = grind arith
+  -- the files gave the same messages
+  pub all_matches : All (Gives contents) files → 0 < length files → (one : Report place options rules first start) → one.checks.stage ≡ ended
+      → (one.checks.report.events ≡ matching files) × (one.success ≡ true)
+  all_matches gave some one over =
+      let match = all_events one over ∙ all_match contents options.ignore_missing variant files gave in
+      (match, one.checks.answer ∙ rw over (succeeds_all options files one.checks.tally some (rw match at one.checks.report.counts)))
 
 -- ---- a print of the list
 
-module _ {File : Type 0} (place : Place File) (contents : List ℕ → Result (List ℕ) Error) (known : IsKnown place contents) (style : Style)
-    (newline : style.ending ≡ Newline) where
-  abbrev Gave : Printed → Type 0
-  Gave f = contents f.name ≡ Ok f.message
+module _ {File : Type 0} (place : Place File) (contents : List ℕ → Result (List ℕ) Error) (style : Style) where
+  print_all : style.ending ≡ Newline → (files : List Printed) → All (Gives contents) files
+      → (items contents style (map (λ (f : Printed). f.name) files) ≡ written (printed_text style.form style.variant files))
+      × (are_given contents style (map (λ (f : Printed). f.name) files) ≡ true)
+  print_all newline [] gave = (refl, refl)
+  print_all newline (f ∷ files) gave =
+      let more = print_all newline files (All-tail (Gives contents) f files gave) in
+      rw (All-head (Gives contents) f files gave, newline) (rw (more.0, ← map-append) refl, more.1)
 
-  print_all : (files : List Printed) → All Gave files
-      → (items place contents known style (map (λ (f : Printed). f.name) files) ≡ written (printed_text style.form style.variant files))
-      × (are_given place contents known style (map (λ (f : Printed). f.name) files) ≡ true)
-  print_all [] gave = (refl, refl)
-  print_all (f ∷ files) gave =
-      let more = print_all files (All-tail Gave f files gave) in
-      rw (All-head Gave f files gave, newline) (
-        rw more.0
-            (sym (map-append byte (printed_line style.form style.variant f.message f.name ++ codes "\n") (printed_text style.form style.variant files))),
-        more.1,
-      )
-
-  pub prints_list : (files : List Printed) (before : List Item) (failure : Option Error) → All Gave files
+  pub prints_list : (files : List Printed) (before : List Item) (failure : Option Error) → IsKnown place contents → style.ending ≡ Newline
+      → All (Gives contents) files
       → (one : Print place style (map (λ (f : Printed). f.name) files) (record { items = Some before; failure = failure }))
       → (one.told.items ≡ Some (before ++ written (printed_text style.form style.variant files))) × (one.all ≡ true)
-  prints_list files before failure gave one =
-      let prints = prints_by place contents known style (map (λ (f : Printed). f.name) files) one.prints.items one.all one.prints.prints in
-      let all = print_all files gave in
-      (grown before _ _ one.prints.tells.adds ∙ ap (λ l. Some (before ++ l)) (prints.0 ∙ all.0), prints.1 ∙ all.1)
+  prints_list files before failure known newline gave one =
+      let told = prints_by place contents style known _ one.prints.items one.all one.prints.prints in
+      let all = print_all newline files gave in
+      (cc (grown before _ _ one.prints.tells.adds, told.0, all.0), told.1 ∙ all.1)

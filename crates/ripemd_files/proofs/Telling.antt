@@ -1,10 +1,9 @@
 -- What is told, one thing after another.
-use Rattle.std.proofs.Common.{◌≡◌, ℕ, List, [], ◌++◌, Option, Some, None, refl, sym, ap, ◌∙◌, append_assoc}
+use Rattle.std.proofs.Common.{◌≡◌, ℕ, List, [], ◌++◌, Option, Some, None, refl, sym, ◌∙◌, append_assoc}
 use Rattle.std.specs.declared.io.Error.{Error}
 use Rattle.std.proofs.lemmas.List.{append-nil, map-append}
-use Rattle.ripemd_files.specs.declared.fault.Fault.{Fault}
-use Rattle.ripemd_files.specs.declared.fault.Fault.TheVariants.{Write, NoMemory, TooManyLines}
-use Rattle.ripemd_files.specs.Said.{Adds, AddsFirst, Explains, Item, Pends, Stops, Tells, Told, byte, written}
+use Rattle.ripemd_files.proofs.Types.{Fault, Write, NoMemory, TooManyLines}
+use Rattle.ripemd_files.specs.Said.{Adds, AddsFirst, Explains, Item, Pends, Stops, Tells, Told, written}
 
 adds_none : (old : Option (List Item)) → Adds old old []
 adds_none None = tt
@@ -12,9 +11,8 @@ adds_none (Some xs) = sym (append-nil xs)
 
 adds_more : (a b c : Option (List Item)) (xs ys : List Item) → Adds a b xs → Adds b c ys → Adds a c (xs ++ ys)
 adds_more None b c xs ys first second = tt
-adds_more (Some zs) None c xs ys first second = absurd first
-adds_more (Some zs) (Some us) None xs ys first second = absurd second
-adds_more (Some zs) (Some us) (Some vs) xs ys first second = second ∙ ap (λ l. l ++ ys) first ∙ append_assoc zs xs ys
+adds_more (Some zs) (Some us) (Some vs) xs ys first second = rw (second, first, append_assoc) refl
+adds_more (Some zs) _ _ xs ys first second = absurd (assumption)
 
 -- ---- what is told
 
@@ -22,10 +20,8 @@ pub tells_none : (old : Told) → Tells old old []
 tells_none old = record { adds = adds_none old.items; works = refl }
 
 pub tells_more : (a b c : Told) (xs ys : List Item) → Tells a b xs → Tells b c ys → Tells a c (xs ++ ys)
-tells_more a b c xs ys first second = record {
-  adds = adds_more a.items b.items c.items xs ys first.adds second.adds;
-  works = second.works ∙ first.works;
-}
+tells_more a b c xs ys first second =
+    record { adds = adds_more a.items b.items c.items xs ys first.adds second.adds; works = second.works ∙ first.works }
 
 -- ---- and then the run ends
 
@@ -40,7 +36,7 @@ stops_after P a b c xs ys fault first second = record {
   told = record {
     first = xs ++ second.told.first;
     rest = second.told.rest;
-    split = ap (λ l. xs ++ l) second.told.split ∙ sym (append_assoc xs second.told.first second.told.rest);
+    split = rw (second.told.split, append_assoc) refl;
     adds = adds_more a.items b.items c.items xs second.told.first first.adds second.told.adds;
   };
   why = explains_after P a b c fault first.works second.why;
@@ -48,23 +44,17 @@ stops_after P a b c xs ys fault first second = record {
 
 -- before what was to be told next
 pub stops_before : (P : Type 0) (a b : Told) (xs ys : List Item) (fault : Fault) → Stops P a b xs fault → Stops P a b (xs ++ ys) fault
-stops_before P a b xs ys fault stops = record {
-  told = record {
-    first = stops.told.first;
-    rest = stops.told.rest ++ ys;
-    split = ap (λ l. l ++ ys) stops.told.split ∙ append_assoc stops.told.first stops.told.rest ys;
-    adds = stops.told.adds;
-  };
-  why = stops.why;
-}
+stops_before P a b xs ys fault stops =
+    let told = stops.told in
+    let more : AddsFirst a.items b.items (xs ++ ys) =
+    record { first = told.first; rest = told.rest ++ ys; split = rw (told.split, append_assoc) refl; adds = told.adds } in
+    record { told = more; why = stops.why }
 
 -- without a call that failed
 pub stops_now : (P : Type 0) (a b : Told) (xs : List Item) (fault : Fault) → Tells a b xs → ((works : b.failure ≡ a.failure) → Explains P a b fault)
     → Stops P a b xs fault
-stops_now P a b xs fault tells why = record {
-  told = record { first = xs; rest = []; split = sym (append-nil xs); adds = tells.adds };
-  why = why tells.works;
-}
+stops_now P a b xs fault tells why =
+    record { told = record { first = xs; rest = []; split = sym (append-nil xs); adds = tells.adds }; why = why tells.works }
 
 -- there is no memory
 pub stops_here : (P : Type 0) (a : Told) (xs : List Item) → Stops P a a xs NoMemory
@@ -83,9 +73,8 @@ pub stops_for : (P : Type 0) (a b : Told) (xs : List Item) (fault : Fault) → S
 stops_for P a b xs fault stops = record { told = stops.told; why = explains fault stops.why }
   where
     explains : (fault : Fault) → Explains ⊥ a b fault → Explains P a b fault
-    explains (Write error) why = why
-    explains NoMemory why = why
     explains TooManyLines why = absurd why.0
+    explains _ why = why
 
 -- ---- where lines are not written yet
 
@@ -96,24 +85,19 @@ pends_none old lines = record { now = []; split = append-nil (written lines); te
 pub pends_line : (a b : Told) (s t line : List ℕ) (xs : List Item) → Pends a b s t xs → Pends a b s (t ++ line) (xs ++ written line)
 pends_line a b s t line xs before = record {
   now = before.now;
-  split = sym (append_assoc (written s) xs (written line)) ∙ ap (λ l. l ++ written line) before.split
-      ∙ append_assoc before.now (written t) (written line) ∙ ap (λ l. before.now ++ l) (sym (map-append byte t line));
+  split = rw (map-append, ← append_assoc, before.split, append_assoc) refl;
   tells = before.tells;
 }
 
 -- all were written, and a remark made
 pub pends_remark : (a b c : Told) (s : List ℕ) (xs : List Item) → Tells a b (written s) → Tells b c xs → Pends a c s [] xs
-pends_remark a b c s xs wrote said = record {
-  now = written s ++ xs;
-  split = sym (append-nil (written s ++ xs));
-  tells = tells_more a b c (written s) xs wrote said;
-}
+pends_remark a b c s xs wrote said =
+    record { now = written s ++ xs; split = sym (append-nil (written s ++ xs)); tells = tells_more a b c (written s) xs wrote said }
 
 pub pends_more : (a b c : Told) (s t u : List ℕ) (xs ys : List Item) → Pends a b s t xs → Pends b c t u ys → Pends a c s u (xs ++ ys)
 pends_more a b c s t u xs ys first second = record {
   now = first.now ++ second.now;
-  split = sym (append_assoc (written s) xs ys) ∙ ap (λ l. l ++ ys) first.split ∙ append_assoc first.now (written t) ys
-      ∙ ap (λ l. first.now ++ l) second.split ∙ sym (append_assoc first.now second.now (written u));
+  split = rw (← append_assoc, first.split, append_assoc, second.split, append_assoc) refl;
   tells = tells_more a b c first.now second.now first.tells second.tells;
 }
 
@@ -121,8 +105,7 @@ pends_more a b c s t u xs ys first second = record {
 pub pends_stops : (P : Type 0) (a b c : Told) (t : List ℕ) (xs ys : List Item) (fault : Fault) → Pends a b [] t xs
     → Stops P b c (written t ++ ys) fault → Stops P a c (xs ++ ys) fault
 pends_stops P a b c t xs ys fault first second =
-    let whole : xs ++ ys ≡ first.now ++ (written t ++ ys) = ap (λ l. l ++ ys) first.split ∙ append_assoc first.now (written t) ys in
-    rw whole (stops_after P a b c first.now (written t ++ ys) fault first.tells second)
+    rw (first.split, append_assoc) (stops_after P a b c first.now (written t ++ ys) fault first.tells second)
 
 -- or the lines are written
 pub pends_done : (a b c : Told) (t : List ℕ) (xs : List Item) → Pends a b [] t xs → Tells b c (written t) → Tells a c xs
@@ -137,13 +120,15 @@ pub stops_between : (P : Type 0) (a b c : Told) (xs ys zs : List Item) (fault : 
     → Stops P a c (xs ++ (ys ++ zs)) fault
 stops_between P a b c xs ys zs fault first second = stops_after P a b c xs (ys ++ zs) fault first (stops_before P b c ys zs fault second)
 
-pub stops_in : (P : Type 0) (a b : Told) (xs ys zs : List Item) (fault : Fault) → Stops P a b (xs ++ ys) fault → Stops P a b (xs ++ (ys ++ zs)) fault
-stops_in P a b xs ys zs fault stops = rw append_assoc at (stops_before P a b (xs ++ ys) zs fault stops)
+pub stops_in : (P : Type 0) (a b : Told) (xs ys : List Item) (fault : Fault) → Stops P a b (xs ++ ys) fault → (zs : List Item)
+    → Stops P a b (xs ++ (ys ++ zs)) fault
+stops_in P a b xs ys fault stops zs = rw append_assoc at (stops_before P a b (xs ++ ys) zs fault stops)
 
 -- there is no memory for a line
-pub pends_no_memory : (P : Type 0) (a b : Told) (s t : List ℕ) (xs ys : List Item) → Pends a b s t xs → Stops P a b (written s ++ (xs ++ ys)) NoMemory
-pends_no_memory P a b s t xs ys before =
-    stops_in P a b (written s) xs ys NoMemory
+pub pends_no_memory : (P : Type 0) (a b : Told) (s t : List ℕ) (xs : List Item) → Pends a b s t xs → (ys : List Item)
+    → Stops P a b (written s ++ (xs ++ ys)) NoMemory
+pends_no_memory P a b s t xs before =
+    stops_in P a b (written s) xs NoMemory
     (rw before.split (stops_before P a b before.now (written t) NoMemory (no_memory P a b before.now before.tells)))
 
 pub ruleset telling = (tells_none, tells_more, stops_after, stops_before, stops_between, stops_in, stops_here, no_memory, stops_call, pends_none, pends_line, pends_remark, pends_no_memory)

@@ -1,5 +1,5 @@
 -- Two lists whose items belong together.
-use Rattle.std.proofs.Common.{◌≡◌, ℕ, ◌+◌, ◌<◌, ◌≤◌, List, [], ◌∷◌, ◌++◌, length, take, get_or, map, sym, ap, ◌∙◌, arith, refl, zero, suc}
+use Rattle.std.proofs.Common.{◌≡◌, ℕ, ◌+◌, ◌<◌, ◌≤◌, List, [], ◌∷◌, ◌++◌, length, take, get_or, map, ap, ◌∙◌, arith, refl, zero, suc}
 use Rattle.std.proofs.lemmas.List.{take_more, length-map, get_or-map, length-take-le, take-take, take_all}
 use Rattle.std.proofs.lemmas.Slice.Zip.{AllZip-long, all_zipped_more}
 use Rattle.std.specs.List.{AllZip}
@@ -7,10 +7,8 @@ use Rattle.ripemd_files.specs.Files.{OfFirst}
 
 -- the first of the first of some items are the first of all
 pub take_within : {X : Type 0} (c n : ℕ) (xs : List X) → (m : ℕ) × (take c (take n xs) ≡ take m xs)
-take_within zero n xs = (0, refl)
-take_within (suc c) zero xs = (0, refl)
-take_within (suc c) (suc n) [] = (0, refl)
 take_within (suc c) (suc n) (x ∷ xs) = let (m, same) = take_within c n xs in (suc m, ap (λ l. x ∷ l) same)
+take_within _ _ _ = (0, refl)
 
 -- the item of the first list at the next place
 pub all_zip_next : {A B : Type 0} (R : A → B → Type 0) (xs : List A) (ys : List B) (i : ℕ) (x : A) (y : B) → i < length xs
@@ -34,18 +32,11 @@ all_zip_through R S T _ _ _ joined first second = grind arith
 
 -- the items at a place of two lists of which the same is made
 module _ {A B C D : Type 0} (f : A → D) (g : B → C) (h : C → D) (xs : List A) (ys : List B) (same : map f xs ≡ map h (map g ys)) where
-  pub same_length : length xs ≡ length ys
-  same_length = sym (length-map xs f) ∙ ap length same ∙ length-map (map g ys) h ∙ length-map ys g
-
   pub same_at : (i : ℕ) (x : A) (y : B) → i < length ys → x ≡ get_or xs i x → y ≡ get_or ys i y → f x ≡ h (g y)
   same_at i x y within is_x is_y =
-      let long : i < length xs = omega (arith, same_length) in
-      ap f is_x
-      ∙ sym (get_or-map f xs i x (f x) long)
-      ∙ ap (λ l. get_or l i (f x)) same
-      ∙ get_or-map h (map g ys) i (g y) (f x) (rw length-map within)
-      ∙ ap h (get_or-map g ys i y (g y) within)
-      ∙ ap (λ z. h (g z)) (sym is_y)
+      rw (get_or-map f xs i x (f x) (omega (arith, within, ap length same, length-map xs f, length-map (map g ys) h, length-map ys g)), ← is_x) at
+      rw (get_or-map h (map g ys) i (g y) (f x) (rw length-map within), get_or-map g ys i y (g y) within, ← is_y) at
+      (ap (λ l. get_or l i (f x)) same)
 
 -- the items at a place
 pub all_zip_at : {A B : Type 0} (R : A → B → Type 0) (xs : List A) (ys : List B) (i : ℕ) (x : A) (y : B) → AllZip R xs ys → i < length xs
@@ -77,10 +68,9 @@ all_zip_append R (x ∷ xs) others (y ∷ ys) more first second = (first.0, all_
 all_zip_append R _ others _ more first second = absurd first
 
 all_zip_take : {A B : Type 0} (R : A → B → Type 0) (n : ℕ) (xs : List A) (ys : List B) → AllZip R xs ys → AllZip R (take n xs) (take n ys)
-all_zip_take R zero xs ys zipped = tt
-all_zip_take R (suc n) [] [] zipped = tt
 all_zip_take R (suc n) (x ∷ xs) (y ∷ ys) zipped = (zipped.0, all_zip_take R n xs ys zipped.1)
-all_zip_take R (suc n) _ _ zipped = absurd zipped
+all_zip_take R (suc n) [] [] zipped = tt
+all_zip_take R _ _ _ zipped = assumption
 
 -- what belongs to the first of the items between them
 pub first_through : {A B C : Type 0} (R : A → B → Type 0) (S : B → C → Type 0) (T : A → C → Type 0) (xs : List A) (ys : List B) (zs : List C)

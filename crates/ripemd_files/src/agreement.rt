@@ -30,6 +30,7 @@ use ripemd::block_api::{Ripemd128Core, Ripemd160Core, Ripemd256Core, Ripemd320Co
 use ripemd::witness::{Collision, collision_witness};
 
 /// A digest has the length of its variant, and consists of bytes.
+#[tactic(auto, using(crate::proofs::Agreeing::digests))]
 pub fn digest_laws()
     ensures size { (variant : Variant) (message : List ℕ) → length (ripemd (parameters_of variant) message) ≡ size_of variant }
     ensures bytes { (variant : Variant) (message : List ℕ) → IsBytes (ripemd (parameters_of variant) message) }

@@ -35,6 +35,7 @@ use std::alloc::{AllocError, Global};
 /// - `TooManyLines`: the list has more than 2^64 - 2 lines.
 ///
 /// Till then the first part of the report was told. `layout` is as it was.
+#[tactic(auto, using(crate::proofs::Checked::stops_at_once))]
 pub fn check_list<F: Folder, R: ReadList, L: Log>(
     alloc: Global,
     folder: &F,
@@ -263,6 +264,7 @@ fn check_outcomes<F: Folder, L: Log>(
 }
 
 // What comes of reading the files of the first lines: of one, or of several that name one hash.
+#[tactic(auto, using(crate::proofs::Zips::first_through, crate::proofs::Checked::outcome_of_named))]
 fn read_files_of<F: Folder>(
     alloc: Global,
     folder: &F,

@@ -39,6 +39,7 @@ const BUFFER: usize = 1 << 16;
 ///
 /// - `Write`: a call of the log failed with this error.
 /// - `NoMemory`: there is no memory left.
+#[tactic(auto, using(crate::proofs::Printed::prints_no_memory))]
 pub fn print_digests<F: Folder, L: Log>(
     alloc: Global,
     folder: &F,

@@ -10,63 +10,42 @@ groups-init g c = record {
   bounded = omega (arith, c.requires.start);
 }
 
-pub returns-in_err-group-clause-err : goal.returns-in_err-group-clause-err
-returns-in_err-group-clause-err g c =
-    search (
-      rules,
-      stops_reading_list c.groups.invariant.so_far c.requires.start (g.R.ReadList.state c.read_group.new.reader)
-          c.in_err-group.ensures.err,
-    )
-
-pub returns-in_err-check_lines-clause-err : goal.returns-in_err-check_lines-clause-err
-returns-in_err-check_lines-clause-err g c =
-    search (
-      rules,
-      stops_lines c.groups.invariant.so_far c.requires.start c.in_ok-group.ensures.ok
-          (rw c.as_slice.ensures.value at c.in_err-check_lines.ensures.err),
-    )
-
-pub returns-in_err-check_misformatted-clause-err : goal.returns-in_err-check_misformatted-clause-err
-returns-in_err-check_misformatted-clause-err g c =
-    search (
-      rules,
-      stops_misformatted c.groups.invariant.so_far c.requires.start c.in_ok-group.ensures.ok
-          (rw c.as_slice.ensures.value at c.in_ok-check_lines.ensures.ok) c.in_err-check_misformatted.ensures.err,
-    )
-
 pub groups-preserved : goal.groups-preserved
 groups-preserved g c = record {
-  so_far = checks_on c.groups.invariant.so_far c.requires.start c.in_ok-group.ensures.ok
-      (rw c.as_slice.ensures.value at c.in_ok-check_lines.ensures.ok)
+  so_far = checks_on c.groups.invariant.so_far c.requires.start c.in_ok-group.ensures.ok c.as_slice.ensures.value c.in_ok-check_lines.ensures.ok
       c.in_ok-check_misformatted.ensures.told c.in_ok-check_misformatted.ensures.counts c.in-More.is;
   readable = c.in_ok-group.ensures.readable (search (rules, ap goes_on c.in-More.is));
   bounded = c.in_ok-group.ensures.ok.bounded (search (rules, ap goes_on c.in-More.is));
 }
 
+pub returns-in_err-group-clause-err : goal.returns-in_err-group-clause-err
+returns-in_err-group-clause-err g c = search (rules, stops_reading_list c.groups.invariant.so_far c.requires.start)
+
+pub returns-in_err-check_lines-clause-err : goal.returns-in_err-check_lines-clause-err
+returns-in_err-check_lines-clause-err g c = search (rules, stops_lines c.groups.invariant.so_far c.requires.start c.in_ok-group.ensures.ok)
+
+pub returns-in_err-check_misformatted-clause-err : goal.returns-in_err-check_misformatted-clause-err
+returns-in_err-check_misformatted-clause-err g c =
+    search (rules, stops_misformatted c.groups.invariant.so_far c.requires.start c.in_ok-group.ensures.ok c.as_slice.ensures.value c.in_ok-check_lines.ensures.ok)
+
 pub returns-in-Ended-clause-ok : goal.returns-in-Ended-clause-ok
 returns-in-Ended-clause-ok g c =
-    checks_over c.groups.invariant.so_far c.requires.start c.in_ok-group.ensures.ok (rw c.as_slice.ensures.value at c.in_ok-check_lines.ensures.ok)
-    c.in_ok-check_misformatted.ensures.told c.in_ok-check_misformatted.ensures.counts c.in-Ended.is (λ same. cc) c.in_ok-success-in-Ended.ensures.told
-    c.in_ok-success-in-Ended.ensures.success
+    checks_over c.groups.invariant.so_far c.requires.start c.in_ok-group.ensures.ok c.as_slice.ensures.value c.in_ok-check_lines.ensures.ok
+    c.in_ok-check_misformatted.ensures.told c.in_ok-check_misformatted.ensures.counts c.in-Ended.is refl c.in_ok-success-in-Ended.ensures.told c.in_ok-success-in-Ended.ensures.success
 
 pub returns-in_err-success-in-Ended-clause-err : goal.returns-in_err-success-in-Ended-clause-err
 returns-in_err-success-in-Ended-clause-err g c =
-    search (
-      rules,
-      stops_over c.groups.invariant.so_far c.requires.start c.in_ok-group.ensures.ok (rw c.as_slice.ensures.value at c.in_ok-check_lines.ensures.ok)
-          c.in_ok-check_misformatted.ensures.told c.in_ok-check_misformatted.ensures.counts c.in-Ended.is c.in_err-success-in-Ended.ensures.err,
-    )
+    let stops = stops_over c.groups.invariant.so_far c.requires.start c.in_ok-group.ensures.ok c.as_slice.ensures.value c.in_ok-check_lines.ensures.ok
+    c.in_ok-check_misformatted.ensures.told c.in_ok-check_misformatted.ensures.counts c.in-Ended.is c.in_err-success-in-Ended.ensures.err in
+    search (rules, stops)
 
 pub returns-in-Failed-clause-ok : goal.returns-in-Failed-clause-ok
 returns-in-Failed-clause-ok g c =
-    checks_over c.groups.invariant.so_far c.requires.start c.in_ok-group.ensures.ok (rw c.as_slice.ensures.value at c.in_ok-check_lines.ensures.ok)
-    c.in_ok-check_misformatted.ensures.told c.in_ok-check_misformatted.ensures.counts c.in-Failed.is (λ same. cc)
-    c.in_ok-remark-in-Failed.ensures.told refl
+    checks_over c.groups.invariant.so_far c.requires.start c.in_ok-group.ensures.ok c.as_slice.ensures.value c.in_ok-check_lines.ensures.ok
+    c.in_ok-check_misformatted.ensures.told c.in_ok-check_misformatted.ensures.counts c.in-Failed.is refl c.in_ok-remark-in-Failed.ensures.told refl
 
 pub returns-in_err-remark-in-Failed-clause-err : goal.returns-in_err-remark-in-Failed-clause-err
 returns-in_err-remark-in-Failed-clause-err g c =
-    search (
-      rules,
-      stops_over c.groups.invariant.so_far c.requires.start c.in_ok-group.ensures.ok (rw c.as_slice.ensures.value at c.in_ok-check_lines.ensures.ok)
-          c.in_ok-check_misformatted.ensures.told c.in_ok-check_misformatted.ensures.counts c.in-Failed.is c.in_err-remark-in-Failed.ensures.err,
-    )
+    let stops = stops_over c.groups.invariant.so_far c.requires.start c.in_ok-group.ensures.ok c.as_slice.ensures.value c.in_ok-check_lines.ensures.ok
+    c.in_ok-check_misformatted.ensures.told c.in_ok-check_misformatted.ensures.counts c.in-Failed.is c.in_err-remark-in-Failed.ensures.err in
+    search (rules, stops)

@@ -1,4 +1,5 @@
 use Rattle.std.proofs.Common.{rules, arith, ◌∙◌}
+use Rattle.std.proofs.lemmas.List.{drop-map, take-map}
 use Rattle.ripemd_files.proofs.Printed.{first_from, prints_no_more, prints_nothing, prints_on, prints_part}
 use Rattle.ripemd_files.proofs.printing.print_groups.Goals as goal
 
@@ -12,15 +13,14 @@ print_outcomes-requires g c = record {
 }
 
 pub returns-in_err-outcomes-clause-err : goal.returns-in_err-outcomes-clause-err
-returns-in_err-outcomes-clause-err g c =
-    search (rules, prints_no_more _ _ (λ r. r.now) c.args.names.now _ _ _ _ c.loop-start.invariant.printed)
+returns-in_err-outcomes-clause-err g c = search (rules, prints_no_more _ _ _ _ _ _ _ c.loop-start.invariant.printed)
 
 pub returns-in_err-read-clause-err : goal.returns-in_err-read-clause-err
 returns-in_err-read-clause-err g c =
-    search (rules, prints_part _ _ (λ r. r.now) c.args.names.now _ _ _ _ _ c.loop-start.invariant.printed _ _ c.in_err-read.ensures.err)
+    search (rules, prints_part _ _ _ _ _ _ _ c.loop-start.invariant.printed _ _ _ (rw (← take-map, ← drop-map) at c.in_err-read.ensures.err))
 
 pub loop-start-preserved : goal.loop-start-preserved
 loop-start-preserved g c = record {
-  printed = prints_on _ _ (λ r. r.now) c.args.names.now _ _ _ _ _ c.loop-start.invariant.printed _ _ (omega arith) c.in_ok-read.ensures.ok;
+  printed = prints_on _ _ _ _ _ _ _ c.loop-start.invariant.printed _ _ _ (omega arith) (rw (← take-map, ← drop-map) at c.in_ok-read.ensures.ok);
   within = (first_from _ c.args.names.now _ c.loop-start.start c.len.result c.loop-start.invariant.within (search rules) c.in_ok-outcomes.ensures).0;
 }
