@@ -195,7 +195,7 @@ fn outcome_of<D: Digest>(
     })
 }
 
-// The same of some files.
+// What came of some files.
 fn outcomes_of<D: Digest>(
     alloc: Global,
     contents: &[Content<D::Output>],
