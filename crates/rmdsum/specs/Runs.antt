@@ -1,16 +1,25 @@
--- What a run does with names.
-use Rattle.std.specs.Prelude.{◌≡◌, ◌≢◌, ◌⊎◌, ◌&&◌, ℕ, Bool, true, List, [], ◌∷◌, ◌++◌, map, Option, option_to_list, ⊤}
+-- What a run of the program does.
+use Rattle.std.specs.Prelude.{◌≡◌, ◌≢◌, ◌⊎◌, ◌&&◌, ℕ, Bool, true, false, List, [], ◌∷◌, ◌++◌, map, Option, option_to_list, Result, Ok, Err, ⊤}
 use Rattle.ripemd_files.specs.declared.line.Variant.{Variant}
 use Rattle.ripemd_files.specs.declared.printing.Style.{Style}
 use Rattle.ripemd_files.specs.declared.verdict.Options.{Options}
 use Rattle.ripemd_files.specs.Said.{Adds}
 use Rattle.rmdsum.specs.declared.names.Wrong.{Wrong}
+use Rattle.rmdsum.specs.declared.refusals.Misuse.{Misuse}
+use Rattle.rmdsum.specs.declared.request.NameSource.{NameSource}
+use Rattle.rmdsum.specs.declared.request.Request.{Request}
+use Rattle.rmdsum.specs.declared.request.Request.TheVariants.{Help, Version, Run}
 use Rattle.rmdsum.specs.declared.request.Work.{Work}
 use Rattle.rmdsum.specs.declared.request.Work.TheVariants.{Print, Check}
+use Rattle.rmdsum.specs.Arguments.{Reading, Answers}
 
--- what a run does: it gets names, and what is wrong after them; it prints files, checks a list, or says what is wrong, each with an
--- answer
+-- what a run does: it refuses its arguments, prints the help or the version, or opens what has the names; it gets names, and what is
+-- wrong after them; it prints files, checks a list, or says what is wrong; with the answers of these
 pub data Deed : Type 0 where
+  Refuses : Misuse → Deed
+  ShowsHelp : Deed
+  ShowsVersion : Deed
+  Opens : NameSource → Bool → Bool → Deed
   Gets : List (List ℕ) → Option Wrong → Deed
   Prints : Style → List (List ℕ) → Bool → Deed
   Checks : Option Variant → Options → List ℕ → Bool → Deed
@@ -32,26 +41,24 @@ items names wrong = map Name names ++ map Fault (option_to_list wrong)
 
 -- what a deed handles
 abbrev pub handled : Deed → List Item
-handled (Gets names wrong) = []
 handled (Prints style names answer) = map Name names
 handled (Checks only options name answer) = Name name ∷ []
 handled (Says wrong answer) = map Fault (option_to_list wrong)
+handled _ = []
 
--- whether it succeeds: getting names always does
+-- whether it succeeds
 abbrev pub succeeded : Deed → Bool
-succeeded (Gets names wrong) = true
 succeeded (Prints style names answer) = answer
 succeeded (Checks only options name answer) = answer
 succeeded (Says wrong answer) = answer
+succeeded _ = true
 
 -- files are printed and lists are checked as the work has it
 abbrev pub IsOf : Work → Deed → Type 0
-IsOf work (Gets names wrong) = ⊥
 IsOf (Print style) (Prints same names answer) = same ≡ style
-IsOf (Print style) (Checks only options name answer) = ⊥
-IsOf (Check only options) (Prints style names answer) = ⊥
 IsOf (Check only options) (Checks same alike name answer) = (same ≡ only) × (alike ≡ options)
 IsOf work (Says wrong answer) = ⊤
+IsOf work _ = ⊥
 
 -- A run that still has these items to handle: it handles them in order, before it gets more, and ends when it gets none. It
 -- succeeds if each deed does.
@@ -70,3 +77,21 @@ IsRun work deeds success = Goes work [] deeds success
 abbrev pub Handles : Work → List Item → List Deed → Bool → Type 0
 Handles work items deeds success = (later : List Item) (more : List Deed) (others : Bool) → Goes work later more others
     → Goes work (items ++ later) (deeds ++ more) (success && others)
+
+-- ---- what is asked for
+
+-- a request is performed: the run opens what has the names, and goes over them if that could be opened
+abbrev pub Performs : Request → List Deed → Bool → Type 0
+Performs Help deeds success = (deeds ≡ ShowsHelp ∷ []) × (success ≡ true)
+Performs Version deeds success = (deeds ≡ ShowsVersion ∷ []) × (success ≡ true)
+Performs (Run work names progress) deeds success = ((deeds ≡ Opens names progress false ∷ []) × (success ≡ false))
+    ⊎ ((more : List Deed) × (deeds ≡ Opens names progress true ∷ more) × IsRun work more success)
+
+-- the arguments are refused, or what they ask for is performed
+abbrev pub Fulfils : Result Request Misuse → List Deed → Bool → Type 0
+Fulfils (Ok request) deeds success = Performs request deeds success
+Fulfils (Err misuse) deeds success = (deeds ≡ Refuses misuse ∷ []) × (success ≡ false)
+
+-- arguments that read so are answered, and that answer is acted on
+abbrev pub DoesAsked : Reading → List Deed → Bool → Type 0
+DoesAsked given deeds success = (answer : Result Request Misuse) × Answers given answer × Fulfils answer deeds success

@@ -14,7 +14,9 @@ use Rattle.rmdsum.specs.Words.{gives, last, names_of, file_in, mode_in}
 use Rattle.rmdsum.specs.Words.Said.{Sets, Hashes, NamedIn, Names}
 use Rattle.rmdsum.specs.Arguments.{reading, Answers}
 use Rattle.rmdsum.specs.declared.request.Request.TheVariants.{Run, Help, Version}
+use Rattle.rmdsum.specs.declared.request.NameSource.{NameSource}
 use Rattle.rmdsum.specs.declared.request.NameSource.TheVariants.{Operands}
+use Rattle.rmdsum.specs.declared.request.Work.{Work}
 use Rattle.rmdsum.specs.Arguments.Reading.{Goes, Stops}
 use Rattle.rmdsum.specs.Arguments.Why.{AsksHelp, AsksVersion, UnknownLong, Ambiguous, UnwantedValue, MissingValue, UnknownShort, MissingShortValue, UnknownVariant}
 use Rattle.ripemd_files.specs.declared.line.Variant.{Variant}
@@ -23,8 +25,8 @@ use Rattle.ripemd_files.specs.declared.verdict.Options.{Options}
 use Rattle.rmdsum.specs.declared.names.Wrong.TheVariants.{Unread, Input, Empty}
 use Rattle.rmdsum.specs.declared.request.Work.TheVariants as works
 use Rattle.rmdsum.specs.Names.{Continues}
-use Rattle.rmdsum.specs.Runs.{Deed, IsRun}
-use Rattle.rmdsum.specs.Runs.Deed.{Gets, Prints, Checks, Says}
+use Rattle.rmdsum.specs.Runs.{Deed, IsRun, DoesAsked, Performs}
+use Rattle.rmdsum.specs.Runs.Deed.{Refuses, ShowsHelp, ShowsVersion, Opens, Gets, Prints, Checks, Says}
 use Rattle.rmdsum.specs.Asked.{conflict, options_of, variant_of, form_of, ending_of, or_input, IsExtra}
 
 -- what single arguments say
@@ -150,6 +152,18 @@ pub record WorkedRuns : Type 0 where
   pub unsaid : (success : Bool) → ¬ IsRun (works.Check None usual) (Gets [] (Some Input) ∷ Says None true ∷ Gets [] None ∷ []) success
   pub other_style : (success : Bool) → ¬ IsRun (works.Print (plain R160)) (Gets (codes "a" ∷ []) None ∷ Prints (plain R128) (codes "a" ∷ []) true
       ∷ Gets [] None ∷ []) success
+
+-- what is done for arguments and requests, and what is not
+pub record WorkedDeeds : Type 0 where
+  pub help : DoesAsked (reading false Any (codes "--help" ∷ [])) (ShowsHelp ∷ []) true
+  pub version : DoesAsked (reading false Any (codes "--version" ∷ [])) (ShowsVersion ∷ []) true
+  pub refused : DoesAsked (reading false Any (codes "--tag" ∷ codes "--text" ∷ [])) (Refuses TextWithTag ∷ []) false
+  pub not_help : (deeds : List Deed) → ¬ DoesAsked (reading false Any (codes "--tag" ∷ codes "--text" ∷ [])) (ShowsHelp ∷ deeds) true
+  pub opened : (work : Work) (names : NameSource) → Performs (Run work names true) (Opens names true true ∷ Gets [] None ∷ []) true
+  pub unopened : (work : Work) (names : NameSource) → Performs (Run work names false) (Opens names false false ∷ []) false
+  pub no_success : (work : Work) (names : NameSource) → ¬ Performs (Run work names false) (Opens names false false ∷ []) true
+  pub none_gotten : (work : Work) (names : NameSource) (success : Bool) → ¬ Performs (Run work names false) (Opens names false true ∷ []) success
+  pub progress : (work : Work) (names : NameSource) (success : Bool) → ¬ Performs (Run work names true) (Opens names false true ∷ Gets [] None ∷ []) success
 
 -- ---- names of a file
 

@@ -1,7 +1,7 @@
 //! What is proved of the definitions. The functions do nothing; their contracts are the facts.
 
 ghost use Rattle.rmdsum.specs.Arguments.{NamesAreLengths};
-ghost use Rattle.rmdsum.specs.Worked.{WorkedArguments, WorkedStops, WorkedWords, WorkedConflicts, WorkedAnswers, WorkedRuns, WorkedNames};
+ghost use Rattle.rmdsum.specs.Worked.{WorkedArguments, WorkedStops, WorkedWords, WorkedConflicts, WorkedAnswers, WorkedDeeds, WorkedRuns, WorkedNames};
 
 /// The name of a variant is the length of its digest in bits.
 pub fn named_lengths()
@@ -25,6 +25,11 @@ pub fn worked_requests()
 #[tactic(auto, unfolding(crate::specs::Options::by_name))]
 pub fn worked_answers()
     ensures { WorkedAnswers }
+{}
+
+/// What is done for arguments.
+pub fn worked_deeds()
+    ensures { WorkedDeeds }
 {}
 
 /// What a run does with names.

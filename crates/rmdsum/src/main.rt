@@ -20,7 +20,8 @@ mod worker;
 use help::{HELP, VERSION};
 use messages::{Console, Message, say};
 use names::{Batch, Names, Wrong};
-use request::Request;
+use refusals::Misuse;
+use request::NameSource;
 use ripemd_files::checking::check_list;
 use ripemd_files::fault::Fault;
 use ripemd_files::list::{Rules, is_input};
@@ -34,7 +35,7 @@ use std::env::VarError;
 use std::io::{ErrorKind, Write};
 use std::process::ExitCode;
 use system::{Source, System, buffered};
-use worker::{Worker, do_all};
+use worker::{Worker, run};
 
 // The status of a run that writes to a closed pipe, as a shell shows it for one that SIGPIPE ends.
 const CLOSED: u8 = 128 + 13;
@@ -79,6 +80,33 @@ struct Host<'a> {
 
 impl Worker for Host<'_> {
     ghost done = { λ host. None };
+
+    fn refuse(&mut self, misuse: Misuse) -> Result<(), Fault> {
+        say(self.rt, Message::Misuse(&misuse)).map_err(Fault::Write)
+    }
+
+    fn show_help(&mut self) -> Result<(), Fault> {
+        let program = arguments::program(self.rt, self.rt.alloc())?;
+        write_text(
+            self.rt,
+            &[b"Usage: ", program.as_slice(), HELP.as_bytes()],
+        )
+    }
+
+    fn show_version(&mut self) -> Result<(), Fault> {
+        write_text(self.rt, &[VERSION.as_bytes()])
+    }
+
+    fn open(&mut self, names: NameSource, progress: bool) -> Result<bool, Fault> {
+        self.progress = progress;
+        match Names::open(self.rt, names)? {
+            None => Ok(false),
+            Some(names) => {
+                self.names = names;
+                Ok(true)
+            }
+        }
+    }
 
     fn next(&mut self) -> Result<Batch, Fault> {
         self.names.next(self.rt.alloc())
@@ -129,48 +157,17 @@ impl Worker for Host<'_> {
     }
 }
 
-// Does what is asked for. Whether all could be done.
-fn perform(rt: &HostRuntime, request: Request) -> Result<bool, Fault> {
-    match request {
-        Request::Help => {
-            let program = arguments::program(rt, rt.alloc())?;
-            write_text(rt, &[b"Usage: ", program.as_slice(), HELP.as_bytes()])?;
-            Ok(true)
-        }
-        Request::Version => {
-            write_text(rt, &[VERSION.as_bytes()])?;
-            Ok(true)
-        }
-        Request::Run {
-            work,
-            names,
-            progress,
-        } => match Names::open(rt, names)? {
-            None => Ok(false),
-            Some(names) => do_all(
-                &mut Host {
-                    rt,
-                    names,
-                    progress,
-                    layout: None,
-                },
-                work,
-            ),
-        },
-    }
-}
-
 // Does what the arguments ask for. Whether all could be done.
-fn run(rt: &HostRuntime) -> Result<bool, Fault> {
-    let arguments = arguments::collect(rt, rt.alloc())?;
+fn run_here(rt: &HostRuntime) -> Result<bool, Fault> {
+    let mut host = Host {
+        rt,
+        names: Names::of(rt.alloc(), Vec::new(rt.alloc())),
+        progress: false,
+        layout: None,
+    };
     let operands_last = !matches!(env::var(rt, "POSIXLY_CORRECT"), Err(VarError::NotPresent));
-    match arguments::parse(rt.alloc(), operands_last, arguments.as_slice())? {
-        Ok(request) => perform(rt, request),
-        Err(misuse) => {
-            say(rt, Message::Misuse(&misuse)).map_err(Fault::Write)?;
-            Ok(false)
-        }
-    }
+    let arguments = arguments::collect(rt, rt.alloc())?;
+    run(rt.alloc(), &mut host, operands_last, arguments.as_slice())
 }
 
 // Whether a reader of the output or of the messages closed its pipe.
@@ -193,7 +190,7 @@ fn status(outcome: &Result<bool, Fault>, is_said: bool) -> u8
 }
 
 fn main(rt: HostRuntime) -> ExitCode {
-    let outcome = run(&rt);
+    let outcome = run_here(&rt);
     let is_said = match &outcome {
         Err(fault) => !is_closed(fault) && say(&rt, Message::Fault(fault)).is_ok(),
         Ok(_) => true,

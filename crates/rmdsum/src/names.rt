@@ -48,6 +48,18 @@ pub enum Wrong {
 }
 
 impl Names<Source> {
+    /// These names, and no file.
+    pub fn of(alloc: Global, given: Vec<Vec<u8>>) -> Names<Source>
+        ensures { (result.given ≡ given) × (result.reader ≡ None) × (result.number ≡ 0) }
+    {
+        Names {
+            given,
+            file: Vec::new(alloc),
+            reader: None,
+            number: 0,
+        }
+    }
+
     /// Opens the file, if the arguments name one. If it can't be opened, it says so, and there are none.
     pub fn open(
         rt: &HostRuntime,
@@ -60,12 +72,7 @@ impl Names<Source> {
     {
         let alloc = rt.alloc();
         match names {
-            request::NameSource::Operands(given) => Ok(Some(Names {
-                given,
-                file: Vec::new(alloc),
-                reader: None,
-                number: 0,
-            })),
+            request::NameSource::Operands(given) => Ok(Some(Names::of(alloc, given))),
             request::NameSource::From(file) => match Source::open(rt, file.as_slice()) {
                 Ok(source) => Ok(Some(Names {
                     given: Vec::new(alloc),

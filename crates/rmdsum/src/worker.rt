@@ -1,23 +1,44 @@
-//! What a run does with names.
+//! A run of the program: what it does for its arguments.
 
 ghost use Rattle.std.specs.Prelude.{◌≡◌, [], ◌∷◌, List, Option, IfOk, is_none, map, vec_items};
+ghost use Rattle.rmdsum.specs.declared.arguments.Next.TheVariants.{Any};
 ghost use Rattle.rmdsum.specs.declared.request.Work.TheVariants.{Check};
 ghost use Rattle.ripemd_files.specs.Said.{Adds};
-ghost use Rattle.rmdsum.specs.Runs.{Deed, Extends, IsRun, Handles};
+ghost use Rattle.rmdsum.specs.Arguments.{reading};
+ghost use Rattle.rmdsum.specs.Runs.{Deed, Extends, DoesAsked, Performs, IsRun, Handles};
 ghost use Rattle.rmdsum.specs.Runs.Item.{Name};
-ghost use Rattle.rmdsum.specs.Runs.Deed.{Gets, Prints, Checks, Says};
+ghost use Rattle.rmdsum.specs.Runs.Deed.{Refuses, ShowsHelp, ShowsVersion, Opens, Gets, Prints, Checks, Says};
 
+use crate::arguments::parse;
 use crate::names::{Batch, Wrong};
-use crate::request::Work;
+use crate::refusals::Misuse;
+use crate::request::{NameSource, Request, Work};
 use ripemd_files::Variant;
 use ripemd_files::fault::Fault;
 use ripemd_files::printing::Style;
 use ripemd_files::verdict::Options;
+use std::alloc::Global;
 
 /// What does the work of a run.
 pub trait Worker {
     // What was done, where that is known.
     ghost done: { Self → Option (List Deed) };
+
+    /// Says why the arguments are refused.
+    fn refuse(&mut self, misuse: Misuse) -> Result<(), Fault>
+        ensures { IfOk result (λ _. Adds (done self.old) (done self.new) (Refuses misuse ∷ [])) };
+
+    /// Prints the help.
+    fn show_help(&mut self) -> Result<(), Fault>
+        ensures { IfOk result (λ _. Adds (done self.old) (done self.new) (ShowsHelp ∷ [])) };
+
+    /// Prints the version.
+    fn show_version(&mut self) -> Result<(), Fault>
+        ensures { IfOk result (λ _. Adds (done self.old) (done self.new) (ShowsVersion ∷ [])) };
+
+    /// Opens what has the names. With `progress` the run shows how far files are read. Whether it could be opened.
+    fn open(&mut self, names: NameSource, progress: bool) -> Result<bool, Fault>
+        ensures { IfOk result (λ answer. Adds (done self.old) (done self.new) (Opens names progress answer ∷ [])) };
 
     /// The next names.
     fn next(&mut self) -> Result<Batch, Fault>
@@ -37,8 +58,49 @@ pub trait Worker {
         ensures done { IfOk result (λ answer. Adds (done self.old) (done self.new) (Says wrong answer ∷ [])) };
 }
 
-/// Does the work with all names. Whether all could be done.
-pub fn do_all<W: Worker>(worker: &mut W, work: Work) -> Result<bool, Fault>
+/// Does what the arguments after the program's name ask for. With `operands_last` the first operand ends the options.
+/// Whether all could be done.
+pub fn run<W: Worker>(
+    alloc: Global,
+    worker: &mut W,
+    operands_last: bool,
+    arguments: &[Vec<u8>],
+) -> Result<bool, Fault>
+    ensures { IfOk result (λ success. Extends (W.done worker.old) (W.done worker.new)
+        (λ deeds. DoesAsked (reading operands_last Any (map vec_items arguments.now)) deeds success)) }
+{
+    match parse(alloc, operands_last, arguments)? {
+        Ok(request) => perform(worker, request),
+        Err(misuse) => {
+            worker.refuse(misuse)?;
+            Ok(false)
+        }
+    }
+}
+
+// Does what is asked for. Whether all could be done.
+fn perform<W: Worker>(worker: &mut W, request: Request) -> Result<bool, Fault>
+    ensures { IfOk result (λ success. Extends (W.done worker.old) (W.done worker.new) (λ deeds. Performs request deeds success)) }
+{
+    match request {
+        Request::Help => {
+            worker.show_help()?;
+            Ok(true)
+        }
+        Request::Version => {
+            worker.show_version()?;
+            Ok(true)
+        }
+        Request::Run {
+            work,
+            names,
+            progress,
+        } => Ok(worker.open(names, progress)? && do_all(worker, work)?),
+    }
+}
+
+// Does the work with all names. Whether all could be done.
+fn do_all<W: Worker>(worker: &mut W, work: Work) -> Result<bool, Fault>
     ensures { IfOk result (λ success. Extends (W.done worker.old) (W.done worker.new) (λ deeds. IsRun work deeds success)) }
 {
     let mut success = true;
