@@ -21,9 +21,9 @@ pub enum Next {
     Any,
     // An operand, also if it begins with `-`.
     Operand,
-    // The value of this option, which was given by its long name.
+    // The value of this option, given by its long name.
     Value(Parameter),
-    // The value of this option, which was given by this letter.
+    // The value of this option, given by this letter.
     ShortValue(Parameter, u8),
 }
 
@@ -64,7 +64,7 @@ pub fn collect(env: &impl Env, alloc: Global) -> Result<Vec<Vec<u8>>, AllocError
     Ok(arguments)
 }
 
-// The argument at a place, if there is one.
+// The argument at `place`, if there is one.
 fn argument(env: &impl Env, alloc: Global, place: usize) -> Result<Option<Vec<u8>>, AllocError> {
     for bits in 8..48u32 {
         let mut buffer = vec![in alloc; 0; 1usize << bits]?;
@@ -80,8 +80,8 @@ fn argument(env: &impl Env, alloc: Global, place: usize) -> Result<Option<Vec<u8
     Err(AllocError)
 }
 
-/// What the arguments after the program's name ask for, by the rules of `getopt_long` and of `sha256sum`. Options may
-/// stand before and after operands; with `operands_last` the first operand ends them. Long names may be cut short.
+/// What the arguments after the program's name ask for, by the rules of `getopt_long` and `sha256sum`. Long names may be
+/// cut short. Options may follow operands, but with `operands_last` the first operand ends them.
 pub fn parse(
     alloc: Global,
     operands_last: bool,
@@ -146,7 +146,7 @@ fn read(
     }
 }
 
-// Adds what an argument says that is an option or an operand.
+// Adds what an option or an operand says.
 fn read_any(
     alloc: Global,
     operands_last: bool,
@@ -169,7 +169,7 @@ fn read_any(
     }
 }
 
-// Reads an argument that begins with a hyphen, of which this is the rest.
+// `text` follows the hyphen.
 fn read_option(alloc: Global, text: &[u8], words: &mut Vec<Word>) -> Result<Next, Stop>
     ensures ok { IfOk result (Reads (option_says text.now) (map said words.old.items) (map said words.new.items)) }
     ensures err { IfErr result (IsStop (option_says text.now)) }
@@ -181,7 +181,7 @@ fn read_option(alloc: Global, text: &[u8], words: &mut Vec<Word>) -> Result<Next
     }
 }
 
-// Reads a long option, of which this stands after `--`.
+// `text` follows `--`.
 fn read_long(alloc: Global, text: &[u8], words: &mut Vec<Word>) -> Result<Next, Stop>
     ensures ok { IfOk result (Reads (long_says text.now) (map said words.old.items) (map said words.new.items)) }
     ensures err { IfErr result (IsStop (long_says text.now)) }
@@ -201,7 +201,7 @@ fn read_long(alloc: Global, text: &[u8], words: &mut Vec<Word>) -> Result<Next, 
     }
 }
 
-// Reads short options. After the letter of one with a value stands its value, or the next argument is it.
+// `letters` follow the hyphen. A value follows its letter, or is the next argument.
 fn read_short(alloc: Global, letters: &[u8], words: &mut Vec<Word>) -> Result<Next, Stop>
     ensures ok { IfOk result (Reads (letters_say letters.now) (map said words.old.items) (map said words.new.items)) }
     ensures err { IfErr result (IsStop (letters_say letters.now)) }
@@ -224,7 +224,7 @@ fn read_short(alloc: Global, letters: &[u8], words: &mut Vec<Word>) -> Result<Ne
     Ok(Next::Any)
 }
 
-// Adds an option without a value. `--help` and `--version` end the reading.
+// `--help` and `--version` end the reading.
 fn add_flag(flag: Flag, words: &mut Vec<Word>) -> Result<Next, Stop>
     ensures ok { IfOk result (Reads (flag_says flag) (map said words.old.items) (map said words.new.items)) }
     ensures err { IfErr result (IsStop (flag_says flag)) }
@@ -236,7 +236,6 @@ fn add_flag(flag: Flag, words: &mut Vec<Word>) -> Result<Next, Stop>
     }
 }
 
-// Adds an option with its value.
 fn add_parameter(
     alloc: Global,
     parameter: Parameter,
@@ -262,7 +261,7 @@ fn add_parameter(
     }
 }
 
-// Adds a word, and returns what the next argument is.
+// Adds a word, and returns `next`.
 fn add(word: Word, next: Next, words: &mut Vec<Word>) -> Result<Next, Stop>
     ensures ok { IfOk result (Reads (Goes (said word ∷ []) next) (map said words.old.items) (map said words.new.items)) }
     ensures err { IfErr result (λ stop. stop ≡ OutOfMemory) }
@@ -273,7 +272,7 @@ fn add(word: Word, next: Next, words: &mut Vec<Word>) -> Result<Next, Stop>
     }
 }
 
-// The variant of this name, the length of its digest in bits.
+// The variant of this name.
 fn find_variant(name: &[u8]) -> Option<Variant>
     ensures { result ≡ variant_named name.now }
 {

@@ -1,4 +1,4 @@
-//! What is proved of the definitions. The functions do nothing; their contracts are the facts.
+//! Facts about the definitions: the contracts of functions that do nothing.
 
 ghost use Rattle.rmdsum.specs.Arguments.{NamesAreLengths};
 ghost use Rattle.rmdsum.specs.Worked.{WorkedArguments, WorkedStops, WorkedWords, WorkedConflicts, WorkedAnswers, WorkedDeeds, WorkedRuns, WorkedNames};

@@ -1,5 +1,5 @@
-//! `rmdsum` prints the RIPEMD digests of files, and checks lists of them, as `sha256sum` of
-//! coreutils does with its own.
+//! `rmdsum` prints RIPEMD digests of files and checks lists of them, as coreutils' `sha256sum` does
+//! for SHA-256.
 #![tactic(auto)]
 
 ghost use Rattle.std.specs.Prelude.{◌≡◌, ◌↔◌, true, false, if◌then◌else◌, None, codes};
@@ -37,7 +37,7 @@ use std::process::ExitCode;
 use system::{Source, System, buffered};
 use worker::{Worker, run};
 
-// The status of a run that writes to a closed pipe, as a shell shows it for one that SIGPIPE ends.
+// The status after a write to a closed pipe: what a shell shows for SIGPIPE.
 const CLOSED: u8 = 128 + 13;
 
 // The bytes of names.
@@ -49,7 +49,7 @@ fn slices_of(alloc: Global, names: &[Vec<u8>]) -> Result<Vec<&[u8]>, AllocError>
     Ok(slices)
 }
 
-// Writes a text, in parts.
+// Writes the parts of a text to standard output.
 fn write_text(rt: &HostRuntime, parts: &[&[u8]]) -> Result<(), Fault> {
     for part in parts {
         rt.stdout().write_all(part).map_err(Fault::Write)?;
@@ -57,7 +57,7 @@ fn write_text(rt: &HostRuntime, parts: &[&[u8]]) -> Result<(), Fault> {
     Ok(())
 }
 
-// The rules for the lines of the list of this name.
+// The rules for lines of the list `name`.
 fn rules_of(only: Option<Variant>, name: &[u8]) -> Rules
     ensures only { result.only ≡ only }
     ensures input { (result.from_input ≡ true) ↔ (name.now ≡ codes "-") }
@@ -68,7 +68,7 @@ fn rules_of(only: Option<Variant>, name: &[u8]) -> Rules
     }
 }
 
-// What works with the system's files and its terminal.
+// The worker over the system's files and streams.
 #[derive(Drop)]
 struct Host<'a> {
     rt: &'a HostRuntime,
@@ -157,7 +157,7 @@ impl Worker for Host<'_> {
     }
 }
 
-// Does what the arguments ask for. Whether all could be done.
+// Runs the program, and returns whether all could be done.
 fn run_here(rt: &HostRuntime) -> Result<bool, Fault> {
     let mut host = Host {
         rt,
@@ -170,12 +170,12 @@ fn run_here(rt: &HostRuntime) -> Result<bool, Fault> {
     run(rt.alloc(), &mut host, operands_last, arguments.as_slice())
 }
 
-// Whether a reader of the output or of the messages closed its pipe.
+// Whether a write found its pipe closed.
 fn is_closed(fault: &Fault) -> bool {
     matches!(fault, Fault::Write(error) if error.kind() == ErrorKind::BrokenPipe)
 }
 
-// The status of a run. `is_said`: whether a message could be written that names its fault.
+// The status of a run. `is_said`: nobody closed a pipe, before or while its fault was told.
 fn status(outcome: &Result<bool, Fault>, is_said: bool) -> u8
     ensures done { (result ≡ 0) ↔ (outcome.now ≡ Ok true) }
     ensures not { outcome.now ≡ Ok false → result ≡ 1 }

@@ -16,13 +16,13 @@ use std::io::{ErrorKind, Stdout, Write};
 pub enum Message<'a> {
     /// These arguments are refused.
     Misuse(&'a Misuse),
-    /// The run ends before its end.
+    /// The run ends early.
     Fault(&'a Fault),
     /// The file of this name can't be opened or read.
     Unreadable(&'a [u8], io::Error),
-    /// The list of this name is wrong, whose lines are of this hash.
+    /// This is wrong with the list of this name and hash.
     List(&'a [u8], &'a str, Complaint),
-    /// The file of this name, which has names, can't be opened.
+    /// The file of names of this name can't be opened.
     NamesUnopened(&'a [u8], io::Error),
     /// It can't be read to its end.
     NamesUnread(&'a [u8], io::Error),
@@ -32,7 +32,7 @@ pub enum Message<'a> {
     InputName,
 }
 
-/// Says something. It fails if nobody reads it any more; of another failure nothing is said.
+/// Says something. A closed pipe is an error; other failures are ignored.
 pub fn say(rt: &HostRuntime, message: Message<'_>) -> io::Result<()> {
     match try_say(rt, message) {
         Err(error) if error.kind() == ErrorKind::BrokenPipe => Err(error),
@@ -49,7 +49,6 @@ fn try_say(rt: &HostRuntime, message: Message<'_>) -> io::Result<()> {
     rt.stderr().write_all(text.as_slice())
 }
 
-// Adds what is said.
 fn push_message(
     rt: &HostRuntime,
     text: &mut Vec<u8>,
@@ -101,7 +100,6 @@ fn push_message(
     }
 }
 
-// Adds what is wrong with a list.
 fn push_complaint(
     text: &mut Vec<u8>,
     charset: Charset,
@@ -155,7 +153,7 @@ fn push_error(rt: &HostRuntime, text: &mut Vec<u8>, error: io::Error) -> io::Res
     Ok(())
 }
 
-// The text of an error without its number.
+// Cuts the number off the text of an error.
 fn without_number(text: &str) -> &str {
     match text.split_once(" (os error ") {
         Some((words, _)) => words,
@@ -163,7 +161,7 @@ fn without_number(text: &str) -> &str {
     }
 }
 
-/// What a run tells: its lines on standard output, and its remarks on standard error.
+/// Writes lines to standard output and remarks to standard error.
 #[derive(Drop)]
 pub struct Console<'a> {
     rt: &'a HostRuntime,
@@ -173,14 +171,14 @@ pub struct Console<'a> {
 }
 
 impl<'a> Console<'a> {
-    /// Of files alone.
+    /// For files that no list names.
     pub fn of_files(rt: &'a HostRuntime) -> Console<'a>
         ensures { result.failure ≡ None }
     {
         Console::of_list(rt, b"", None)
     }
 
-    /// Of a list and its files. Its lines are of one hash, or of any.
+    /// For a list and its files. With `only`, its lines are of that hash alone.
     pub fn of_list(rt: &'a HostRuntime, list: &'a [u8], only: Option<Variant>) -> Console<'a>
         ensures { result.failure ≡ None }
     {
@@ -199,7 +197,7 @@ impl<'a> Console<'a> {
         }
     }
 
-    // Keeps the error of a call that failed.
+    // Keeps the error of a failed call.
     fn keep(&mut self, outcome: io::Result<()>) -> io::Result<()>
         ensures ok { OnOk result (self.new.failure ≡ self.old.failure) }
         ensures err { IfErr result (λ error. self.new.failure ≡ Some error) }
@@ -230,15 +228,14 @@ impl Log for Console<'_> {
     }
 }
 
-// What is written through a buffer.
+// A buffered stream.
 trait Output {
-    // Whether nothing is left in the buffer.
+    // Whether the buffer is empty.
     ghost is_flushed: { Self → Type 0 } = { λ output. ⊤ };
 
-    // Writes bytes, perhaps to the buffer alone.
+    // Writes bytes, perhaps only to the buffer.
     fn put(&mut self, bytes: &[u8]) -> io::Result<()>;
 
-    // Writes what the buffer has.
     fn flush(&mut self) -> io::Result<()>
         ensures { OnOk result (is_flushed self.new) };
 }
@@ -253,7 +250,6 @@ impl Output for Stdout {
     }
 }
 
-// Writes lines, and flushes them.
 fn write_lines<O: Output>(out: &mut O, lines: &[u8]) -> io::Result<()>
     ensures { OnOk result (O.is_flushed out.new) }
 {

@@ -15,21 +15,21 @@ use std::alloc::Global;
 use std::io::{BufReader, Read};
 use std::{io, mem};
 
-// So many names that a file has are given at once, at most.
+// The most names of a file that are given at once.
 const MOST: usize = 100;
 
-/// The names of the arguments, or those that a file has, each ended by a byte 0.
+/// The names of the arguments, or those in a file, each ended by a byte 0.
 #[derive(Drop)]
 pub struct Names<R> {
     given: Vec<Vec<u8>>,
     file: Vec<u8>,
-    // The file, until it is at its end.
+    // The file, until its end or a failed read.
     reader: Option<BufReader<R>>,
-    // How many names were read of it, wrong ones too.
+    // How many names of it were read, with wrong ones.
     number: u64,
 }
 
-/// Some names, and what is wrong after them. At the end there is neither.
+/// Names, and what is wrong after them. At the end there is neither.
 #[derive(Drop)]
 pub struct Batch {
     pub names: Vec<Vec<u8>>,
@@ -60,7 +60,7 @@ impl Names<Source> {
         }
     }
 
-    /// Opens the file, if the arguments name one. If it can't be opened, it says so, and there are none.
+    /// Opens the file, if the arguments name one. If this fails, it says so and returns `None`.
     pub fn open(
         rt: &HostRuntime,
         names: request::NameSource,
@@ -88,7 +88,7 @@ impl Names<Source> {
         }
     }
 
-    /// Says what is wrong, if something is. Whether nothing is.
+    /// Says what is wrong, if anything.
     pub fn tell(&self, rt: &HostRuntime, wrong: Option<Wrong>) -> Result<bool, Fault>
         ensures { IfOk result (λ answer. answer ≡ is_none wrong) }
     {
@@ -112,7 +112,7 @@ enum Entry {
 }
 
 impl<R: Read + Drop> Names<R> {
-    /// The next names, up to a wrong one or one that has to be waited for.
+    /// The next names. It waits only if it has none, and stops at a wrong one.
     pub fn next(&mut self, alloc: Global) -> Result<Batch, Fault>
         ensures next { IfOk result (λ batch. Continues self.old.file.items self.old.number self.new.number
             (left_in R.remaining self.old.reader) (left_in R.remaining self.new.reader)
@@ -137,7 +137,7 @@ impl<R: Read + Drop> Names<R> {
         Ok(Batch { names, wrong: None })
     }
 
-    // Whether the file may have a name: the first of some, or one that is at hand.
+    // Whether to read a name: the first of a batch, or one that the buffer has.
     fn has_name(&self, is_first: bool) -> bool
         ensures { is_first ≡ true → result ≡ false → self.now.reader ≡ None }
     {
@@ -147,7 +147,6 @@ impl<R: Read + Drop> Names<R> {
         }
     }
 
-    // Reads a name of the file.
     fn read_name(&mut self, alloc: Global) -> Result<Entry, Fault>
         ensures entry { IfOk result (IsEntry self.old.file.items self.old.number self.new.number
             (left_in R.remaining self.old.reader) (left_in R.remaining self.new.reader)) }
@@ -175,7 +174,7 @@ impl<R: Read + Drop> Names<R> {
         }
     }
 
-    // A name that was read, or what is wrong with it.
+    // Counts a name, and says what is wrong with it.
     fn entry(&mut self, name: Vec<u8>) -> Result<Entry, Fault>
         ensures name { IfOk result (IsNamed self.old.file.items self.old.number name.items) }
         ensures number { OnOk result (self.new.number ≡ self.old.number + 1) }

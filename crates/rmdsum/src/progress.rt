@@ -1,4 +1,4 @@
-//! How far the reading of a file is, on a terminal.
+//! Shows on a terminal how far a file is read.
 
 use crate::quoting::{Charset, quotef};
 use std::alloc::{AllocError, Global};
@@ -6,12 +6,12 @@ use std::io;
 use std::io::Write;
 use std::time::{Duration, Instant};
 
-// How long nothing is shown of a file, and then how long a line stands, in milliseconds.
+// Milliseconds before a line is shown, and then between lines.
 const DELAY: u64 = 1000;
 
 const INTERVAL: u64 = 500;
 
-// How many bytes of a name are shown at most: its end.
+// The most bytes of a name that are shown: its end.
 const SHOWN: usize = 50;
 
 // Goes to the start of the line, and erases it.
@@ -30,7 +30,7 @@ pub struct Progress {
 }
 
 impl Progress {
-    /// Begins with a file of this name, and of this size, if it is known.
+    /// For a file of this name, and size in bytes if known.
     pub fn new(rt: &HostRuntime, name: &[u8], size: Option<u64>) -> io::Result<Progress> {
         Ok(Progress {
             rt: *rt,
@@ -43,7 +43,7 @@ impl Progress {
         })
     }
 
-    /// So many bytes more were read.
+    /// Counts bytes that were read, and shows a line if it is time.
     pub fn advance(&mut self, count: usize) {
         self.taken = self.taken.saturating_add(count as u64);
         let Ok(elapsed) = self.start.elapsed(&self.rt) else {
@@ -56,7 +56,7 @@ impl Progress {
         }
     }
 
-    /// Takes the line away.
+    /// Erases the line.
     pub fn clear(&mut self) {
         if self.is_shown {
             self.is_shown = false;
@@ -64,7 +64,6 @@ impl Progress {
         }
     }
 
-    // Shows the line.
     fn show(&self) -> io::Result<()> {
         let mut line = Vec::from_slice(self.rt.alloc(), ERASE)?;
         line.extend_from_slice(self.label.as_slice())?;
@@ -81,7 +80,7 @@ impl Progress {
     }
 }
 
-// A name as it is shown: its end, if it is long.
+// A name in quotes if needed, or the end of a long one.
 fn label(alloc: Global, charset: Charset, name: &[u8]) -> Result<Vec<u8>, AllocError> {
     let mut quoted = Vec::new(alloc);
     quotef(&mut quoted, charset, name)?;
@@ -94,7 +93,7 @@ fn label(alloc: Global, charset: Charset, name: &[u8]) -> Result<Vec<u8>, AllocE
     Ok(label)
 }
 
-// A text from its first character on, without the rest of one that begins before it.
+// A text without the rest of a character that begins before it.
 fn from_character(text: &[u8]) -> &[u8] {
     for (place, byte) in text.iter().enumerate() {
         if byte & 0xc0 != 0x80 {

@@ -1,7 +1,6 @@
 //! Names and words as coreutils shows them in messages.
 //!
-//! The printable characters of ASCII are shown and, in a locale of UTF-8, all from U+00A0 on; every other byte is
-//! escaped.
+//! Printable ASCII is shown and, in a locale of UTF-8, every character from U+00A0 on; other bytes are escaped.
 
 use std::alloc::AllocError;
 use std::env::VarError;
@@ -15,7 +14,7 @@ pub enum Charset {
 }
 
 impl Charset {
-    /// That of the locale which `LC_ALL`, `LC_CTYPE` or `LANG` names: the first that is set and not empty.
+    /// By the first of `LC_ALL`, `LC_CTYPE` and `LANG` that is set and not empty.
     pub fn of(rt: &HostRuntime) -> Charset {
         for variable in ["LC_ALL", "LC_CTYPE", "LANG"] {
             match env::var(rt, variable) {
@@ -27,7 +26,7 @@ impl Charset {
         Charset::Ascii
     }
 
-    // That of the locale of a name, as `de_DE.UTF-8` or `C.utf8`.
+    // By a locale's name, as `de_DE.UTF-8` or `C.utf8`.
     fn of_locale(name: &str) -> Charset {
         let (_, charset) = name.split_once('.').unwrap_or(("", ""));
         let (charset, _) = charset.split_once('@').unwrap_or((charset, ""));
@@ -38,14 +37,14 @@ impl Charset {
         }
     }
 
-    // Whether it has this character beyond ASCII, and shows it.
+    // Whether a character beyond ASCII is shown.
     fn shows(self, character: char) -> bool {
         self == Charset::Utf8 && character >= '\u{a0}'
     }
 }
 
-/// Adds a name as it stands in front of a colon: in a shell's quotes, as by `quoteaf`, or without
-/// them where a shell reads it as it stands and it has no colon.
+/// Adds a name before a colon: bare if it has no colon and a shell reads it so, else as `quoteaf`
+/// does.
 pub fn quotef(text: &mut Vec<u8>, charset: Charset, name: &[u8]) -> Result<(), AllocError> {
     if is_plain(charset, name) {
         text.extend_from_slice(name)?;
@@ -54,8 +53,7 @@ pub fn quotef(text: &mut Vec<u8>, charset: Charset, name: &[u8]) -> Result<(), A
     quoteaf(text, charset, name)
 }
 
-/// Adds a name in a shell's quotes: `'a file'`, `'a'$'\n''b'`, `"it's"`. A shell reads it as this
-/// name.
+/// Adds a name in quotes from which a shell reads it: `'a file'`, `'a'$'\n''b'`, `"it's"`.
 pub fn quoteaf(text: &mut Vec<u8>, charset: Charset, name: &[u8]) -> Result<(), AllocError> {
     if fits_double_quotes(charset, name) {
         text.push(b'"')?;
@@ -78,8 +76,7 @@ pub fn quoteaf(text: &mut Vec<u8>, charset: Charset, name: &[u8]) -> Result<(), 
     Ok(())
 }
 
-/// Adds a word in quotes, with escapes as in C: `'x'`, `'a\nb'`, `'it\'s'`. All bytes but those of
-/// ASCII are escaped.
+/// Adds a word in quotes, with all but printable ASCII escaped as in C: `'x'`, `'a\nb'`, `'it\'s'`.
 pub fn quote(text: &mut Vec<u8>, word: &[u8]) -> Result<(), AllocError> {
     text.push(b'\'')?;
     for &byte in word {
@@ -93,7 +90,7 @@ pub fn quote(text: &mut Vec<u8>, word: &[u8]) -> Result<(), AllocError> {
     Ok(())
 }
 
-// Whether a name stands without quotes.
+// Whether a name needs no quotes.
 fn is_plain(charset: Charset, name: &[u8]) -> bool {
     let Ok(characters) = str::from_utf8(name) else {
         return false;
@@ -108,8 +105,8 @@ fn is_plain(charset: Charset, name: &[u8]) -> bool {
         })
 }
 
-// Whether a name stands in double quotes: it has an apostrophe, and nothing that a shell reads as
-// anything else there.
+// Whether a name stands in double quotes: with an apostrophe, and only characters of a set that is
+// safe there.
 fn fits_double_quotes(charset: Charset, name: &[u8]) -> bool {
     let Ok(characters) = str::from_utf8(name) else {
         return false;
@@ -122,7 +119,7 @@ fn fits_double_quotes(charset: Charset, name: &[u8]) -> bool {
         })
 }
 
-// Whether a character means nothing to a worker, wherever it stands.
+// Whether a character means nothing to a shell, wherever it stands.
 fn is_ordinary(charset: Charset, character: char) -> bool {
     match character {
         'a'..='z' | 'A'..='Z' | '0'..='9' => true,
@@ -131,8 +128,7 @@ fn is_ordinary(charset: Charset, character: char) -> bool {
     }
 }
 
-// Adds a character between a shell's quotes. The flag says whether these are those of escapes, and
-// the result whether they are then.
+// Adds a character of a quoted name. `escaping` and the result: whether `$'` is open before and after.
 fn push_character(
     text: &mut Vec<u8>,
     charset: Charset,
@@ -157,7 +153,7 @@ fn push_character(
     Ok(escaping)
 }
 
-// Goes from a shell's quotes to those of escapes, or back.
+// Goes from `'` to `$'`, or back.
 fn set_escaping(text: &mut Vec<u8>, escaping: bool, wanted: bool) -> Result<bool, AllocError> {
     match (escaping, wanted) {
         (false, true) => text.extend_from_slice(b"'$'")?,
@@ -167,7 +163,6 @@ fn set_escaping(text: &mut Vec<u8>, escaping: bool, wanted: bool) -> Result<bool
     Ok(wanted)
 }
 
-// Adds the escape of a byte.
 fn push_escape(text: &mut Vec<u8>, byte: u8) -> Result<(), AllocError> {
     let letter = match byte {
         7 => b'a',

@@ -1,21 +1,21 @@
-//! Why arguments are refused.
+//! Why arguments are refused, in words.
 
 use crate::quoting::{Charset, quote, quoteaf};
 use crate::switches::{Flag, Parameter, SWITCHES, around_equals};
 use std::alloc::AllocError;
 
-/// Why the arguments ask for nothing that the program does.
+/// Why arguments are refused.
 #[derive(PartialEq, Eq, Debug, Drop)]
 pub enum Misuse {
-    /// There is no long option of this name, or that begins with it; what stands after `--`.
+    /// No long option begins so; the text after `--`.
     UnknownLong(Vec<u8>),
-    /// Several long options begin with this name; what stands after `--`.
+    /// Several long options begin so; the text after `--`.
     Ambiguous(Vec<u8>),
     /// This option takes no value, and has one.
     UnwantedValue(Flag),
     /// This long option has no value.
     MissingValue(Parameter),
-    /// There is no option of this letter.
+    /// No option has this letter.
     UnknownShort(u8),
     /// The option of this letter has no value.
     MissingShortValue(u8),
@@ -36,7 +36,7 @@ pub enum Misuse {
 }
 
 impl Misuse {
-    /// Adds what the program says of it, after its own name and a colon, without the last newline.
+    /// Adds the message that follows the program's name and a colon, without its last newline.
     pub fn push_text(&self, text: &mut Vec<u8>, charset: Charset) -> Result<(), AllocError> {
         match self {
             Misuse::UnknownLong(option) => {
@@ -102,7 +102,6 @@ impl Misuse {
     }
 }
 
-// Adds these texts.
 fn push_parts(text: &mut Vec<u8>, parts: &[&[u8]]) -> Result<(), AllocError> {
     for part in parts {
         text.extend_from_slice(part)?;
@@ -110,7 +109,7 @@ fn push_parts(text: &mut Vec<u8>, parts: &[&[u8]]) -> Result<(), AllocError> {
     Ok(())
 }
 
-// Adds that a long option stands for several, and for which.
+// Says which options an ambiguous one may be.
 fn push_ambiguous(text: &mut Vec<u8>, option: &[u8]) -> Result<(), AllocError> {
     push_parts(
         text,
@@ -126,7 +125,7 @@ fn push_ambiguous(text: &mut Vec<u8>, option: &[u8]) -> Result<(), AllocError> {
     Ok(())
 }
 
-// Adds that no hash has this name, and which names there are.
+// Says which names of hashes there are.
 fn push_unknown_variant(text: &mut Vec<u8>, name: &[u8]) -> Result<(), AllocError> {
     push_parts(text, &[b"invalid argument "])?;
     quote(text, name)?;

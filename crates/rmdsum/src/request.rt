@@ -1,4 +1,4 @@
-//! What the program is to do, by what its arguments say.
+//! What the program is to do, by the words of its arguments.
 
 ghost use Rattle.std.specs.Prelude.{◌≡◌, List, [], ◌∷◌, IfOk, IfErr, OnOk, map, reverse, option_map, vec_items, codes};
 ghost use Rattle.rmdsum.specs.declared.request.Refusal.TheVariants.{OutOfMemory};
@@ -20,7 +20,7 @@ pub enum Word {
     Set(Flag),
     /// The hash.
     Hash(Variant),
-    /// The file that has the names of the files.
+    /// The file of names.
     NamesIn(Vec<u8>),
     /// The name of a file.
     File(Vec<u8>),
@@ -29,17 +29,17 @@ pub enum Word {
 /// What the program is to do.
 #[derive(Debug, Drop)]
 pub enum Request {
-    /// Say how it is called.
+    /// Print the help.
     Help,
-    /// Say which version it is.
+    /// Print the version.
     Version,
-    /// Do this with files or lists.
+    /// Print or check.
     Run {
         /// What is done.
         work: Work,
         /// The files or lists.
         names: NameSource,
-        /// Whether to tell how far it is.
+        /// Whether to show how far a file is read.
         progress: bool,
     },
 }
@@ -49,11 +49,11 @@ pub enum Request {
 pub enum Work {
     /// Print the digests of files.
     Print(Style),
-    /// Check the digests that lists have.
+    /// Check lists of digests.
     Check {
-        /// The hash whose lines are taken; lines of every hash if none is named.
+        /// The hash of the lines that are taken; any if none is named.
         only: Option<Variant>,
-        /// What is told, and what counts as a failure. At most one of `quiet`, `status` and `warn` is set.
+        /// What is told, and what is a failure. At most one of `quiet`, `status` and `warn` is set.
         options: Options,
     },
 }
@@ -63,7 +63,7 @@ pub enum Work {
 pub enum NameSource {
     /// These, at least one.
     Operands(Vec<Vec<u8>>),
-    /// Those that the file of this name has, each ended by a byte 0.
+    /// Those in the file of this name, each ended by a byte 0.
     From(Vec<u8>),
 }
 
@@ -114,7 +114,7 @@ pub struct Settings {
 }
 
 impl Settings {
-    /// What holds where nothing is said.
+    /// Those of no words.
     pub fn new(alloc: Global) -> Settings
         ensures { Holds [] result }
     {
@@ -146,7 +146,6 @@ impl Settings {
         Ok(())
     }
 
-    // Takes an option without a value.
     fn set(&mut self, flag: Flag)
         ensures { (words : List Said) → Holds words self.old → Holds (Sets flag ∷ words) self.new }
     {
@@ -169,7 +168,7 @@ impl Settings {
         }
     }
 
-    // What is wrong with the options together, in the order in which `sha256sum` looks.
+    // The first conflict of options, in the order in which `sha256sum` looks.
     fn conflict(&self) -> Option<Misuse>
         ensures { (words : List Said) → Holds words self.now → result ≡ conflict words }
     {
@@ -197,7 +196,7 @@ impl Settings {
         }
     }
 
-    // An option that only `--check` has a use for.
+    // An option that needs `--check`.
     fn needs_check(&self) -> Option<Flag>
         ensures { result ≡ needs_check self.now.ignore_missing self.now.telling self.now.strict }
     {
@@ -286,7 +285,6 @@ pub fn request_of(alloc: Global, words: Vec<Word>) -> Result<Request, Refusal>
     settings.request(alloc)
 }
 
-// The names of the files: these, or those in a file.
 fn choose_names(
     alloc: Global,
     names_in: Option<Vec<u8>>,
@@ -307,7 +305,6 @@ fn choose_names(
     }
 }
 
-// The name of standard input alone.
 fn standard_input(alloc: Global) -> Result<Vec<Vec<u8>>, AllocError>
     ensures { IfOk result (λ names. map vec_items names.items ≡ codes "-" ∷ []) }
 {

@@ -36,7 +36,7 @@ pub enum Switch {
     Parameter(Parameter),
 }
 
-/// All options, in the order in which an ambiguous one lists them.
+/// All options, in the order in which an ambiguous name lists them.
 pub const SWITCHES: [Switch; 15] = [
     Switch::Flag(Flag::Check),
     Switch::Flag(Flag::IgnoreMissing),
@@ -64,7 +64,6 @@ pub enum Found {
 }
 
 impl Found {
-    // These and another.
     fn and(self, switch: Switch) -> Found
         ensures { (more : List Switch) → joined result more ≡ joined self (switch ∷ more) }
     {
@@ -137,7 +136,7 @@ pub fn find_short(letter: u8) -> Option<Switch>
     }
 }
 
-/// The options whose names begin so: a name may be cut short.
+/// The options that begin so: a name may be cut short.
 #[tactic(auto, unfolding(crate::specs::Options::by_name))]
 pub fn find_long(name: &[u8]) -> Found
     ensures { result ≡ by_name name.now }
@@ -145,7 +144,6 @@ pub fn find_long(name: &[u8]) -> Found
     find_begun(name, &SWITCHES)
 }
 
-// The options whose names begin so.
 fn find_begun(name: &[u8], switches: &[Switch]) -> Found
     ensures { result ≡ alone (filter (begins name.now) switches.now) }
 {
@@ -159,7 +157,7 @@ fn find_begun(name: &[u8], switches: &[Switch]) -> Found
     found
 }
 
-/// What stands before the first equals sign, and what after it.
+/// What stands before the first `=`, and after it.
 pub fn around_equals(text: &[u8]) -> (&[u8], Option<&[u8]>)
     ensures before { result.0.now ≡ before_equals text.now }
     ensures after { option_copied result.1 ≡ after_equals text.now }

@@ -18,8 +18,7 @@ pub enum Source {
 }
 
 impl Source {
-    /// Opens the file of a name, or standard input for `-`. A name has to be UTF-8: the standard library opens no
-    /// other.
+    /// Opens the file of a name, or standard input for `-`. Names have to be UTF-8 for the standard library.
     pub fn open(rt: &HostRuntime, name: &[u8]) -> io::Result<Source> {
         if is_input(name) {
             return Ok(Source::Input(rt.stdin()));
@@ -30,7 +29,7 @@ impl Source {
         }
     }
 
-    // The size of a file, where it is known.
+    // The size of a regular file.
     fn size(&self) -> Option<u64> {
         let Source::File(file) = self else {
             return None;
@@ -53,19 +52,19 @@ impl Read for Source {
     }
 }
 
-/// What a list, or a file of names, is read through: 64 KiB at a time.
+/// A buffer of 64 KiB for a list or a file of names.
 pub fn buffered(rt: &HostRuntime, source: Source) -> Result<BufReader<Source>, AllocError> {
     BufReader::with_capacity(rt.alloc(), 1 << 16, source).map_err(|_| AllocError)
 }
 
-/// A file that is read, and how far, if that is shown.
+/// A file, and how far it is read, if that is shown.
 #[derive(Drop)]
 pub struct Opened {
     source: Source,
     progress: Option<Progress>,
 }
 
-/// The files of the system, by their names.
+/// The files of the system, by name.
 #[derive(Clone, Copy)]
 pub struct System<'a> {
     rt: &'a HostRuntime,
@@ -73,7 +72,7 @@ pub struct System<'a> {
 }
 
 impl<'a> System<'a> {
-    /// With `progress`, standard error shows how far a file is read, if it is a terminal.
+    /// With `progress`, a terminal on standard error shows how far a file is read.
     pub fn new(rt: &'a HostRuntime, progress: bool) -> System<'a> {
         System {
             rt,
@@ -101,7 +100,7 @@ impl Folder for System<'_> {
         let Ok(path) = str::from_utf8(name) else {
             return false;
         };
-        // Most files of the kernel, which may wait, say that they have no bytes.
+        // Most files of the kernel, which may wait, have a size of 0.
         !is_input(name)
             && fs::metadata(self.rt, path).is_ok_and(|metadata| {
                 metadata.is_file() && (1..1 << 16).contains(&metadata.len())

@@ -1,4 +1,4 @@
-//! A run of the program: what it does for its arguments.
+//! A run of the program.
 
 ghost use Rattle.std.specs.Prelude.{◌≡◌, [], ◌∷◌, List, Option, IfOk, is_none, map, vec_items};
 ghost use Rattle.rmdsum.specs.declared.arguments.Next.TheVariants.{Any};
@@ -36,7 +36,7 @@ pub trait Worker {
     fn show_version(&mut self) -> Result<(), Fault>
         ensures { IfOk result (λ _. Adds (done self.old) (done self.new) (ShowsVersion ∷ [])) };
 
-    /// Opens what has the names. With `progress` the run shows how far files are read. Whether it could be opened.
+    /// Opens `names`. With `progress` the run shows how far files are read. Whether they could be opened.
     fn open(&mut self, names: NameSource, progress: bool) -> Result<bool, Fault>
         ensures { IfOk result (λ answer. Adds (done self.old) (done self.new) (Opens names progress answer ∷ [])) };
 
@@ -52,14 +52,14 @@ pub trait Worker {
     fn check(&mut self, only: Option<Variant>, options: Options, name: &[u8]) -> Result<bool, Fault>
         ensures { IfOk result (λ answer. Adds (done self.old) (done self.new) (Checks only options name.now answer ∷ [])) };
 
-    /// Says what is wrong after some names, if something is. Whether nothing is wrong.
+    /// Says what is wrong after some names, if anything.
     fn tell(&mut self, wrong: Option<Wrong>) -> Result<bool, Fault>
         ensures answer { IfOk result (λ answer. answer ≡ is_none wrong) }
         ensures done { IfOk result (λ answer. Adds (done self.old) (done self.new) (Says wrong answer ∷ [])) };
 }
 
-/// Does what the arguments after the program's name ask for. With `operands_last` the first operand ends the options.
-/// Whether all could be done.
+/// Does what the arguments after the program's name ask for, and returns whether all could be done. With
+/// `operands_last` the first operand ends the options.
 pub fn run<W: Worker>(
     alloc: Global,
     worker: &mut W,
@@ -99,7 +99,7 @@ fn perform<W: Worker>(worker: &mut W, request: Request) -> Result<bool, Fault>
     }
 }
 
-// Does the work with all names. Whether all could be done.
+// Does the work with all names.
 fn do_all<W: Worker>(worker: &mut W, work: Work) -> Result<bool, Fault>
     ensures { IfOk result (λ success. Extends (W.done worker.old) (W.done worker.new) (λ deeds. IsRun work deeds success)) }
 {
@@ -117,7 +117,7 @@ fn do_all<W: Worker>(worker: &mut W, work: Work) -> Result<bool, Fault>
     Err(Fault::TooManyLines)
 }
 
-// Does the work with these names. Whether all could be done.
+// Does the work with these names.
 fn do_some<W: Worker>(worker: &mut W, work: Work, names: &[Vec<u8>]) -> Result<bool, Fault>
     ensures { IfOk result (λ success. Extends (W.done worker.old) (W.done worker.new)
         (λ deeds. Handles work (map Name (map vec_items names.now)) deeds success)) }
@@ -128,7 +128,7 @@ fn do_some<W: Worker>(worker: &mut W, work: Work, names: &[Vec<u8>]) -> Result<b
     }
 }
 
-// Checks these lists. Whether all checks succeed.
+// Whether all checks succeed.
 fn check_lists<W: Worker>(
     worker: &mut W,
     only: Option<Variant>,
