@@ -80,8 +80,8 @@ fn argument(env: &impl Env, alloc: Global, place: usize) -> Result<Option<Vec<u8
     Err(AllocError)
 }
 
-/// What the arguments after the program's name ask for, by the rules of `getopt_long` and `sha256sum`. Long names may be
-/// cut short. Options may follow operands, but with `operands_last` the first operand ends them.
+/// What the arguments after the program's name ask for, by the rules of `getopt_long` and `sha256sum`. Long names may
+/// be cut short. Options may follow operands, but with `operands_last` the first operand ends them.
 pub fn parse(
     alloc: Global,
     operands_last: bool,

@@ -175,7 +175,7 @@ fn is_closed(fault: &Fault) -> bool {
     matches!(fault, Fault::Write(error) if error.kind() == ErrorKind::BrokenPipe)
 }
 
-// The status of a run. `is_said`: nobody closed a pipe, before or while its fault was told.
+// The status of a run. `is_said` is false if a pipe was closed, in the run or as its fault was told.
 fn status(outcome: &Result<bool, Fault>, is_said: bool) -> u8
     ensures done { (result ≡ 0) ↔ (outcome.now ≡ Ok true) }
     ensures not { outcome.now ≡ Ok false → result ≡ 1 }

@@ -16,11 +16,11 @@ use std::io::{ErrorKind, Stdout, Write};
 pub enum Message<'a> {
     /// These arguments are refused.
     Misuse(&'a Misuse),
-    /// The run ends early.
+    /// This fault ends the run.
     Fault(&'a Fault),
     /// The file of this name can't be opened or read.
     Unreadable(&'a [u8], io::Error),
-    /// This is wrong with the list of this name and hash.
+    /// A complaint about the list of this name and hash.
     List(&'a [u8], &'a str, Complaint),
     /// The file of names of this name can't be opened.
     NamesUnopened(&'a [u8], io::Error),
@@ -178,7 +178,7 @@ impl<'a> Console<'a> {
         Console::of_list(rt, b"", None)
     }
 
-    /// For a list and its files. With `only`, its lines are of that hash alone.
+    /// For a list and its files. `only`: the one hash of its lines.
     pub fn of_list(rt: &'a HostRuntime, list: &'a [u8], only: Option<Variant>) -> Console<'a>
         ensures { result.failure ≡ None }
     {

@@ -25,7 +25,7 @@ pub struct Names<R> {
     file: Vec<u8>,
     // The file, until its end or a failed read.
     reader: Option<BufReader<R>>,
-    // How many names of it were read, with wrong ones.
+    // How many of its names were read, wrong ones too.
     number: u64,
 }
 
@@ -103,7 +103,7 @@ impl Names<Source> {
     }
 }
 
-// What is read of a file of names.
+// What is read of a file.
 #[derive(Drop)]
 enum Entry {
     Name(Vec<u8>),
@@ -112,7 +112,7 @@ enum Entry {
 }
 
 impl<R: Read + Drop> Names<R> {
-    /// The next names. It waits only if it has none, and stops at a wrong one.
+    /// The next names, up to a wrong one. It waits only while it has none.
     pub fn next(&mut self, alloc: Global) -> Result<Batch, Fault>
         ensures next { IfOk result (λ batch. Continues self.old.file.items self.old.number self.new.number
             (left_in R.remaining self.old.reader) (left_in R.remaining self.new.reader)
@@ -174,7 +174,7 @@ impl<R: Read + Drop> Names<R> {
         }
     }
 
-    // Counts a name, and says what is wrong with it.
+    // Counts a name that was read, and checks it.
     fn entry(&mut self, name: Vec<u8>) -> Result<Entry, Fault>
         ensures name { IfOk result (IsNamed self.old.file.items self.old.number name.items) }
         ensures number { OnOk result (self.new.number ≡ self.old.number + 1) }

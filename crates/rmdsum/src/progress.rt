@@ -11,7 +11,7 @@ const DELAY: u64 = 1000;
 
 const INTERVAL: u64 = 500;
 
-// The most bytes of a name that are shown: its end.
+// The most bytes of a name that are shown, from its end.
 const SHOWN: usize = 50;
 
 // Goes to the start of the line, and erases it.
@@ -43,7 +43,7 @@ impl Progress {
         })
     }
 
-    /// Counts bytes that were read, and shows a line if it is time.
+    /// Counts bytes that were read, and shows a line if one is due.
     pub fn advance(&mut self, count: usize) {
         self.taken = self.taken.saturating_add(count as u64);
         let Ok(elapsed) = self.start.elapsed(&self.rt) else {
@@ -80,7 +80,7 @@ impl Progress {
     }
 }
 
-// A name in quotes if needed, or the end of a long one.
+// A name as by `quotef`, or `...` and the end of a long one.
 fn label(alloc: Global, charset: Charset, name: &[u8]) -> Result<Vec<u8>, AllocError> {
     let mut quoted = Vec::new(alloc);
     quotef(&mut quoted, charset, name)?;

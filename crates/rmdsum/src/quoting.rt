@@ -1,6 +1,6 @@
 //! Names and words as coreutils shows them in messages.
 //!
-//! Printable ASCII is shown and, in a locale of UTF-8, every character from U+00A0 on; other bytes are escaped.
+//! Names show printable ASCII and, in a locale of UTF-8, every character from U+00A0 on; other bytes are escaped.
 
 use std::alloc::AllocError;
 use std::env::VarError;
@@ -43,8 +43,7 @@ impl Charset {
     }
 }
 
-/// Adds a name before a colon: bare if it has no colon and a shell reads it so, else as `quoteaf`
-/// does.
+/// Adds a name that a colon follows: bare if a shell reads it so and it has no colon, else as by `quoteaf`.
 pub fn quotef(text: &mut Vec<u8>, charset: Charset, name: &[u8]) -> Result<(), AllocError> {
     if is_plain(charset, name) {
         text.extend_from_slice(name)?;
@@ -76,7 +75,7 @@ pub fn quoteaf(text: &mut Vec<u8>, charset: Charset, name: &[u8]) -> Result<(), 
     Ok(())
 }
 
-/// Adds a word in quotes, with all but printable ASCII escaped as in C: `'x'`, `'a\nb'`, `'it\'s'`.
+/// Adds a word in quotes, with `'`, `\` and all but printable ASCII escaped as in C: `'x'`, `'a\nb'`, `'it\'s'`.
 pub fn quote(text: &mut Vec<u8>, word: &[u8]) -> Result<(), AllocError> {
     text.push(b'\'')?;
     for &byte in word {
@@ -105,8 +104,7 @@ fn is_plain(charset: Charset, name: &[u8]) -> bool {
         })
 }
 
-// Whether a name stands in double quotes: with an apostrophe, and only characters of a set that is
-// safe there.
+// Whether a name stands in double quotes: it has an apostrophe, and only characters safe there.
 fn fits_double_quotes(charset: Charset, name: &[u8]) -> bool {
     let Ok(characters) = str::from_utf8(name) else {
         return false;
@@ -153,7 +151,7 @@ fn push_character(
     Ok(escaping)
 }
 
-// Goes from `'` to `$'`, or back.
+// Opens `$'` if wanted, else `'`.
 fn set_escaping(text: &mut Vec<u8>, escaping: bool, wanted: bool) -> Result<bool, AllocError> {
     match (escaping, wanted) {
         (false, true) => text.extend_from_slice(b"'$'")?,

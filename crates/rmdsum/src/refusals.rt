@@ -1,4 +1,4 @@
-//! Why arguments are refused, in words.
+//! Refused arguments and their messages.
 
 use crate::quoting::{Charset, quote, quoteaf};
 use crate::switches::{Flag, Parameter, SWITCHES, around_equals};
@@ -7,9 +7,9 @@ use std::alloc::AllocError;
 /// Why arguments are refused.
 #[derive(PartialEq, Eq, Debug, Drop)]
 pub enum Misuse {
-    /// No long option begins so; the text after `--`.
+    /// No long option begins so: the text after `--`.
     UnknownLong(Vec<u8>),
-    /// Several long options begin so; the text after `--`.
+    /// Several long options begin so: the text after `--`.
     Ambiguous(Vec<u8>),
     /// This option takes no value, and has one.
     UnwantedValue(Flag),

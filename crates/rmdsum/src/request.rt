@@ -51,7 +51,7 @@ pub enum Work {
     Print(Style),
     /// Check lists of digests.
     Check {
-        /// The hash of the lines that are taken; any if none is named.
+        /// Lines of this hash alone are taken; all if it is `None`.
         only: Option<Variant>,
         /// What is told, and what is a failure. At most one of `quiet`, `status` and `warn` is set.
         options: Options,
@@ -114,7 +114,7 @@ pub struct Settings {
 }
 
 impl Settings {
-    /// Those of no words.
+    /// The settings before any word.
     pub fn new(alloc: Global) -> Settings
         ensures { Holds [] result }
     {
@@ -212,7 +212,6 @@ impl Settings {
         }
     }
 
-    // How lists are checked.
     fn options(&self) -> Options
         ensures { (words : List Said) → Holds words self.now → result ≡ options_of words }
     {
@@ -225,7 +224,6 @@ impl Settings {
         }
     }
 
-    // How a line is written.
     fn form(&self) -> Form
         ensures { result ≡ form_of self.now.tag self.now.mode }
     {

@@ -36,7 +36,7 @@ pub enum Switch {
     Parameter(Parameter),
 }
 
-/// All options, in the order in which an ambiguous name lists them.
+/// All options, as the message about an ambiguous name orders them.
 pub const SWITCHES: [Switch; 15] = [
     Switch::Flag(Flag::Check),
     Switch::Flag(Flag::IgnoreMissing),

@@ -18,7 +18,8 @@ pub enum Source {
 }
 
 impl Source {
-    /// Opens the file of a name, or standard input for `-`. Names have to be UTF-8 for the standard library.
+    /// Opens the file of a name, or standard input for `-`. Names have to be UTF-8: the standard library opens no
+    /// others.
     pub fn open(rt: &HostRuntime, name: &[u8]) -> io::Result<Source> {
         if is_input(name) {
             return Ok(Source::Input(rt.stdin()));
@@ -57,7 +58,7 @@ pub fn buffered(rt: &HostRuntime, source: Source) -> Result<BufReader<Source>, A
     BufReader::with_capacity(rt.alloc(), 1 << 16, source).map_err(|_| AllocError)
 }
 
-/// A file, and how far it is read, if that is shown.
+/// A file, and its progress if that is shown.
 #[derive(Drop)]
 pub struct Opened {
     source: Source,
@@ -100,7 +101,7 @@ impl Folder for System<'_> {
         let Ok(path) = str::from_utf8(name) else {
             return false;
         };
-        // Most files of the kernel, which may wait, have a size of 0.
+        // Most files of the kernel, which may wait, report size 0.
         !is_input(name)
             && fs::metadata(self.rt, path).is_ok_and(|metadata| {
                 metadata.is_file() && (1..1 << 16).contains(&metadata.len())

@@ -19,7 +19,7 @@ use ripemd_files::printing::Style;
 use ripemd_files::verdict::Options;
 use std::alloc::Global;
 
-/// What does the work of a run.
+/// Does the work of a run.
 pub trait Worker {
     // What was done, where that is known.
     ghost done: { Self → Option (List Deed) };
@@ -36,7 +36,7 @@ pub trait Worker {
     fn show_version(&mut self) -> Result<(), Fault>
         ensures { IfOk result (λ _. Adds (done self.old) (done self.new) (ShowsVersion ∷ [])) };
 
-    /// Opens `names`. With `progress` the run shows how far files are read. Whether they could be opened.
+    /// Opens `names`, and returns whether it could. With `progress` the run shows how far files are read.
     fn open(&mut self, names: NameSource, progress: bool) -> Result<bool, Fault>
         ensures { IfOk result (λ answer. Adds (done self.old) (done self.new) (Opens names progress answer ∷ [])) };
 
@@ -58,8 +58,7 @@ pub trait Worker {
         ensures done { IfOk result (λ answer. Adds (done self.old) (done self.new) (Says wrong answer ∷ [])) };
 }
 
-/// Does what the arguments after the program's name ask for, and returns whether all could be done. With
-/// `operands_last` the first operand ends the options.
+/// Does what the arguments after the program's name ask for, as `parse` reads them. Whether all could be done.
 pub fn run<W: Worker>(
     alloc: Global,
     worker: &mut W,
@@ -78,7 +77,7 @@ pub fn run<W: Worker>(
     }
 }
 
-// Does what is asked for. Whether all could be done.
+// Whether all could be done.
 fn perform<W: Worker>(worker: &mut W, request: Request) -> Result<bool, Fault>
     ensures { IfOk result (λ success. Extends (W.done worker.old) (W.done worker.new) (λ deeds. Performs request deeds success)) }
 {
@@ -117,7 +116,6 @@ fn do_all<W: Worker>(worker: &mut W, work: Work) -> Result<bool, Fault>
     Err(Fault::TooManyLines)
 }
 
-// Does the work with these names.
 fn do_some<W: Worker>(worker: &mut W, work: Work, names: &[Vec<u8>]) -> Result<bool, Fault>
     ensures { IfOk result (λ success. Extends (W.done worker.old) (W.done worker.new)
         (λ deeds. Handles work (map Name (map vec_items names.now)) deeds success)) }
