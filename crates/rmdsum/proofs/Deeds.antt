@@ -6,12 +6,14 @@ use Rattle.std.proofs.lemmas.List.{append-nil, map-append, take_more}
 use Rattle.ripemd_files.specs.declared.line.Variant.{Variant}
 use Rattle.ripemd_files.specs.declared.verdict.Options.{Options}
 use Rattle.rmdsum.specs.declared.names.Wrong.{Wrong}
+use Rattle.rmdsum.specs.declared.request.NameSource.{NameSource}
+use Rattle.rmdsum.specs.declared.request.Request.TheVariants.{Run}
 use Rattle.rmdsum.specs.declared.request.Work.{Work}
 use Rattle.rmdsum.specs.declared.request.Work.TheVariants.{Check}
 use Rattle.ripemd_files.specs.Said.{Adds}
-use Rattle.rmdsum.specs.Runs.{Deed, Item, Extends, IsOf, Handles, IsRun, items, handled, succeeded}
+use Rattle.rmdsum.specs.Runs.{Deed, Item, Extends, IsOf, Handles, IsRun, Performs, items, handled, succeeded}
 use Rattle.rmdsum.specs.Runs.Item.{Name}
-use Rattle.rmdsum.specs.Runs.Deed.{Gets, Prints, Checks, Says}
+use Rattle.rmdsum.specs.Runs.Deed.{Refuses, ShowsHelp, ShowsVersion, Opens, Gets, Prints, Checks, Says}
 
 adds_both : (a b c : Option (List Deed)) (xs ys : List Deed) → Adds a b xs → Adds b c ys → Adds a c (xs ++ ys)
 adds_both None b c xs ys first second = tt
@@ -37,6 +39,10 @@ both work a b c items more all others first second = (
 
 one_deed : (work : Work) (deed : Deed) (a b : Option (List Deed)) → IsOf work deed → Adds a b (deed ∷ [])
     → Grows work (handled deed) (succeeded deed) a b
+one_deed work (Refuses misuse) a b of adds = absurd of
+one_deed work ShowsHelp a b of adds = absurd of
+one_deed work ShowsVersion a b of adds = absurd of
+one_deed work (Opens names progress answer) a b of adds = absurd of
 one_deed work (Gets names wrong) a b of adds = absurd of
 one_deed work (Prints style names answer) a b of adds = (_, adds, λ later deeds rest run. (later, rest, of, refl, refl, run))
 one_deed work (Checks only options name answer) a b of adds = (_, adds, λ later deeds rest run. (later, rest, of, refl, refl, run))
@@ -60,9 +66,9 @@ Begins work a b success = Extends a b (λ deeds. (more : List Deed) (others : Bo
 -- some names more were handled
 pub one_round : (work : Work) (a b c d e : Option (List Deed)) (names : List (List ℕ)) (wrong : Option Wrong) (success done sound : Bool)
     → items names wrong ≢ [] → Begins work a b success → Adds b c (Gets names wrong ∷ []) → Grows work (map Name names) done c d
-    → Adds d e (Says wrong sound ∷ []) → Begins work a e ((success && done) && sound)
-one_round work a b c d e names wrong success done sound some so_far gave took told =
-    let (deeds, adds, handles) = both work c d e _ _ _ _ took (one_deed work (Says wrong sound) d e tt told) in (
+    → Adds d e (Says wrong sound ∷ []) → sound ≡ is_none wrong → Begins work a e ((success && done) && sound)
+one_round work a b c d e names wrong success done sound some so_far gave took told is =
+    let (deeds, adds, handles) = both work c d e _ _ _ _ took (one_deed work (Says wrong sound) d e is told) in (
       so_far.0 ++ Gets names wrong ∷ deeds,
       rw append_assoc at (adds_both a c e _ _ (adds_both a b c _ _ so_far.1 gave) adds),
       λ more others run.
@@ -90,3 +96,9 @@ pub something : (names : List (Vec ℕ Global)) (wrong : Option Wrong) → ¬ ((
 something [] None some = λ none. some (refl, refl)
 something [] (Some wrong) some = λ none. cc none
 something (name ∷ names) wrong some = λ none. cc none
+
+-- what has the names was opened, and a run went over them
+pub opened : (work : Work) (names : NameSource) (progress : Bool) (a b c : Option (List Deed)) (success : Bool)
+    → Adds a b (Opens names progress true ∷ []) → Extends b c (λ deeds. IsRun work deeds success)
+    → Extends a c (λ deeds. Performs (Run work names progress) deeds success)
+opened work names progress a b c success opens run = (_, adds_both a b c _ _ opens run.1, inr (run.0, refl, run.2))

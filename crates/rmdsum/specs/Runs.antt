@@ -1,5 +1,5 @@
 -- What a run of the program does.
-use Rattle.std.specs.Prelude.{◌≡◌, ◌≢◌, ◌⊎◌, ◌&&◌, ℕ, Bool, true, false, List, [], ◌∷◌, ◌++◌, map, Option, option_to_list, Result, Ok, Err, ⊤}
+use Rattle.std.specs.Prelude.{◌≡◌, ◌≢◌, ◌⊎◌, ◌&&◌, ℕ, Bool, true, false, List, [], ◌∷◌, ◌++◌, map, Option, option_to_list, is_none, Result, Ok, Err}
 use Rattle.ripemd_files.specs.declared.line.Variant.{Variant}
 use Rattle.ripemd_files.specs.declared.printing.Style.{Style}
 use Rattle.ripemd_files.specs.declared.verdict.Options.{Options}
@@ -53,11 +53,11 @@ succeeded (Checks only options name answer) = answer
 succeeded (Says wrong answer) = answer
 succeeded _ = true
 
--- files are printed and lists are checked as the work has it
+-- files are printed and lists are checked as the work has it, and what is wrong is told
 abbrev pub IsOf : Work → Deed → Type 0
+IsOf work (Says wrong answer) = answer ≡ is_none wrong
 IsOf (Print style) (Prints same names answer) = same ≡ style
 IsOf (Check only options) (Checks same alike name answer) = (same ≡ only) × (alike ≡ options)
-IsOf work (Says wrong answer) = ⊤
 IsOf work _ = ⊥
 
 -- A run that still has these items to handle: it handles them in order, before it gets more, and ends when it gets none. It

@@ -150,15 +150,17 @@ pub record WorkedRuns : Type 0 where
   pub skipped : (success : Bool) → ¬ IsRun (works.Check None usual) (Gets (codes "a" ∷ codes "b" ∷ []) None ∷ checks (codes "b") true ∷ Says None true
       ∷ Gets [] None ∷ []) success
   pub unsaid : (success : Bool) → ¬ IsRun (works.Check None usual) (Gets [] (Some Input) ∷ Says None true ∷ Gets [] None ∷ []) success
+  pub not_told : (success : Bool) → ¬ IsRun (works.Print (plain R160)) (Gets [] (Some Input) ∷ Says (Some Input) true ∷ Gets [] None ∷ []) success
   pub other_style : (success : Bool) → ¬ IsRun (works.Print (plain R160)) (Gets (codes "a" ∷ []) None ∷ Prints (plain R128) (codes "a" ∷ []) true
       ∷ Gets [] None ∷ []) success
 
 -- what is done for arguments and requests, and what is not
 pub record WorkedDeeds : Type 0 where
-  pub help : DoesAsked (reading false Any (codes "--help" ∷ [])) (ShowsHelp ∷ []) true
-  pub version : DoesAsked (reading false Any (codes "--version" ∷ [])) (ShowsVersion ∷ []) true
-  pub refused : DoesAsked (reading false Any (codes "--tag" ∷ codes "--text" ∷ [])) (Refuses TextWithTag ∷ []) false
-  pub not_help : (deeds : List Deed) → ¬ DoesAsked (reading false Any (codes "--tag" ∷ codes "--text" ∷ [])) (ShowsHelp ∷ deeds) true
+  pub help : Performs Help (ShowsHelp ∷ []) true
+  pub version : Performs Version (ShowsVersion ∷ []) true
+  pub refused : DoesAsked (reading false Any (codes "-cz" ∷ [])) (Refuses ZeroWithCheck ∷ []) false
+  pub other_reason : (success : Bool) → ¬ DoesAsked (reading false Any (codes "-cz" ∷ [])) (Refuses TagWithCheck ∷ []) success
+  pub not_help : (success : Bool) → ¬ DoesAsked (reading false Any (codes "-cz" ∷ [])) (ShowsHelp ∷ []) success
   pub opened : (work : Work) (names : NameSource) → Performs (Run work names true) (Opens names true true ∷ Gets [] None ∷ []) true
   pub unopened : (work : Work) (names : NameSource) → Performs (Run work names false) (Opens names false false ∷ []) false
   pub no_success : (work : Work) (names : NameSource) → ¬ Performs (Run work names false) (Opens names false false ∷ []) true

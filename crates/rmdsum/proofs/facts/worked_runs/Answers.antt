@@ -30,7 +30,7 @@ both one other = (
         (refl, refl),
         refl,
         refl,
-        ([], true, tt, refl, refl, ends (Check None usual)),
+        ([], true, refl, refl, refl, ends (Check None usual)),
       ),
     ),
   ),
@@ -42,7 +42,7 @@ returns c = record {
   succeeds = both _ _;
   one_fails = both _ _;
   has_failed = λ success run. elim run.1 [ inl none ↦ cc none.0 | inr (some, got) ↦ got.4 ];
-  fault = (refl, inr ((λ none. cc none), (_, _, refl, refl, refl, ([], true, tt, refl, refl, ends (Print (plain R160))))));
+  fault = (refl, inr ((λ none. cc none), (_, _, refl, refl, refl, ([], true, refl, refl, refl, ends (Print (plain R160))))));
   early = λ success run. elim run.1 [ inl none ↦ cc none.0 | inr (some, got) ↦ cc got.3 ];
   all_first = λ success run. elim run.1 [ inl none ↦ cc none.0 | inr (some, got) ↦ cc got.0 ];
   on = λ success run. elim run.1 [ inl ended ↦ cc ended.1 | inr goes ↦ goes.0 refl ];
@@ -50,6 +50,7 @@ returns c = record {
   nothing = λ success run. run;
   skipped = λ success run. elim run.1 [ inl none ↦ cc none.0 | inr (some, got) ↦ cc got.3 ];
   unsaid = λ success run. elim run.1 [ inl none ↦ cc none.0 | inr (some, got) ↦ cc (got.3, got.5.0) ];
+  not_told = λ success run. elim run.1 [ inl none ↦ cc none.0 | inr (some, got) ↦ cc got.2 ];
   other_style = λ success run. elim run.1 [
     | inl none ↦ cc none.0
     | inr (some, got) ↦ omega (arith, ap (λ (style : Style). size_of style.variant) got.2)
