@@ -87,7 +87,6 @@ pub fn padding_laws()
 /// However a message is cut into pieces, its state is that of the whole message, and finishing that state gives its
 /// hash: for every block function over lists of numbers and messages of every length. For the four variants this is
 /// the digest.
-#[tactic(auto, using(crate::specs::Laws::Pieces::fed_nothing, crate::specs::Laws::Pieces::fed_twice, crate::specs::Laws::Pieces::finish_fed))]
 pub fn state_laws()
     ensures nothing { (step : List ℕ → List ℕ → List ℕ) (h : HashState)
         → h.count < 2 ^ 64 → length h.tail < block_size → fed step h [] ≡ h }
