@@ -22,7 +22,7 @@ fn are_written<D: Digest>(found: &Vec<D::Output>, digests: &[&str]) -> bool {
     true
 }
 
-// Whether the commands give these digests, or stop with this error; `None` if they are refused memory.
+// Whether the commands give these digests or this error; `None` if they are refused memory.
 fn is_answer<D: Digest + SerializableState>(
     alloc: Global,
     commands: &[Command],

@@ -2,8 +2,8 @@
 //! known. Each call has to give the right answer or, if an allocation fails, the error of memory,
 //! and then the right answer when it is made again.
 //!
-//! For each byte on standard input it first allocates and frees once. So the allocation that fails,
-//! the same one in each run, can be any of these calls'.
+//! First it allocates and frees once for each byte on standard input. So the allocation that fails,
+//! the same in each run, can be any of the calls'.
 #![tactic(auto)]
 
 mod lists;
@@ -32,7 +32,7 @@ impl Outcome {
         }
     }
 
-    // Of a refused call, by its second answer, which is `None` if it was refused, too.
+    // Of a refused call, by its second answer: `None` if refused, too.
     fn of_second(is_right: Option<bool>) -> Outcome {
         if is_right == Some(true) {
             Outcome::Refused

@@ -9,8 +9,8 @@ use ripemd_mac::{MacCollision, mac_collision};
 use std::alloc::{AllocError, Global};
 use std::io;
 
-// What a collision must have: whether it is in the inner messages, place and state of both
-// meetings, how the blocks begin, and the state after both steps.
+// What a collision must have: inner messages or not, place and state of both meetings, how the
+// blocks begin, and the state after both steps.
 #[derive(Clone, Copy, PartialEq, Eq)]
 struct Shape {
     is_inner: bool,
@@ -20,7 +20,7 @@ struct Shape {
     step: [u8; 2],
 }
 
-// Whether the collision of two texts is as wanted, if any is, and the check takes it.
+// Whether the collision of two texts, if any, is as wanted, and the check takes it.
 fn is_answer(alloc: Global, a: &[u8], b: &[u8], wanted: &Option<Shape>) -> Result<bool, AllocError>
     requires a_short { length a.now < 2 ^ 61 - 64 }
     requires b_short { length b.now < 2 ^ 61 - 64 }

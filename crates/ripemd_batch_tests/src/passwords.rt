@@ -65,7 +65,7 @@ fn keys_of_others(rt: HostRuntime) {
     assert!(rt; derives::<Ripemd320Function>(key));
 }
 
-// Without rounds nothing is written, not even a key of no bytes.
+// No rounds: an error, even for no bytes, and nothing is written.
 #[test]
 fn no_rounds(rt: HostRuntime) {
     let mut key = [7; 20];

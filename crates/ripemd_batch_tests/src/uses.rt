@@ -117,7 +117,7 @@ fn collisions(rt: HostRuntime) {
     assert!(rt; places_of_collision(&a, &b) == Some((1, 1)));
 }
 
-// The toy's digest is the exclusive or of the first byte of each block; after 64 bytes comes a block of padding.
+// The toy's digest is the exclusive or of the first byte of each block; 64 bytes have a second block.
 #[test]
 fn toys(rt: HostRuntime) {
     assert!(rt; toy_digest(b"a", b"bc") == [b'a']);

@@ -9,7 +9,7 @@ use ripemd_block::block_api::{
     Ripemd320Function,
 };
 
-// The message words of a line, round by round.
+// The message word numbers of a line, round by round.
 static LEFT_NUMBERS: [[usize; 16]; 5] = [
     [0, 1, 2, 3, 4, 5, 6, 7, 8, 9, 10, 11, 12, 13, 14, 15],
     [7, 4, 13, 1, 10, 6, 15, 3, 12, 0, 9, 5, 2, 14, 11, 8],
