@@ -22,8 +22,8 @@ use crate::verdict::{Options, Tally, Verdict};
 use crate::writing::push_text;
 use std::alloc::{AllocError, Global};
 
-/// Checks a list: reads it, and the files that its lines name, writes a line for each file, and remarks on unreadable
-/// files, misformatted lines, and counts. Whether the check succeeds.
+/// Checks a list of which no read has failed: reads it, and the files that its lines name, writes a line for each
+/// file, and remarks on unreadable files, misformatted lines, and counts. Whether the check succeeds.
 ///
 /// `layout` holds the layout that the first untagged line of this or an earlier list decides.
 ///
@@ -33,7 +33,7 @@ use std::alloc::{AllocError, Global};
 /// - `NoMemory`: memory is exhausted.
 /// - `TooManyLines`: the list has more than 2^64 - 2 lines.
 ///
-/// Till then the front of the report was told.
+/// Till then the front of the report was told. `layout` is as it was.
 #[tactic(auto, using(crate::proofs::Checked::stops_at_once))]
 pub fn check_list<F: Folder, R: ReadList, L: Log>(
     alloc: Global,
