@@ -39,7 +39,7 @@ pub enum ReplayError {
     /// There is no such saved state.
     #[error("command {at}: no saved state {saved}")]
     NoSaved { at: usize, saved: usize },
-    /// No state has the bytes to import.
+    /// The bytes to import are no saved state.
     #[error("command {at}: bad state")]
     BadState { at: usize },
     /// An allocation failed, before any bad command.
