@@ -18,7 +18,7 @@ pub fn mac_collisions()
     ensures { WorkedMacCollisions }
 {}
 
-/// The definition gives OpenSSL's keys, and the keys of a constant function.
+/// The definition gives OpenSSL's keys, and a key by a constant function.
 pub fn keys()
     ensures { WorkedKeys }
 {}

@@ -210,7 +210,7 @@ impl<F: ResumableFunction> Hmac<BlockHasher<F>> {
     }
 }
 
-/// Whether bytes are equal. Of equal lengths, it compares all of them, whatever they are.
+/// Whether bytes are equal. If their lengths are, it compares all bytes, whatever they are.
 pub fn all_equal(a: &[u8], b: &[u8]) -> bool
     ensures { IsTrue result ↔ (a.now ≡ b.now) }
 {
@@ -233,8 +233,8 @@ pub struct MaskedKeys {
     pub outer: [u8; 64],
 }
 
-/// The key, or its digest if longer than 64 bytes, filled with zeros to 64 bytes, each byte masked by 0x36 for `inner`
-/// and by 0x5c for `outer` (RFC 2104). The tag of a text is `hash(outer ++ hash(inner ++ text))`.
+/// The key, or its digest if longer than 64 bytes, filled with zeros to 64 bytes, each byte xored with 0x36 for `inner`
+/// and with 0x5c for `outer` (RFC 2104). The tag of a text is `hash(outer ++ hash(inner ++ text))`.
 pub fn masked_keys<D: BlockDigest>(key: &[u8]) -> MaskedKeys
     ensures inner { result.inner
         ≡ masked 0x36 (key_block (hash D.start D.step D.output) key.now) }
