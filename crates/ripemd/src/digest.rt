@@ -10,11 +10,11 @@ pub use ripemd_block::block_api::{
     HashMeaning, OutputSizeUser, Reset, SerializableState, UpdateCore,
 };
 
-/// A hash function that takes a message in pieces and gives its digest at the end. The calls have the names of the
-/// Rust crate `digest`, and none of them allocates or fails.
+/// A hash function that takes a message in pieces and gives its digest. The calls have the names of the Rust crate
+/// `digest`; none allocates or fails.
 ///
-/// How a message is cut into pieces makes no difference. Its length in bits is taken modulo 2^64, as in MD4, and so
-/// is the count of its blocks.
+/// How a message is cut into pieces makes no difference. Its length in bits, as in MD4, and its count of blocks are
+/// taken modulo 2^64.
 pub trait Digest: OutputSizeUser + HashMeaning + Drop {
     // The words to start from.
     ghost start: { List ℕ };
@@ -40,7 +40,7 @@ pub trait Digest: OutputSizeUser + HashMeaning + Drop {
         ensures valid_old { Self.is_valid (Self.meaning self.old) }
         ensures valid_new { Self.is_valid (Self.meaning self.new) };
 
-    /// Gives the digest of the message so far, and leaves the hasher as `new()` makes it.
+    /// Gives the digest, and resets the hasher.
     fn finalize_reset(&mut self) -> Self::Output
         ensures digest { Self.bytes_of result ≡ finish step output (Self.meaning self.old) }
         ensures message { (message : List ℕ)
@@ -51,18 +51,18 @@ pub trait Digest: OutputSizeUser + HashMeaning + Drop {
         ensures valid_old { Self.is_valid (Self.meaning self.old) }
         ensures valid_new { Self.is_valid (Self.meaning self.new) };
 
-    /// Forgets the message so far, and leaves the hasher as `new()` makes it.
+    /// Makes the hasher what `new()` gives.
     fn reset(&mut self)
         ensures meaning { Self.meaning self.new ≡ initial_state start }
         ensures valid_old { Self.is_valid (Self.meaning self.old) }
         ensures valid_new { Self.is_valid (Self.meaning self.new) };
 
-    /// A second hasher of the same message, independent of this one.
+    /// An independent copy of the hasher.
     fn duplicate(&self) -> Self
         ensures same { result ≡ self.now }
         ensures valid { Self.is_valid (Self.meaning self.now) };
 
-    /// The bytes of a digest: `output_size()` of them, at most 64.
+    /// The bytes of a digest: `output_size()`, at most 64.
     fn output_bytes(out: &Self::Output) -> &[u8]
         ensures bytes { result.now ≡ Self.bytes_of out.now }
         ensures size { length result.now ≡ Self.OUTPUT_SIZE }
@@ -81,7 +81,7 @@ pub trait Digest: OutputSizeUser + HashMeaning + Drop {
         hasher
     }
 
-    /// The hasher after an `update` with `bytes`, so that calls can be chained.
+    /// The hasher after `update(bytes)`, for chains of calls.
     final fn chain_update(self, bytes: &[u8]) -> Self
     where
         Self: Sized,
@@ -97,7 +97,7 @@ pub trait Digest: OutputSizeUser + HashMeaning + Drop {
         hasher
     }
 
-    /// Gives the digest of the message, and ends the hasher.
+    /// Gives the digest, and ends the hasher.
     final fn finalize(self) -> Self::Output
     where
         Self: Sized,
@@ -112,7 +112,7 @@ pub trait Digest: OutputSizeUser + HashMeaning + Drop {
         hasher.finalize_reset()
     }
 
-    /// Writes the digest of the message to `out`, and ends the hasher.
+    /// Writes the digest to `out`, and ends the hasher.
     final fn finalize_into(self, out: &mut Self::Output)
     where
         Self: Sized,
@@ -124,7 +124,7 @@ pub trait Digest: OutputSizeUser + HashMeaning + Drop {
         *out = self.finalize();
     }
 
-    /// Writes the digest of the message so far to `out`, and leaves the hasher as `new()` makes it.
+    /// Writes the digest to `out`, and resets the hasher.
     final fn finalize_into_reset(&mut self, out: &mut Self::Output)
     where
         Self: Sized,

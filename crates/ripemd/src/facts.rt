@@ -1,4 +1,4 @@
-//! Worked examples of the definitions. The functions do nothing; their contracts are the facts.
+//! Worked examples of the definitions, as contracts of functions that do nothing.
 
 ghost use Rattle.ripemd.specs.Worked.{WorkedPlaces, WorkedCollisions};
 

@@ -1,4 +1,4 @@
-//! The hasher of a block function, and those of the four variants.
+//! The hasher of any block function, and of the four variants.
 
 ghost use Rattle.std.specs.Prelude.{◌≡◌, ⊤};
 ghost use Rattle.ripemd_block.specs.States.{HashState, IsHashState, initial_state, with_tail};
@@ -25,30 +25,30 @@ pub struct BlockHasher<F: ListBlockFunction> {
     pub(crate) buffer: Buffer,
 }
 
-/// The hasher of RIPEMD-128 (1996), with digests of 16 bytes.
+/// The hasher of RIPEMD-128 (1996), with 16-byte digests.
 pub type Ripemd128 = BlockHasher<Ripemd128Function>;
 
-/// The hasher of RIPEMD-160 (1996), with digests of 20 bytes.
+/// The hasher of RIPEMD-160 (1996), with 20-byte digests.
 pub type Ripemd160 = BlockHasher<Ripemd160Function>;
 
-/// The hasher of RIPEMD-256 (1996), with digests of 32 bytes. It is no stronger than RIPEMD-128.
+/// The hasher of RIPEMD-256 (1996), with 32-byte digests. It is no stronger than RIPEMD-128.
 pub type Ripemd256 = BlockHasher<Ripemd256Function>;
 
-/// The hasher of RIPEMD-320 (1996), with digests of 40 bytes. It is no stronger than RIPEMD-160.
+/// The hasher of RIPEMD-320 (1996), with 40-byte digests. It is no stronger than RIPEMD-160.
 pub type Ripemd320 = BlockHasher<Ripemd320Function>;
 
 impl Ripemd128 {
-    /// The object identifier of RIPEMD-128, of TeleTrusT's arc of hash functions, 1.3.36.3.2.
+    /// The object identifier of RIPEMD-128, in TeleTrusT's arc 1.3.36.3.2.
     pub const OID: &'static str = "1.3.36.3.2.2";
 }
 
 impl Ripemd160 {
-    /// The object identifier of RIPEMD-160, of TeleTrusT's arc of hash functions, 1.3.36.3.2.
+    /// The object identifier of RIPEMD-160, in TeleTrusT's arc 1.3.36.3.2.
     pub const OID: &'static str = "1.3.36.3.2.1";
 }
 
 impl Ripemd256 {
-    /// The object identifier of RIPEMD-256, of TeleTrusT's arc of hash functions, 1.3.36.3.2.
+    /// The object identifier of RIPEMD-256, in TeleTrusT's arc 1.3.36.3.2.
     pub const OID: &'static str = "1.3.36.3.2.3";
 }
 
@@ -61,7 +61,7 @@ impl<F: ListBlockFunction> Model for BlockHasher<F> {
 }
 
 impl<F: ListBlockFunction> BlockHasher<F> {
-    /// The hasher of a block core and of the tail after its blocks.
+    /// The hasher of a block core and the tail after its blocks.
     #[inline(always)]
     pub fn from_parts(core: BlockCore<F>, tail: Buffer) -> BlockHasher<F>
         ensures { result ≡ with_tail core tail }
@@ -73,7 +73,7 @@ impl<F: ListBlockFunction> BlockHasher<F> {
         BlockHasher { core, buffer: tail }
     }
 
-    /// Its block core, and the tail after the core's blocks.
+    /// The block core, and the tail after its blocks.
     #[inline(always)]
     pub fn parts(&self) -> (&BlockCore<F>, &[u8])
         ensures same { with_tail result.0.now result.1.now ≡ self.now }

@@ -8,13 +8,13 @@ use crate::digest::{Digest, OutputSizeUser};
 use crate::hashers::BlockHasher;
 use ripemd_block::block_api::ListBlockFunction;
 
-/// A hasher or an HMAC: it takes a message in pieces, and gives its digest or its tag at the end. How
-/// the message is cut makes no difference. No call allocates or fails.
+/// A hasher or an HMAC: it takes a message in pieces, and gives its digest or tag. How the message is cut makes no
+/// difference. No call allocates or fails.
 pub trait Incremental: Sized + Drop {
-    /// The hash function that its outputs are digests of.
+    /// The hash function that gives the outputs.
     type Hash: Digest;
 
-    // What it begins with: the key of an HMAC; nothing for a hasher.
+    // The key of an HMAC; nothing for a hasher.
     ghost Origin: { Type 0 };
 
     // The state before the first byte.
@@ -33,7 +33,7 @@ pub trait Incremental: Sized + Drop {
     fn update(&mut self, bytes: &[u8])
         ensures { self.new ≡ fed self.old bytes.now };
 
-    /// Gives the digest or the tag of the message.
+    /// Gives the digest or tag.
     fn finalize(self) -> <Self::Hash as OutputSizeUser>::Output
         ensures { Self.Hash.bytes_of result ≡ finish self };
 

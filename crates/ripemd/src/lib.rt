@@ -1,5 +1,5 @@
 //! The hashers of RIPEMD-128, RIPEMD-160, RIPEMD-256 and RIPEMD-320 (Dobbertin, Bosselaers and
-//! Preneel, 1996), and the trait [`Digest`], by which they take a message in piece by piece.
+//! Preneel, 1996), and their trait [`Digest`].
 #![tactic(auto)]
 
 pub mod digest;

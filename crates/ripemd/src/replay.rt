@@ -1,4 +1,4 @@
-//! Lists of commands over numbered hashers: what each of their digests is, whatever the commands.
+//! Lists of commands over numbered hashers, and the digests that they give.
 
 ghost use Rattle.std.specs.Prelude.{◌≡◌, [], ◌∷◌, ◌++◌, map, IfOk, IfErr, OnOk, MatchResult};
 ghost use Rattle.ripemd.specs.Replay.{Machine, Does, Gives, Explains, Stops};
@@ -9,8 +9,7 @@ use ripemd_block::block_api::SerializableState;
 use std::alloc::Global;
 use thiserror::Error;
 
-/// A command to numbered hashers and numbered saved states. Both are numbered from 0, in the order
-/// in which they are made.
+/// A command to hashers and saved states, each numbered from 0 in the order in which they are made.
 #[derive(Clone, Copy, Debug)]
 pub enum Command<'a> {
     /// Makes the next hasher, of the empty message.
@@ -19,7 +18,7 @@ pub enum Command<'a> {
     Update { hasher: usize, bytes: &'a [u8] },
     /// Resets a hasher.
     Reset { hasher: usize },
-    /// Adds the digest of a hasher to the answer, and resets the hasher.
+    /// Adds the digest of a hasher to the answer, and resets it.
     Finish { hasher: usize },
     /// Makes the next hasher, a copy of this one.
     Fork { hasher: usize },
@@ -27,38 +26,38 @@ pub enum Command<'a> {
     Save { hasher: usize },
     /// Makes the next hasher from a saved state.
     Load { saved: usize },
-    /// Makes the next hasher from a state that was saved elsewhere as these bytes.
+    /// Makes the next hasher from the bytes of a state saved elsewhere.
     Import { bytes: &'a [u8] },
 }
 
-/// Why a list of commands has no answer; `at` is the place of the first bad one, counted from 0.
+/// Why a list of commands has no answer; `at` is the place, counted from 0, of the first bad one.
 #[derive(PartialEq, Eq, Debug, Drop, Error)]
 pub enum ReplayError {
-    /// The command names a hasher that is not there.
+    /// There is no such hasher.
     #[error("command {at}: no hasher {hasher}")]
     NoHasher { at: usize, hasher: usize },
-    /// The command names a saved state that is not there.
+    /// There is no such saved state.
     #[error("command {at}: no saved state {saved}")]
     NoSaved { at: usize, saved: usize },
-    /// No state is saved as the bytes of the command, which is an import.
+    /// The bytes to import are no saved state.
     #[error("command {at}: bad state")]
     BadState { at: usize },
-    /// An allocation failed, before any command that is bad.
+    /// An allocation failed, before any bad command.
     #[error("out of memory")]
     OutOfMemory,
 }
 
-/// Runs commands in order, from no hashers and no saved states, and gives the digests of the
-/// hashers that were finished, in that order.
+/// Runs commands in order, from no hashers and no saved states, and gives the digests of the finished hashers, in that
+/// order.
 ///
-/// Each digest is the hash of the bytes that its hasher was updated with since `New`, `Reset` or
-/// `Finish`. A fork has the bytes of its original, and a loaded hasher those of the saved one. If the
-/// bytes follow a state given by `Import`, the digest is that of this state, updated with these bytes.
+/// Each digest is the hash of the bytes that its hasher got since `New`, `Reset` or `Finish`. A forked or loaded hasher
+/// has the bytes of its original. After `Import`, the digest is that of the imported state, updated with the bytes
+/// since.
 ///
 /// # Errors
 ///
-/// `NoHasher`, `NoSaved` or `BadState` at the first bad command; those before it ran. `OutOfMemory` if
-/// an allocation of a command before it fails. A bad command allocates nothing, nor does an empty list.
+/// `NoHasher`, `NoSaved` or `BadState` at the first bad command; those before it ran. `OutOfMemory` if an allocation
+/// fails first. A bad command and an empty list allocate nothing.
 pub fn replay<D: Digest + SerializableState>(
     alloc: Global,
     commands: &[Command],
@@ -80,7 +79,7 @@ pub fn replay<D: Digest + SerializableState>(
     Ok(digests)
 }
 
-// Runs the command at place `at`: afterwards the vectors hold what the machine has.
+// Runs the command at place `at`, as the machine does.
 fn apply<D: Digest + SerializableState>(
     hashers: &mut Vec<D>,
     arrays: &mut Vec<D::Saved>,

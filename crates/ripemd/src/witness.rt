@@ -1,8 +1,7 @@
 //! From a collision of a hash to a collision of its block function.
 //!
-//! Two messages are hashed side by side, the one with more blocks ahead, so that both end together.
-//! If they end in one state, then at the last place where their states or their blocks differ the block
-//! function takes two different inputs to one state.
+//! Two messages are hashed side by side, the one with more blocks ahead, so that both end together. If they end in one
+//! state, the last place where their states or their blocks differ is a collision of the block function.
 
 ghost use Rattle.std.specs.Prelude.{◌≡◌, ◌≢◌, ◌<◌, ◌≤◌, ◌^◌, ◌↔◌, ◌⊎◌, IsTrue, IsNone, IfSome};
 ghost use Rattle.std.specs.Prelude.{[], length, take, slice_index_or};
@@ -12,7 +11,7 @@ ghost use Rattle.ripemd.specs.Collisions.{pair_of, state_after, IsCollision, IsO
 pub use ripemd_block::block_api::BlockFunction;
 use ripemd_block::padding::{block_count, pad_block};
 
-/// A block of a message with its padding, and the state before it.
+/// A block of a padded message, and the state before it.
 #[derive(Clone, Copy, PartialEq, Eq, Debug)]
 pub struct Meeting<S> {
     /// The place of the block, counted from 0.
@@ -32,14 +31,13 @@ pub struct Collision<S> {
     pub right: Meeting<S>,
 }
 
-/// Gives, for two different messages with the same hash, the collision of the block function to
-/// which they lead: a place in each, with as many blocks after the one as after the other, where
-/// the pairs of state and block differ, the block function takes both to one state, and all pairs
-/// after them agree. There is exactly one.
+/// Gives the collision of the block function to which two different messages with the same hash lead: a place in each,
+/// equally far from the end, where the pairs of state and block differ, the block function takes both to one state, and
+/// all later pairs agree. There is exactly one.
 ///
-/// `None` exactly if the messages are equal or their hashes differ. Each message has fewer than
-/// 2^61 bytes, since from there on messages of different lengths can end in the same length in
-/// bits. It searches for nothing, hashes both messages once and allocates nothing.
+/// `None` exactly if the messages are equal or their hashes differ. Each message has fewer than 2^61 bytes, since
+/// longer ones of different lengths can end in the same length in bits. It hashes both messages once and allocates
+/// nothing.
 pub fn collision_witness<F: BlockFunction>(a: &[u8], b: &[u8]) -> Option<Collision<F::State>>
     requires a_short { length a.now < 2 ^ 61 }
     requires b_short { length b.now < 2 ^ 61 }
@@ -51,7 +49,6 @@ pub fn collision_witness<F: BlockFunction>(a: &[u8], b: &[u8]) -> Option<Collisi
 {
     let left_count = block_count(a);
     let right_count = block_count(b);
-    // The message with more blocks is hashed ahead, until both have as many left.
     let left_ahead = left_count.saturating_sub(right_count);
     let right_ahead = right_count.saturating_sub(left_count);
     let mut left_state = state_at::<F>(a, left_ahead);
@@ -73,8 +70,8 @@ pub fn collision_witness<F: BlockFunction>(a: &[u8], b: &[u8]) -> Option<Collisi
     }
 }
 
-/// Whether the two pairs of state and block differ, and the block function takes both to one state. Places and
-/// messages do not count.
+/// Whether the two pairs of state and block differ, and the block function takes both to one state. Places do not
+/// count.
 pub fn check_collision<F: BlockFunction>(collision: &Collision<F::State>) -> bool
     ensures { IsTrue result
         ↔ ((pair_of collision.now.left ≢ pair_of collision.now.right)
@@ -87,7 +84,7 @@ pub fn check_collision<F: BlockFunction>(collision: &Collision<F::State>) -> boo
         && F::step(left.state, &left.block) == F::step(right.state, &right.block)
 }
 
-// The state before the block at a place, which may be the end.
+// The state before the block at a place, or at the end.
 fn state_at<F: BlockFunction>(message: &[u8], place: usize) -> F::State
     requires { place ≤ length (blocks (padded_message message.now)) }
     ensures value { result

@@ -22,7 +22,7 @@ fn are_written<D: Digest>(found: &Vec<D::Output>, digests: &[&str]) -> bool {
     true
 }
 
-// Whether the commands give these digests, or stop with this error; `None` if they are refused memory.
+// Whether the commands give these digests or this error; `None` if they are refused memory.
 fn is_answer<D: Digest + SerializableState>(
     alloc: Global,
     commands: &[Command],
@@ -37,7 +37,7 @@ fn is_answer<D: Digest + SerializableState>(
     }
 }
 
-// Prints what becomes of a list that gives these digests, or stops with this error.
+// Prints the outcome of a list with these digests or this error.
 fn print_outcome<D: Digest + SerializableState + AlgorithmName>(
     rt: &HostRuntime,
     name: &str,
@@ -94,7 +94,7 @@ fn saved() -> [Command<'static>; 7] {
     ]
 }
 
-// A saved state stays as it was when it was saved.
+// A saved state stays as it was.
 fn saved_before() -> [Command<'static>; 6] {
     [
         Command::New,
@@ -113,8 +113,8 @@ static BAD_COMMAND: [Command; 3] = [
     Command::Load { saved: 5 },
 ];
 
-// Prints what becomes of lists by a hasher with these digests of no bytes, of "abc" and of "Hello world!". The empty
-// list, and one whose first command is bad, allocate nothing.
+// Prints the outcomes by a hasher with these digests of no bytes, of "abc" and of "Hello world!".
+// The empty list and the load of nothing allocate nothing.
 fn print_outcomes_by<'a, D: Digest + SerializableState + AlgorithmName>(
     rt: &HostRuntime,
     empty: &'a str,
@@ -133,8 +133,8 @@ fn print_outcomes_by<'a, D: Digest + SerializableState + AlgorithmName>(
     print_outcome::<D>(rt, "a load of nothing", &load, &[], Some(no_saved))
 }
 
-// The words of a new hasher of RIPEMD-160, and of one that took in 64 letters "a", as another
-// implementation has them; what others give for 65 of them.
+// The words of a new hasher of RIPEMD-160 and of one after 64 letters "a", from another
+// implementation; the digest of 65 letters, from others.
 const START_WORDS: &[u8; 20] =
     b"\x01\x23\x45\x67\x89\xab\xcd\xef\xfe\xdc\xba\x98\x76\x54\x32\x10\xf0\xe1\xd2\xc3";
 
@@ -143,8 +143,7 @@ const WORDS_OF_LETTERS: &[u8; 20] =
 
 const LETTERS: &str = "99724bb11811e7166af38f671b6a082d8ab4960b";
 
-// What a hasher of RIPEMD-160 is saved as: its words, its count of blocks, the length of its tail,
-// the tail, and zero bytes.
+// A saved hasher of RIPEMD-160: words, count of blocks, length of the tail, tail, zeros.
 fn state_160(words: &[u8; 20], block_count: u64, tail: &[u8]) -> [u8; 92] {
     let mut bytes = [0; 92];
     if tail.len() < 64 {
@@ -176,9 +175,8 @@ fn save_imported_again<'a>(state: &'a [u8]) -> [Command<'a>; 5] {
     ]
 }
 
-// Prints what becomes of lists with imported states: of a hasher that took in "abc", of one that
-// took in 65 letters "a", of one with so many blocks that the message's length in bits is a multiple
-// of 2^64, and of none. The last asks for no memory.
+// Prints the outcomes of imported states: after "abc", after 65 letters "a", after 2^55 blocks
+// (2^64 bits), and of a bad one, which asks for no memory.
 fn print_outcomes_of_imports(rt: &HostRuntime) -> io::Result<()> {
     let abc = state_160(START_WORDS, 0, b"abc");
     let letters = state_160(WORDS_OF_LETTERS, 1, b"a");
@@ -214,7 +212,7 @@ fn print_outcomes_of_imports(rt: &HostRuntime) -> io::Result<()> {
     print_outcome::<Ripemd160>(rt, "a bad state", &bad, &[], Some(error))
 }
 
-/// Prints what becomes of each list.
+/// Prints the outcome of each list.
 pub(crate) fn print_outcomes(rt: &HostRuntime) -> io::Result<()> {
     print_outcomes_by::<Ripemd160>(rt, OF_160.empty, OF_160.abc, HELLO_160)?;
     print_outcomes_by::<Ripemd320>(rt, OF_320.empty, OF_320.abc, HELLO_320)?;

@@ -1,9 +1,9 @@
-//! The calls that allocate, `replay` and `mac_collision`, with lists and texts whose answers are known.
-//! An allocation may fail: each call has to give the right answer, or the error of memory; after the
-//! error, the same call has to give the right answer.
+//! The calls that allocate, `replay` and `mac_collision`, with lists and texts whose answers are
+//! known. Each call has to give the right answer or, if an allocation fails, the error of memory,
+//! and then the right answer when it is made again.
 //!
-//! For each byte on standard input it first allocates once and frees that. So the allocation that
-//! fails, the same one in each run, can be any of these calls'.
+//! First it allocates and frees once for each byte on standard input. So the allocation that fails,
+//! the same in each run, can be any of the calls'.
 #![tactic(auto)]
 
 mod lists;
@@ -14,7 +14,7 @@ use std::alloc::Global;
 use std::io;
 use std::io::Read;
 
-// What became of a call: answered; refused, and answered when it was made again; or neither.
+// What became of a call: answered; refused, then answered; or neither.
 #[derive(Clone, Copy)]
 enum Outcome {
     Answered,
@@ -23,7 +23,7 @@ enum Outcome {
 }
 
 impl Outcome {
-    // Of a call that was not refused, where its answer was right or not.
+    // Of a call that was not refused.
     fn of_answer(is_right: bool) -> Outcome {
         if is_right {
             Outcome::Answered
@@ -32,7 +32,7 @@ impl Outcome {
         }
     }
 
-    // Of a call that was refused, where the second one was refused too or its answer right or not.
+    // Of a refused call, by its second answer: `None` if refused, too.
     fn of_second(is_right: Option<bool>) -> Outcome {
         if is_right == Some(true) {
             Outcome::Refused
@@ -50,7 +50,7 @@ impl Outcome {
     }
 }
 
-// Takes memory, if it is not refused, and gives it back.
+// Allocates, if it can, and frees.
 fn take_memory(alloc: Global) {
     let mut bytes = Vec::new(alloc);
     let _ = bytes.push(0u8);

@@ -9,8 +9,8 @@ use ripemd_mac::{MacCollision, mac_collision};
 use std::alloc::{AllocError, Global};
 use std::io;
 
-// What is wanted of a collision: whether it is in the inner messages, the place and the state of both
-// meetings, how the two blocks begin, and the state to which both steps lead.
+// What a collision must have: inner messages or not, place and state of both meetings, how the
+// blocks begin, and the state after both steps.
 #[derive(Clone, Copy, PartialEq, Eq)]
 struct Shape {
     is_inner: bool,
@@ -20,8 +20,7 @@ struct Shape {
     step: [u8; 2],
 }
 
-// Whether the collision of two texts has this shape, and the check takes it; where none is wanted,
-// whether there is none.
+// Whether the collision of two texts, if any, is as wanted, and the check takes it.
 fn is_answer(alloc: Global, a: &[u8], b: &[u8], wanted: &Option<Shape>) -> Result<bool, AllocError>
     requires a_short { length a.now < 2 ^ 61 - 64 }
     requires b_short { length b.now < 2 ^ 61 - 64 }
@@ -48,7 +47,7 @@ fn is_answer(alloc: Global, a: &[u8], b: &[u8], wanted: &Option<Shape>) -> Resul
     )
 }
 
-// Prints what becomes of a pair of texts, whose collision is this one.
+// Prints the outcome of a pair of texts with this collision.
 fn print_outcome(
     rt: &HostRuntime,
     name: &str,
@@ -86,7 +85,7 @@ fn zeros_but<const N: usize>(place: usize, byte: u8) -> [u8; N] {
     bytes
 }
 
-// Prints what becomes of texts of 5,000 bytes that differ near the end.
+// Prints the outcome of texts of 5,000 bytes.
 fn print_outcome_of_long(rt: &HostRuntime) -> io::Result<()> {
     let wanted = inner_at(66, ([0, 0], [0, 0]), [129, 54]);
     let a: [u8; 5_000] = zeros_but(4_200, 1);
@@ -94,9 +93,9 @@ fn print_outcome_of_long(rt: &HostRuntime) -> io::Result<()> {
     print_outcome(rt, "long texts", &a, &b, wanted)
 }
 
-/// Prints what becomes of each pair of texts. Outer messages, equal texts, and texts whose tags differ
-/// ask for no memory. The blocks of outer messages begin with the digests of the inner ones. The
-/// expected values come from a textbook program of HMAC and of collisions.
+/// Prints the outcome of each pair of texts. Only collisions of inner messages ask for memory. The
+/// blocks of outer messages begin with the digests of the inner ones. The expected values come from
+/// a textbook program of HMAC and of collisions.
 pub(crate) fn print_outcomes(rt: &HostRuntime) -> io::Result<()> {
     let wanted = inner_at(1, ([1, 2], [2, 1]), [21, 54]);
     print_outcome(rt, "two bytes", &[1, 2], &[2, 1], wanted)?;

@@ -1,4 +1,4 @@
-//! A hash function whose state and digest are two bytes: collisions of it are easy to make.
+//! A hash function with a state and a digest of two bytes, so that collisions are easy to make.
 
 ghost use Rattle.std.specs.Prelude.{◌+◌, ◌%◌, [], ◌∷◌, slice_index, ⊤};
 ghost use Rattle.std.specs.List.{fold};
@@ -9,8 +9,7 @@ use ripemd::{BlockHasher, ListBlockFunction};
 use ripemd_tests::bytes::sum_from;
 use std::marker::Model;
 
-/// The block function: a step adds all bytes of the block to the first byte of the state, and the last byte to the
-/// second.
+/// The block function: a step adds all bytes of the block to the first byte of the state, and the last to the second.
 pub(crate) enum SumsFunction {}
 
 impl BlockFunction for SumsFunction {
@@ -64,7 +63,7 @@ impl ListBlockFunction for SumsFunction {
     ghost digest_most = { Prim.search rules };
 }
 
-/// The hasher. It implements `Digest` and `BlockDigest` itself, as any other crate can.
+/// The hasher, which implements `Digest` and `BlockDigest` itself, as any crate can.
 #[derive(Drop)]
 pub(crate) struct Sums {
     hasher: BlockHasher<SumsFunction>,

@@ -1,5 +1,5 @@
-//! The compression function of RIPEMD-128 (1996, pseudo-code), of many messages: both lines start
-//! from the whole state, and nothing is exchanged between them.
+//! The compression function of RIPEMD-128 (1996, pseudo-code) over many messages: both lines start
+//! from the whole state and exchange nothing.
 
 ghost use Rattle.std.specs.Prelude.{◌≡◌, ◌<◌, ℕ, List, map};
 ghost use Rattle.ripemd_block.specs.Standard.Compression.{joint_state, compress, ripemd128};
@@ -8,7 +8,6 @@ ghost use Rattle.ripemd_batch.specs.Lanes.{HasWords, lane_of};
 use crate::lanes::Lanes;
 use crate::lines::{Lines, round};
 
-// The new states.
 #[inline(always)]
 fn joint_state<V: Lanes>(state: [V; 4], lines: Lines<[V; 4]>) -> [V; 4]
     ensures { (j : ℕ) → j < V.COUNT → lane_of 4 j (map V.words result)
@@ -25,7 +24,7 @@ fn joint_state<V: Lanes>(state: [V; 4], lines: Lines<[V; 4]>) -> [V; 4]
     ]
 }
 
-/// The states after a block of each message, with these message words.
+/// The states after a block of each message.
 #[tactic(auto, unfolding(ripemd_block::specs::Standard::Compression::compress, ripemd_block::specs::Standard::Compression::lines_after))]
 pub(crate) fn compress<V: Lanes>(state: [V; 4], words: &[V; 16]) -> [V; 4]
     ensures { (j : ℕ) → j < V.COUNT → (block : List ℕ) → HasWords (map V.words words.now) j block

@@ -1,5 +1,5 @@
-//! The compression function of RIPEMD-320 (1996, extension to 320 bits), of many messages: each
-//! line starts from its half of the state, and after each round the lines exchange a register.
+//! The compression function of RIPEMD-320 (1996, extension to 320 bits) over many messages: each line starts from its
+//! half of the state, and after each round the lines exchange a register: B, D, A, C, E in turn.
 
 ghost use Rattle.std.specs.Prelude.{◌≡◌, ◌<◌, ℕ, List, map};
 ghost use Rattle.ripemd_block.specs.Standard.Compression.{lines_from, double_state};
@@ -10,7 +10,6 @@ ghost use Rattle.ripemd_batch.specs.Lanes.{HasWords, lane_of};
 use crate::lanes::Lanes;
 use crate::lines::{Lines, exchange, round};
 
-// Where the lines start.
 #[inline(always)]
 fn lines_from<V: Lanes>(state: [V; 10]) -> Lines<[V; 5]>
     ensures { (j : ℕ) → j < V.COUNT → both_lines (lane_of 5 j (map V.words result.left))
@@ -23,7 +22,6 @@ fn lines_from<V: Lanes>(state: [V; 10]) -> Lines<[V; 5]>
     }
 }
 
-// The new states.
 #[tactic(auto, using(crate::proofs::OneLane::word_in))]
 #[inline(always)]
 fn double_state<V: Lanes>(state: [V; 10], lines: Lines<[V; 5]>) -> [V; 10]
@@ -47,8 +45,7 @@ fn double_state<V: Lanes>(state: [V; 10], lines: Lines<[V; 5]>) -> [V; 10]
     ]
 }
 
-/// The states after a block of each message, with these message words. The registers that are exchanged are B, D, A,
-/// C and E in turn.
+/// The states after a block of each message.
 pub(crate) fn compress<V: Lanes>(state: [V; 10], words: &[V; 16]) -> [V; 10]
     ensures { (j : ℕ) → j < V.COUNT → (block : List ℕ) → HasWords (map V.words words.now) j block
         → lane_of 10 j (map V.words result)

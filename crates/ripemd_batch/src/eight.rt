@@ -109,7 +109,7 @@ impl Lanes for Eight {
 }
 
 impl Eight {
-    // The words of messages 0 to 3, and of messages 4 to 7.
+    // The words of messages 0 to 3, and 4 to 7.
     #[inline(always)]
     fn joined(low: Four, high: Four) -> Eight
         ensures { result ≡ low ++ high }

@@ -1,5 +1,4 @@
-//! Facts of the definitions of lists of messages and of keys. The functions do nothing; their contracts are the
-//! facts.
+//! Facts of the definitions of lists of messages and keys. The functions do nothing: their contracts are the facts.
 
 ghost use Rattle.std.specs.Prelude.{◌≡◌, ℕ, List, [], ◌∷◌, ◌++◌};
 ghost use Rattle.std.specs.Borrow.{Bor};
@@ -12,7 +11,7 @@ pub fn two_messages()
     ensures { (a b : Bor (List ℕ)) → targets (a ∷ b ∷ []) ≡ a.now ∷ b.now ∷ [] }
 {}
 
-/// Two keys are that of the first password and salt, and then that of the second.
+/// A list of two keys is the first key, then the second.
 #[tactic(auto, unfolding(crate::specs::Pbkdf2::pbkdf2_each))]
 pub fn two_keys()
     ensures { (PRF : List ℕ → List ℕ → List ℕ) → (P1 P2 S1 S2 : List ℕ) → (hLen c dkLen : ℕ)

@@ -136,7 +136,7 @@ impl Four {
         (Four { lanes: low }, Four { lanes: high })
     }
 
-    /// Word `k` of each of four vectors, in their order, for each `k`.
+    /// Vector `k` has word `k` of each of the four vectors.
     #[inline(always)]
     pub(crate) fn transposed(a: Four, b: Four, c: Four, d: Four) -> [Four; 4]
         ensures { (k : ℕ) → k < 4 → slice_index_or result k []

@@ -1,4 +1,4 @@
-//! Groups of at most eight messages: hashed at once, by fours, or one after another.
+//! Groups of at most eight messages, and the hash functions that can hash them at once.
 
 ghost use Rattle.std.specs.Prelude.{◌≡◌, ℕ, ◌+◌, ◌-◌, ◌*◌, ◌^◌, ◌<◌, ◌≤◌, min, true, false};
 ghost use Rattle.std.specs.Prelude.{length, map, replicate, slice_index, slice_index_or, []};
@@ -20,7 +20,7 @@ use ripemd_block::block_api::{
     Ripemd256Function, Ripemd320Function, walk_message, walk_words,
 };
 
-/// A hash function by which four or eight messages can be hashed at once. It has no functions of its own.
+/// A hash function that can hash four or eight messages at once.
 pub trait BatchDigest: BlockDigest<Output: ByteArray> {
     /// The block function.
     type Function: ListBlockFunction<Digest = Self::Output>;
@@ -31,25 +31,21 @@ pub trait BatchDigest: BlockDigest<Output: ByteArray> {
     /// The states of eight messages.
     type Eight: LaneStates<Function = Self::Function>;
 
-    // The numbers of messages.
     ghost four: { Self.Four.Vector.COUNT ≡ 4 };
 
     ghost eight: { Self.Eight.Vector.COUNT ≡ 8 };
 
-    // The block function and the hash function have the same start, step and output.
     ghost same_start: { Self.Function.list Self.Function.start_of ≡ Self.start };
 
     ghost same_step: { Self.Function.step ≡ Self.step };
 
     ghost same_output: { Self.Function.output ≡ Self.output };
 
-    // A digest has bytes.
     ghost some_bytes: { 0 < Self.Output.LEN };
 
     ghost same_bytes: { (d : Self.Output) → Self.Output.bytes d ≡ Self.bytes_of d };
 }
 
-// The states of the block function.
 pub(crate) type StateOf<D> = <<D as BatchDigest>::Function as BlockFunction>::State;
 
 impl<F: BatchFunction> BatchDigest for BlockHasher<F> {
@@ -76,7 +72,7 @@ impl<F: BatchFunction> BatchDigest for BlockHasher<F> {
     ghost same_bytes = { λ d. refl };
 }
 
-/// A block function by which four or eight messages can be walked through at once.
+/// A block function that can take in four or eight messages at once.
 pub trait BatchFunction: ListBlockFunction {
     /// The states of four messages.
     type Four: LaneStates<Function = Self>;
@@ -147,7 +143,7 @@ impl BatchFunction for Ripemd320Function {
     ghost some_bytes = { omega arith };
 }
 
-// The end of the group of at most `size` that begins at place `at`, of `len` places.
+// The end of the group of at most `size` places from `at` on.
 #[inline(always)]
 pub(crate) fn group_end(len: usize, at: usize, size: usize) -> usize
     requires { at < len }
@@ -156,8 +152,7 @@ pub(crate) fn group_end(len: usize, at: usize, size: usize) -> usize
     if len - at < size { len } else { at + size }
 }
 
-// The number of blocks of all messages, and that of the longest. It has no contract: it only chooses the faster way
-// to the same digests.
+// The number of blocks of all messages, and of the longest. No contract: this only chooses the faster way.
 pub(crate) fn count_blocks(messages: &[&[u8]]) -> (usize, usize) {
     let mut all: usize = 0;
     let mut longest = 0;
@@ -171,7 +166,7 @@ pub(crate) fn count_blocks(messages: &[&[u8]]) -> (usize, usize) {
     (all, longest)
 }
 
-// The digest of a message, from the state `first`, to which `before` bytes led.
+// The digest of a message after `before` bytes, which led to the state `first`.
 pub(crate) fn digest_one<D: BatchDigest>(
     first: StateOf<D>,
     before: u64,
@@ -184,7 +179,7 @@ pub(crate) fn digest_one<D: BatchDigest>(
     D::Function::output(walk_message::<D::Function>(first, before, message))
 }
 
-// The digest of a digest, as a message after one block, which led to the state `first`.
+// The digest of a digest after one block, which led to the state `first`.
 #[inline(always)]
 pub(crate) fn digest_of_digest<D: BatchDigest>(first: StateOf<D>, digest: &[u8]) -> D::Output
     requires { D.Function.is_state first }
@@ -193,7 +188,7 @@ pub(crate) fn digest_of_digest<D: BatchDigest>(first: StateOf<D>, digest: &[u8])
     D::Function::output(state_of_digest::<D>(first, digest))
 }
 
-// The state whose output is the digest that `digest_of_digest` gives.
+// The state that gives the output of `digest_of_digest`.
 #[inline(always)]
 pub(crate) fn state_of_digest<D: BatchDigest>(first: StateOf<D>, digest: &[u8]) -> StateOf<D>
     requires { D.Function.is_state first }
@@ -230,9 +225,8 @@ fn blocks_of_message<'a, 'b>(
     }
 }
 
-// The states whose outputs are the digests of the messages, from the state `first`, to which `before` bytes led. If
-// there is a state `outer`, the outputs are hashed again from it. The padding of each message is made in two blocks
-// here.
+// The states that give the digests of the messages after `before` bytes, which led to the state `first`. If there is a
+// state `outer`, the outputs are hashed again from it.
 pub(crate) fn walk_group<S: LaneStates>(
     first: <S::Function as BlockFunction>::State,
     before: u64,
@@ -266,7 +260,7 @@ pub(crate) fn walk_group<S: LaneStates>(
     let counts = block_counts(&blocks);
     let most = most(&counts);
     let mut states = S::splat(first);
-    // A turn for each block of the longest message, and the last one if the outputs are hashed again.
+    // A turn for each block of the longest message, and one if the outputs are hashed again.
     let turns = if outer.is_some() { most + 1 } else { most };
     let second = outer.unwrap_or(first);
     for i in 0..turns {
@@ -307,8 +301,8 @@ fn most(counts: &[usize; 8]) -> usize
     most
 }
 
-// The states after block `i` of the messages that have one; the others stay. Or, if `again`, the states after the
-// outputs, hashed as messages after one block, which led to the state `second`.
+// The states after block `i`; a message without one keeps its state. If `again`, the outputs are hashed instead, from
+// the state `second` after one block.
 #[tactic(auto, using(crate::proofs::Chaining::hash_of_one))]
 #[inline(always)]
 fn next_states<S: LaneStates>(
@@ -340,7 +334,7 @@ fn next_states<S: LaneStates>(
     }
 }
 
-// The states and the message words that `next_states` compresses.
+// What `next_states` compresses.
 #[inline(always)]
 fn taken_in<S: LaneStates>(
     states: S,
@@ -367,7 +361,7 @@ fn taken_in<S: LaneStates>(
     }
 }
 
-// All bits for the messages that have a block `i`, and 0 for the others.
+// A mask of the messages that have a block `i`.
 #[inline(always)]
 fn live_lanes(counts: &[usize; 8], i: usize) -> [u32; 8]
     ensures yes { (j : ℕ) → j < 8 → i < slice_index counts.now j

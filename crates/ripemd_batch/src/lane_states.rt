@@ -1,4 +1,4 @@
-//! The states of many messages: each variant has its own number of words and its own compression function.
+//! The states of many messages, and what each variant does with them.
 
 ghost use Rattle.std.specs.Prelude.{◌≡◌, ℕ, ◌<◌, ◌≤◌, ◌+◌, ◌-◌, ◌*◌, ◌^◌, List, [], ◌∷◌, ◌++◌, length, map, replicate, slice_index};
 ghost use Rattle.std.specs.Int.Bits.{bit_xor};
@@ -24,7 +24,7 @@ pub trait LaneStates: Copy {
     // The words of message `j`.
     ghost words_of: { ℕ → Self → List ℕ };
 
-    // One state for each message.
+    // One state for all messages.
     fn splat(words: <Self::Function as BlockFunction>::State) -> Self
         ensures { (j : ℕ) → j < Self.Vector.COUNT → words_of j result ≡ Self.Function.list words };
 
@@ -34,7 +34,7 @@ pub trait LaneStates: Copy {
             → HasWords (map Self.Vector.words words.now) j block
             → words_of j result ≡ Self.Function.step (words_of j self) block };
 
-    // The message words of the outputs as messages after one block, with their padding: a block each.
+    // The message words of each output, padded as a message after one block.
     fn last_words(self) -> [Self::Vector; 16]
         ensures words { (j : ℕ) → j < Self.Vector.COUNT
             → HasWords (map Self.Vector.words result) j
@@ -42,13 +42,13 @@ pub trait LaneStates: Copy {
         ensures size { (j : ℕ) → j < Self.Vector.COUNT
             → length (padded_after 64 (Self.Function.output (words_of j self))) ≡ 64 };
 
-    // The states whose outputs are the exclusive or of the outputs.
+    // The states that give the exclusive or of the outputs.
     fn xor(self, other: Self) -> Self
         ensures { (j : ℕ) → j < Self.Vector.COUNT → Self.Function.output (words_of j result)
             ≡ zip2 bit_xor (Self.Function.output (words_of j self))
             (Self.Function.output (words_of j other)) };
 
-    // The new states of the messages whose word in `live` has all bits set, and the old ones of those where it is 0.
+    // The new state where the word in `live` has all bits set, and the old one where it is 0.
     fn select(live: Self::Vector, new: Self, old: Self) -> Self
         ensures taken { (j : ℕ) → j < Self.Vector.COUNT
             → slice_index (Self.Vector.words live) j ≡ 0xffff_ffff
@@ -57,7 +57,7 @@ pub trait LaneStates: Copy {
             → slice_index (Self.Vector.words live) j ≡ 0
             → words_of j result ≡ words_of j old };
 
-    // The digest of message `j`, which is the output of its state.
+    // The digest of message `j`.
     fn digest_of(&self, j: usize) -> <Self::Function as BlockFunction>::Digest
         requires { j < Self.Vector.COUNT }
         ensures { Self.Function.Digest.bytes result ≡ Self.Function.output (words_of j self.now) };
@@ -90,7 +90,6 @@ fn select_each<V: Lanes, const N: usize>(live: V, new: [V; N], old: [V; N]) -> [
     states
 }
 
-// What `last_words` gives.
 #[tactic(auto, using(crate::proofs::DigestWords::padded_size))]
 #[inline(always)]
 fn last_words_of<V: Lanes, const N: usize>(states: [V; N]) -> [V; 16]
@@ -108,7 +107,6 @@ fn last_words_of<V: Lanes, const N: usize>(states: [V; N]) -> [V; 16]
     words
 }
 
-// Word `i` of `last_words`.
 #[tactic(auto, using(crate::proofs::DigestWords::word_in_front, crate::proofs::DigestWords::word_behind, crate::proofs::OneLane::word_in))]
 #[inline(always)]
 fn last_word<V: Lanes, const N: usize>(states: &[V; N], i: usize) -> V
@@ -125,7 +123,7 @@ fn last_word<V: Lanes, const N: usize>(states: &[V; N], i: usize) -> V
     }
 }
 
-// Word `i` of the last block of a message of one block and `n` words, after these words.
+// Word `i` of a block with `n` words and their padding, after one block.
 #[inline(always)]
 fn padding_word(n: usize, i: usize) -> u32
     requires few { n ≤ 13 }

@@ -25,7 +25,7 @@ pub trait Lanes: Copy {
     fn splat(word: u32) -> Self
         ensures { (j : ℕ) → j < COUNT → slice_index (words result) j ≡ word };
 
-    /// The same vector; contracts then know that its words are below 2^32.
+    /// The same vector, with the fact that its words are below 2^32.
     fn known(self) -> Self
         ensures same { result ≡ self }
         ensures words { (j : ℕ) → j < COUNT → slice_index (words result) j < 2 ^ 32 };
@@ -60,22 +60,20 @@ pub trait Lanes: Copy {
         ensures { (j : ℕ) → j < COUNT → slice_index (words result) j
             ≡ rol (slice_index (words self) j) by };
 
-    /// Message words `4 * i` to `4 * i + 3` of the first of eight blocks.
+    /// Message words `4 * i` to `4 * i + 3` of the first `COUNT` blocks.
     fn four_message_words(blocks: &[&[u8; 64]; 8], i: usize) -> [Self; 4]
         requires { i < 4 }
         ensures { (k : ℕ) → k < 4 → (j : ℕ) → j < COUNT → (d : Self)
             → slice_index (words (slice_index_or result k d)) j
             ≡ message_word (list_at (targets blocks.now) j) (4 * i + k) };
 
-    // There are at most eight words.
     ghost few: { COUNT ≤ 8 };
 
     // Sixteen vectors can lie in memory.
     ghost small: { 16 * type_size Self.row < 2 ^ 63 };
 }
 
-/// The new words of the messages whose word in `live` has all bits set, and the old ones of those
-/// where it is 0.
+/// The new word where that in `live` has all bits set, and the old one where it is 0.
 #[inline(always)]
 pub(crate) fn select<V: Lanes>(live: V, new: V, old: V) -> V
     ensures taken { (j : ℕ) → j < V.COUNT → slice_index (V.words live) j ≡ 0xffff_ffff

@@ -39,8 +39,7 @@ pub(crate) trait LineRegisters: Copy {
         requires { r < ROUNDS }
         ensures { result ≡ (line_of ROUNDS side).constant r };
 
-    /// A step of a line in round `r`, with the message words `x`, the constant `k` and the rotation by
-    /// `s` bits.
+    /// A step of a line in round `r`, with message words `x`, constant `k` and rotation by `s` bits.
     fn step(self, side: Side, r: usize, x: Self::Vector, k: u32, s: u32) -> Self
         requires round { r < ROUNDS }
         requires amount { (0 < s) × (s < 32) }
@@ -48,7 +47,7 @@ pub(crate) trait LineRegisters: Copy {
             ≡ step ((line_of ROUNDS side).function r) (slice_index (Self.Vector.words x) j) k s
             (lane j self) };
 
-    /// The registers of two lines with register `k` exchanged between them.
+    /// Two lines with register `k` exchanged.
     fn exchange(k: usize, left: Self, right: Self) -> (Self, Self)
         requires { k < ROUNDS }
         ensures { (j : ℕ) → j < Self.Vector.COUNT → both_lines (lane j result.0) (lane j result.1)
@@ -117,7 +116,7 @@ impl<V: Lanes> LineRegisters for [V; 5] {
     }
 }
 
-// The Boolean function of round `r` of a line of `rounds` rounds.
+// The Boolean function of round `r` of a line.
 #[inline(always)]
 fn function<V: Lanes>(side: Side, rounds: usize, r: usize, x: V, y: V, z: V) -> V
     requires round { r < rounds }
@@ -132,8 +131,8 @@ fn function<V: Lanes>(side: Side, rounds: usize, r: usize, x: V, y: V, z: V) -> 
     }
 }
 
-// Boolean function `k` of the words of each message (1996, functions), by few operations: 1 and 3 are factored, and 2
-// and 4 are complements.
+// Boolean function `k` of the words of each message (1996, functions), in few operations: 1 and 3 are factored, 2 and 4
+// are complements.
 #[inline(always)]
 fn boolean_function<V: Lanes>(k: usize, x: V, y: V, z: V) -> V
     requires { k < 5 }
@@ -150,7 +149,7 @@ fn boolean_function<V: Lanes>(k: usize, x: V, y: V, z: V) -> V
     }
 }
 
-// The number of the message word that step `i` of round `r` of a line takes, for any number of rounds.
+// The number of the message word that step `i` of round `r` of a line takes.
 #[inline(always)]
 fn word_number(side: Side, r: usize, i: usize) -> usize
     requires round { r < 5 }
@@ -213,7 +212,7 @@ fn four_steps<R: LineRegisters>(
     registers
 }
 
-/// Round `N` of both lines: four steps of the one and four of the other in turn, since neither waits for the other.
+/// Round `N` of both lines, four steps of each in turn, since neither waits for the other.
 #[inline(always)]
 pub(crate) fn round<R: LineRegisters, const N: usize>(
     words: &[R::Vector; 16],
@@ -239,7 +238,7 @@ pub(crate) fn round<R: LineRegisters, const N: usize>(
     Lines { left, right }
 }
 
-/// The lines with register `k` exchanged between them.
+/// The lines with register `k` exchanged.
 #[inline(always)]
 pub(crate) fn exchange<R: LineRegisters>(k: usize, lines: Lines<R>) -> Lines<R>
     requires { k < R.ROUNDS }

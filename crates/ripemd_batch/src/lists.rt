@@ -16,20 +16,18 @@ use ripemd_block::block_api::{BlockFunction, walk};
 use ripemd_mac::hmac::masked_keys;
 use std::marker::Model;
 
-// Eight messages go at once if together they have at least so many times the blocks of the longest: five of one length
-// take less time in eight lanes of AVX2 than four at once and one alone (docs/measured).
+// A group takes eight lanes if it has at least this many times the blocks of its longest message: five messages of one
+// length take less time in eight lanes of AVX2 than four at once and one alone (docs/measured).
 const FOR_EIGHT: usize = 5;
 
-// Four messages go at once if together they have more than so many times the blocks of the longest: four of one length
-// take nearly as long in four lanes as two one after another.
+// A group takes four lanes if it has more than this many times the blocks of its longest message: four lanes take
+// nearly as long as two messages one after another.
 const FOR_FOUR: usize = 2;
 
-/// Writes the digest of each message to the place in `digests` that the message has in `messages`.
-/// There must be as many places as messages. Nothing is allocated.
+/// Writes the digest of message `i` to `digests[i]`. There must be as many digests as messages. Nothing is allocated.
 ///
-/// The messages go in groups of eight as they come. The time of a group that is hashed at once
-/// depends on its longest message alone. A group that would leave most lanes without work is hashed
-/// by fours, or one message after another. So it is fastest if neighbours have like lengths.
+/// Messages go in groups of eight as they come, and a group takes as long as its longest message: neighbours of like
+/// length are fastest. A group that would leave most lanes idle goes by fours, or one by one.
 pub fn digest_each<D: BatchDigest>(messages: &[&[u8]], digests: &mut [D::Output])
     requires { length digests.old ≡ length messages.now }
     ensures { map D.bytes_of digests.new
@@ -38,12 +36,10 @@ pub fn digest_each<D: BatchDigest>(messages: &[&[u8]], digests: &mut [D::Output]
     ListHasher::<D>::new().hash_each(messages, digests);
 }
 
-/// Writes the tag of each text under the key (RFC 2104) to the place in `tags` that the text has in
-/// `texts`: the tag that `Hmac` gives. The key has any length, and there must be as many places as
-/// texts. Nothing is allocated.
+/// Writes the tag of text `i` under the key (RFC 2104) to `tags[i]`, as `Hmac` makes it. The key has any length. There
+/// must be as many tags as texts. Nothing is allocated.
 ///
-/// The key is hashed once for all texts. These go in groups of eight as they come, as messages do in
-/// [`digest_each`], and so it is fastest if neighbours have like lengths.
+/// The key is hashed once. The texts go in groups, as messages do in [`digest_each`].
 pub fn tag_each<D: BatchDigest>(key: &[u8], texts: &[&[u8]], tags: &mut [D::Output])
     requires { length tags.old ≡ length texts.now }
     ensures { map D.bytes_of tags.new
@@ -94,7 +90,7 @@ impl<D: BatchDigest> ListHasher<D> {
         }
     }
 
-    /// A hasher that makes tags under a key of any length. The key is hashed here, once for all lists.
+    /// A hasher that makes tags under a key of any length, which is hashed here, once for all lists.
     pub fn keyed(key: &[u8]) -> ListHasher<D>
         ensures { made_by D.step D.output result ≡ hmac (hash D.start D.step D.output) key.now }
     {
@@ -107,8 +103,8 @@ impl<D: BatchDigest> ListHasher<D> {
         }
     }
 
-    /// The hasher for a processor whose vectors have so many words. With fewer than eight, at most four messages go
-    /// at once: on a Xeon of Cascade Lake eight took longer than two times four.
+    /// The hasher for a processor with vectors of so many words. With fewer than eight, at most four messages go at
+    /// once: on a Xeon of Cascade Lake eight took longer than twice four.
     pub fn in_vectors_of(self, words: u32) -> ListHasher<D>
         ensures { result ≡ self }
     {
@@ -120,8 +116,8 @@ impl<D: BatchDigest> ListHasher<D> {
         }
     }
 
-    /// Writes what is made of each message to the place in `outputs` that the message has in
-    /// `messages`. There must be as many places as messages. Nothing is allocated.
+    /// Writes the output of message `i` to `outputs[i]`. There must be as many outputs as messages. Nothing is
+    /// allocated.
     #[inline(always)]
     pub fn hash_each(&self, messages: &[&[u8]], outputs: &mut [D::Output])
         requires { length outputs.old ≡ length messages.now }
@@ -131,8 +127,8 @@ impl<D: BatchDigest> ListHasher<D> {
         self.put_each::<Arrays>(messages, outputs);
     }
 
-    /// Writes what is made of each message to `bytes`, one output after another. There must be as many
-    /// bytes as the outputs have. Nothing is allocated.
+    /// Writes the outputs of the messages to `bytes`, one after another. `bytes` must have exactly their size. Nothing
+    /// is allocated.
     #[inline(always)]
     #[tactic(auto, using(crate::proofs::Chunks::count_chunks))]
     pub fn write_joined(&self, messages: &[&[u8]], bytes: &mut [u8])
@@ -142,8 +138,8 @@ impl<D: BatchDigest> ListHasher<D> {
         self.put_each::<Bytes>(messages, bytes);
     }
 
-    // Puts the output of each message in its place. One or two messages go one after another: they would leave most
-    // lanes idle.
+    // Puts the output of each message in its place. One or two messages go one by one: they would leave most lanes
+    // idle.
     #[inline(always)]
     fn put_each<P: Places<D::Output>>(&self, messages: &[&[u8]], places: &mut [P::Element])
         requires { length (P.list places.old) ≡ length messages.now }
@@ -176,7 +172,7 @@ impl<D: BatchDigest> ListHasher<D> {
         }
     }
 
-    // Puts the outputs of at most eight messages: at once if that is faster, or else by fours.
+    // Puts the outputs of at most eight messages: at once if that is faster, else by fours.
     fn put_group<P: Places<D::Output>>(
         &self,
         messages: &[&[u8]],
@@ -202,7 +198,7 @@ impl<D: BatchDigest> ListHasher<D> {
         }
     }
 
-    // Puts the outputs of at most four messages: at once if that is faster, or else one by one.
+    // Puts the outputs of at most four messages: at once if that is faster, else one by one.
     fn put_four<P: Places<D::Output>>(
         &self,
         messages: &[&[u8]],
@@ -223,7 +219,7 @@ impl<D: BatchDigest> ListHasher<D> {
         }
     }
 
-    // Puts the outputs of messages that are hashed at once.
+    // Puts the outputs of messages hashed at once.
     fn put_lanes<P: Places<D::Output>, S: LaneStates<Function = D::Function>>(
         &self,
         messages: &[&[u8]],
@@ -246,7 +242,6 @@ impl<D: BatchDigest> ListHasher<D> {
         }
     }
 
-    // Puts the outputs of messages that are hashed one after another.
     #[inline(always)]
     fn put_one_by_one<P: Places<D::Output>>(
         &self,
@@ -265,7 +260,6 @@ impl<D: BatchDigest> ListHasher<D> {
         }
     }
 
-    // The output of one message.
     #[inline(always)]
     fn hash_one(&self, message: &[u8]) -> D::Output
         ensures { D.bytes_of result ≡ made_by D.step D.output self.now message.now }

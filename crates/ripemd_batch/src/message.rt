@@ -7,7 +7,7 @@ ghost use Rattle.ripemd_batch.specs.Lanes.{HasWords, list_at, targets};
 use crate::four::Four;
 use crate::lanes::Lanes;
 
-/// The sixteen message words of the first of eight blocks.
+/// The sixteen message words of the first `COUNT` blocks.
 #[inline(always)]
 pub(crate) fn message_words<V: Lanes>(blocks: &[&[u8; 64]; 8]) -> [V; 16]
     ensures { (j : ℕ) → j < V.COUNT

@@ -8,7 +8,7 @@ ghost use Rattle.ripemd_batch.specs.Lanes.{padded_after};
 use ripemd::padding::{last_blocks, whole_blocks};
 use std::marker::Model;
 
-/// The blocks of a message with its padding: the whole ones, and the last one or two. Contracts see the list of them.
+/// The whole blocks, and the last one or two. Contracts see the list of all.
 #[derive(Drop)]
 pub(crate) struct MessageBlocks<'a, 'b> {
     whole: &'a [[u8; 64]],
@@ -26,8 +26,8 @@ impl<'a, 'b> Model for MessageBlocks<'a, 'b> {
 }
 
 impl<'a, 'b> MessageBlocks<'a, 'b> {
-    /// The blocks of a message with its padding. The length counts also the `before` bytes before it. The last blocks
-    /// are made in place of two blocks of zero bytes.
+    /// The blocks of a message. Its length field also counts the `before` bytes before it. `zeros` takes the last
+    /// blocks.
     #[tactic(auto, using(ripemd_block::specs::Laws::Pieces::with_padding_rest))]
     #[inline(always)]
     pub(crate) fn of(

@@ -19,13 +19,12 @@ use ripemd_mac::hmac::{filled, masked_keys};
 use ripemd_mac::pbkdf2::{allowed, combined, write_front};
 use std::marker::Model;
 
-/// Derives a key from a password and a salt as [`ripemd_mac::pbkdf2_hmac`] does, up to eight blocks at
-/// once, and writes it to `key`. Nothing is allocated.
+/// Derives a key from a password and a salt as [`ripemd_mac::pbkdf2_hmac`] does, up to eight blocks at once, and writes
+/// it to `key`. Nothing is allocated.
 ///
 /// # Errors
 ///
-/// `NoRounds` if `rounds` is 0, and else `KeyTooLong` if `key` is longer than 2^32 - 1 digests. Nothing
-/// is written then.
+/// `NoRounds` if `rounds` is 0, else `KeyTooLong` if `key` is longer than 2^32 - 1 digests. Nothing is written then.
 #[tactic(auto, unfolding(crate::specs::Pbkdf2::pbkdf2_each))]
 pub fn pbkdf2_hmac<D: BatchDigest>(
     password: &[u8],
@@ -46,14 +45,13 @@ pub fn pbkdf2_hmac<D: BatchDigest>(
     pbkdf2_hmac_each::<D>(&[password], &[salt], rounds, size, key)
 }
 
-/// Derives a key of `size` bytes from each password and the salt in its place, up to eight blocks at
-/// once, and writes the keys one after another to `keys`. There must be as many salts as passwords, and
-/// room for as many keys. Nothing is allocated.
+/// Derives a key of `size` bytes from each password and the salt in its place, up to eight blocks at once, and writes
+/// the keys to `keys`, one after another. There must be as many salts as passwords, and room for exactly as many keys.
+/// Nothing is allocated.
 ///
 /// # Errors
 ///
-/// `NoRounds` if `rounds` is 0, and else `KeyTooLong` if `size` is more than 2^32 - 1 digests. Nothing
-/// is written then.
+/// `NoRounds` if `rounds` is 0, else `KeyTooLong` if `size` is more than 2^32 - 1 digests. Nothing is written then.
 #[tactic(auto, using(crate::proofs::KeyBlocks::count_fits, crate::proofs::KeyBlocks::all_fit, std::proofs::lemmas::List::take_all), unfolding(crate::specs::Pbkdf2::pbkdf2_each))]
 pub fn pbkdf2_hmac_each<D: BatchDigest>(
     passwords: &[&[u8]],
@@ -87,7 +85,7 @@ pub fn pbkdf2_hmac_each<D: BatchDigest>(
     Ok(())
 }
 
-// The blocks of the keys of a list, one key after another: `count` of each.
+// The blocks of the keys of a list, `count` of each.
 #[derive(Drop)]
 struct KeyBlocks<'a> {
     passwords: &'a [&'a [u8]],
@@ -115,7 +113,6 @@ impl<'a> Model for KeyBlocks<'a> {
 }
 
 impl<'a> KeyBlocks<'a> {
-    // The number of blocks.
     fn total(&self) -> usize
         ensures value { result ≡ total self.now }
         ensures fits { result < 2 ^ 63 }
@@ -123,7 +120,7 @@ impl<'a> KeyBlocks<'a> {
         self.count * self.passwords.len()
     }
 
-    // Writes key `i`. `group` has the eight blocks among which the next one is, unless a group begins with it.
+    // Writes key `i`. `group` has the eight blocks around the next one, unless that begins a group.
     fn write_key<D: BatchDigest>(&self, i: usize, group: &mut [[u8; 64]; 8], key: &mut [u8])
         requires pair { i < length self.now.passwords }
         requires count { self.now.count ≡ div_ceil (length key.old) D.OUTPUT_SIZE }
@@ -144,8 +141,7 @@ impl<'a> KeyBlocks<'a> {
         }
     }
 
-    // Derives the group of eight that begins with block `k`, if one does. A last block that is alone is derived
-    // without lanes.
+    // Derives the group of eight that begins with block `k`, if one does. A last block alone takes no lanes.
     fn begin_group<D: BatchDigest>(&self, k: usize, group: &mut [[u8; 64]; 8])
         requires { k < total self.now }
         ensures { InGroup D.OUTPUT_SIZE (hmac (hash D.start D.step D.output)) self.now k group.old
@@ -168,8 +164,7 @@ impl<'a> KeyBlocks<'a> {
         }
     }
 
-    // The blocks from block `k` on, at most eight, filled with zeros: one in each lane. If there are fewer, the rest
-    // is any.
+    // The blocks from `k` on, one in each lane, filled with zeros. If there are fewer than eight, the rest is any.
     fn blocks_at_once<D: BatchDigest, S: LaneStates<Function = D::Function>>(
         &self,
         k: usize,
@@ -196,7 +191,6 @@ impl<'a> KeyBlocks<'a> {
         blocks_of(&sums, live)
     }
 
-    // The chain of block `k`.
     fn chain_at<D: BatchDigest>(&self, k: usize) -> Chain<D>
         requires { k < total self.now }
         ensures inner { D.Function.is_state result.inner }
@@ -215,7 +209,7 @@ impl<'a> KeyBlocks<'a> {
     }
 }
 
-// All bits in one lane, and 0 in the others.
+// All bits in lane `j`, and 0 in the others.
 fn only_lane<V: Lanes>(j: usize) -> V
     requires { j < 8 }
     ensures yes { j < V.COUNT → slice_index (V.words result) j ≡ 0xffff_ffff }
@@ -226,7 +220,7 @@ fn only_lane<V: Lanes>(j: usize) -> V
     V::of(lanes)
 }
 
-// The chain of tags of a block: the states after the two masked keys, and the state whose output is the first tag.
+// The chain of tags of a block: the states after the two masked keys, and the state that gives the first tag.
 #[derive(Drop)]
 struct Chain<D: BatchDigest> {
     inner: StateOf<D>,
@@ -234,7 +228,7 @@ struct Chain<D: BatchDigest> {
     first: StateOf<D>,
 }
 
-// The chain of block `number` of the key of a password.
+// The chain of block `number` of a key.
 fn chain_of<D: BatchDigest>(password: &[u8], salt: &[u8], number: u32) -> Chain<D>
     ensures inner { D.Function.is_state result.inner }
     ensures outer { D.Function.is_state result.outer }
@@ -297,7 +291,7 @@ pub fn digest_size<D: BatchDigest>() -> usize
     D::OUTPUT_SIZE
 }
 
-// The digests of the first `live` of eight messages, filled with zeros.
+// The digests of the first `live` messages, filled with zeros.
 #[inline(always)]
 fn blocks_of<S: LaneStates>(states: &S, live: usize) -> [[u8; 64]; 8]
     requires { live ≤ S.Vector.COUNT }
@@ -316,7 +310,7 @@ fn blocks_of<S: LaneStates>(states: &S, live: usize) -> [[u8; 64]; 8]
     ]
 }
 
-// The digest of message `j`, filled with zeros, or zeros if it is none of the first `live`.
+// The digest of message `j`, filled with zeros, or only zeros from `live` on.
 #[inline(never)]
 fn digest_block<S: LaneStates>(states: &S, j: usize, live: usize) -> [u8; 64]
     requires { live ≤ S.Vector.COUNT }
@@ -330,8 +324,8 @@ fn digest_block<S: LaneStates>(states: &S, j: usize, live: usize) -> [u8; 64]
     }
 }
 
-// The states whose outputs are the exclusive or of `rounds` tags: the outputs of `first`, their tags, the tags of
-// these, and so on.
+// The states that give the exclusive or of `rounds` tags: the outputs of `first`, their tags, the tags of these, and so
+// on.
 #[tactic(auto, using(crate::proofs::Chaining::next_tag, crate::proofs::Chaining::next_combined), unfolding(crate::specs::Pbkdf2::combined_tags))]
 #[inline(never)]
 fn combined_tags<S: LaneStates>(inner: S, outer: S, first: S, rounds: u32) -> S
@@ -351,8 +345,8 @@ fn combined_tags<S: LaneStates>(inner: S, outer: S, first: S, rounds: u32) -> S
     sum
 }
 
-// The states whose outputs are the tags of the outputs of `text`. Both halves go through one call, so that the
-// compiler writes out the rounds of it.
+// The states that give the tags of the outputs of `text`. Both halves go through one call, so that the compiler writes
+// out its rounds.
 #[inline(always)]
 fn tag_after<S: LaneStates>(inner: S, outer: S, text: S) -> S
     ensures { (j : ℕ) → j < S.Vector.COUNT → S.Function.output (S.words_of j result)
@@ -367,7 +361,7 @@ fn tag_after<S: LaneStates>(inner: S, outer: S, text: S) -> S
     digest
 }
 
-// The states from which the inner or the outer half of a tag starts.
+// Where the inner or the outer half of a tag starts.
 #[inline(always)]
 fn first_of_half<S: LaneStates>(half: usize, inner: S, outer: S) -> S
     ensures inner { (j : ℕ) → j < S.Vector.COUNT → half ≡ 0
@@ -378,8 +372,7 @@ fn first_of_half<S: LaneStates>(half: usize, inner: S, outer: S) -> S
     if half == 0 { inner } else { outer }
 }
 
-// The states whose outputs are the digests of the outputs of `digest`, as messages after one block, which led to
-// `first`.
+// The states that give the digests of the outputs of `digest` after one block, which led to `first`.
 #[tactic(auto, using(crate::proofs::Chaining::hash_of_one))]
 #[inline(always)]
 fn digest_after<S: LaneStates>(first: S, digest: S) -> S

@@ -7,13 +7,11 @@ use ripemd_block::block_api::ByteArray;
 
 // Places of outputs, in order.
 pub(crate) trait Places<O: ByteArray> {
-    // An element of the places.
     type Element;
 
     // The bytes at each place.
     ghost list: { List Self.Element → List (List ℕ) };
 
-    // Puts an output at place `i`.
     fn put(places: &mut [Self::Element], i: usize, output: O)
         requires { i < length (list places.old) }
         ensures { list places.new ≡ slice_set (list places.old) i (O.bytes output) };

@@ -1,4 +1,4 @@
-//! The tests of `ripemd_mac` and `ripemd_batch`, which call these as any other crate does, and of the
+//! Tests of `ripemd_mac` and `ripemd_batch`, which call these as any other crate does, and of the
 //! callers in `ripemd_uses`.
 #![tactic(auto)]
 

@@ -23,7 +23,7 @@ fn alone<F: BatchFunction>(key: Option<&[u8]>, message: &[u8]) -> F::Digest {
     }
 }
 
-// Whether a list, by eights or by fours, has the outputs of its messages alone. There are as many places or more.
+// Whether a list, by eights and by fours, has the outputs of its messages alone.
 fn agrees<F: BatchFunction>(
     key: Option<&[u8]>,
     messages: &[&[u8]],
@@ -54,7 +54,7 @@ const LENGTHS: [usize; 20] = [
     0, 1, 32, 55, 56, 57, 63, 64, 65, 118, 119, 120, 121, 127, 128, 129, 184, 320, 447, 448,
 ];
 
-// Whether lists of up to 40 messages of mixed lengths agree so, for digests and for tags.
+// Whether lists of up to 40 messages of mixed lengths agree, for digests and for tags.
 fn all_agree<F: BatchFunction>(places: &mut [F::Digest]) -> bool {
     let bytes: [u8; 500] = counted(0);
     let mut messages: [&[u8]; 40] = [&[]; 40];
@@ -83,7 +83,6 @@ fn mixed_lengths(rt: HostRuntime) {
     assert!(rt; all_agree::<Ripemd320Function>(&mut [[0; 40]; 40]));
 }
 
-// Whether messages, one for each place, have these outputs.
 fn have_outputs<F: BatchFunction>(
     hasher: &ListHasher<BlockHasher<F>>,
     messages: &[&[u8]],
@@ -119,7 +118,7 @@ fn published_digests(rt: HostRuntime) {
     assert!(rt; have_digests::<Ripemd320Function>(&OF_320, &mut [[0; 40]; 9]));
 }
 
-// The tags of two texts in turn under a key of 80 bytes.
+// Two texts in turn under a key of 80 bytes.
 fn have_tags<F: BatchFunction>(x: &'static str, y: &'static str, places: &mut [F::Digest]) -> bool {
     let a = b"Test Using Larger Than Block-Size Key - Hash Key First";
     let b = b"Test Using Larger Than Block-Size Key and Larger Than One Block-Size Data";

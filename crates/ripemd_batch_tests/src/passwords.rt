@@ -9,8 +9,8 @@ use ripemd_tests::digits::{
     Ripemd128Function, Ripemd160Function, Ripemd256Function, Ripemd320Function, is_written,
 };
 
-// Whether this is the key of three rounds from the password of the bytes 1 to 8 and the salt of the bytes 0 to 7:
-// alone, in lanes, and as every other one of nine. The others have salt and password exchanged.
+// Whether this is the key by three rounds of the password of bytes 1 to 8 and the salt of bytes 0 to 7: alone, in
+// lanes, and as every other of nine. The others exchange salt and password.
 fn derives<F: BatchFunction>(digits: &str) -> bool {
     let password: &[u8] = &counted::<8>(1);
     let salt: &[u8] = &counted::<8>(0);
@@ -48,8 +48,7 @@ fn derives<F: BatchFunction>(digits: &str) -> bool {
         && is_written(key, digits)
 }
 
-// Lines of tests/data/keys.txt, which says where they come from. Its other keys are tried on the
-// libraries for other languages.
+// Lines of tests/data/keys.txt, which says where they come from.
 #[test]
 fn keys_of_others(rt: HostRuntime) {
     let key =
@@ -66,7 +65,7 @@ fn keys_of_others(rt: HostRuntime) {
     assert!(rt; derives::<Ripemd320Function>(key));
 }
 
-// No rounds: nothing is written, also where the key has no bytes.
+// No rounds: an error, even for no bytes, and nothing is written.
 #[test]
 fn no_rounds(rt: HostRuntime) {
     let mut key = [7; 20];

@@ -1,4 +1,4 @@
-//! Tags by HMAC: those that others give, which keys count as one, and which tags are taken.
+//! Tags by HMAC: those of others, which keys count as one, and which tags are taken.
 
 use ripemd::block_api::ByteArray;
 use ripemd::digest::BlockDigest;
@@ -9,7 +9,7 @@ use ripemd_tests::digits::{
     Ripemd128Function, Ripemd160Function, Ripemd256Function, Ripemd320Function, is_written,
 };
 
-// The tag of a text that comes in two pieces, by a copy after the first.
+// The tag of a text in two pieces, by a copy after the first.
 fn tag_of<D: BlockDigest>(key: &[u8], first: &[u8], second: &[u8]) -> D::Output {
     let mut mac = Hmac::<D>::new(key);
     mac.update(first);
@@ -19,7 +19,7 @@ fn tag_of<D: BlockDigest>(key: &[u8], first: &[u8], second: &[u8]) -> D::Output 
     copy.finalize()
 }
 
-// The tag of a text that comes in two pieces, saved and loaded between them.
+// The tag of a text in two pieces, saved and loaded between them.
 fn tag_put_aside<F: ResumableFunction>(
     key: &[u8],
     first: &[u8],
@@ -32,7 +32,7 @@ fn tag_put_aside<F: ResumableFunction>(
     Some(loaded.finalize())
 }
 
-// Whether the tag of a text is this one, wherever the text is cut.
+// Whether the text has this tag, wherever it is cut.
 fn has_tag<F: ResumableFunction>(key: &[u8], text: &[u8], digits: &str) -> bool {
     for at in [0, 1, 63, 64, 65] {
         let (first, second) = text.split_at(at.min(text.len()));
@@ -47,7 +47,7 @@ fn has_tag<F: ResumableFunction>(key: &[u8], text: &[u8], digits: &str) -> bool 
     true
 }
 
-// What RFC 2286 publishes: a key for RIPEMD-128 and one for RIPEMD-160, a text, and its tags.
+// From RFC 2286: a key for RIPEMD-128 and one for RIPEMD-160, a text, and its tags.
 static PUBLISHED: [(&[u8], &[u8], &[u8], &str, &str); 7] = [
     (
         &[0x0b; 16],
@@ -114,15 +114,14 @@ fn published_tags(rt: HostRuntime) {
     }
 }
 
-// Whether the tags of the text whose bytes are 0 to 149 are these, under keys of 64 and of 65 bytes,
-// which are 1, 2 and so on.
+// Whether the bytes 0 to 149 have these tags, under keys of 64 and of 65 bytes, which are 1, 2 and
+// so on.
 fn have_tags<F: ResumableFunction>(of_64: &str, of_65: &str) -> bool {
     let text: [u8; 150] = counted(0);
     has_tag::<F>(&counted::<64>(1), &text, of_64) && has_tag::<F>(&counted::<65>(1), &text, of_65)
 }
 
-// Lines of tests/data/tags.txt, which says where they come from. Its other tags are tried on the
-// libraries for other languages.
+// Lines of tests/data/tags.txt, which says where they come from.
 #[test]
 fn tags_of_others(rt: HostRuntime) {
     assert!(rt;
@@ -144,8 +143,8 @@ fn count_as_one(key: &[u8], other: &[u8]) -> bool {
     tag_of::<Ripemd160>(key, b"Hi There", b"") == tag_of::<Ripemd160>(other, b"Hi There", b"")
 }
 
-// A key counts as if zeros followed it to 64 bytes, and one that is longer as its digest. One of 64
-// bytes is not hashed: the tag is the digest of the outer message with the key itself.
+// A key counts as if zeros filled it to 64 bytes, and a longer one as its digest. One of 64 bytes
+// is not hashed.
 #[test]
 fn keys(rt: HostRuntime) {
     let mut filled = [0; 64];

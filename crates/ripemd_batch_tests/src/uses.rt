@@ -101,7 +101,7 @@ fn readers(rt: HostRuntime) {
     assert!(rt; failed.is_err_and(|error| error.kind() == ErrorKind::TimedOut));
 }
 
-// The block function of the page reads the first byte of each block alone.
+// The page's block function reads only the first byte of each block.
 #[test]
 fn collisions(rt: HostRuntime) {
     assert!(rt; collision_of_160(b"abc", b"abd").is_none());
@@ -117,8 +117,7 @@ fn collisions(rt: HostRuntime) {
     assert!(rt; places_of_collision(&a, &b) == Some((1, 1)));
 }
 
-// The toy's digest is the exclusive or of the first bytes of the blocks: for 64 bytes, of their first and of the
-// first of the padding.
+// The toy's digest is the exclusive or of the first byte of each block; 64 bytes have a second block.
 #[test]
 fn toys(rt: HostRuntime) {
     assert!(rt; toy_digest(b"a", b"bc") == [b'a']);
@@ -128,7 +127,7 @@ fn toys(rt: HostRuntime) {
     assert!(rt; digest_put_aside::<Ripemd160>(b"a", b"bc") == ABC);
 }
 
-// A hasher that was saved and loaded.
+// A saved and loaded hasher.
 static LOADED: [Command; 5] = [
     Command::New,
     Command::Update {
@@ -210,7 +209,7 @@ fn keys_of_many(rt: HostRuntime) {
     assert!(rt; batch::keys_of(&passwords, &salts, 0, &mut keys).is_err());
 }
 
-// Records, one of which has another digest than is wanted.
+// Records with right, wrong and missing digests, and their tags.
 #[test]
 fn records(rt: HostRuntime) {
     let mut found = [[0; 20]; 2];

@@ -1,4 +1,4 @@
-//! How long one block takes, by a step of the block function and by `walk_on`.
+//! How long a block takes by `step` and by `walk_on`.
 
 use ripemd_block::block_api::{
     ListBlockFunction, Ripemd128Function, Ripemd160Function, Ripemd256Function, Ripemd320Function,
@@ -35,8 +35,8 @@ fn time_of_walks<F: ListBlockFunction>(
     Ok(start.elapsed(rt)?.as_nanos().min(u64::MAX.into()) as u64)
 }
 
-// Prints a row of the table: the least time of each, of slices in turn. An error is printed if the
-// states differ in the end.
+// Prints a row: the least time of each, of slices in turn, or an error if the states differ in the
+// end.
 fn print_row<F: ListBlockFunction>(rt: &HostRuntime, name: &str) -> io::Result<()> {
     let block = [b'a'; 64];
     let mut by_steps = F::start();
@@ -54,7 +54,7 @@ fn print_row<F: ListBlockFunction>(rt: &HostRuntime, name: &str) -> io::Result<(
     println!(rt; "| {name} | {} | {} |", step / calls, walk / calls)
 }
 
-// Prints, as a table, what a block takes by each block function.
+// Prints the table, with a row for each block function.
 pub(super) fn print_times(rt: &HostRuntime) -> io::Result<()> {
     println!(rt; "| | `step` | `walk_on` |")?;
     println!(rt; "|---|---|---|")?;

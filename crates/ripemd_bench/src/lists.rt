@@ -1,6 +1,5 @@
-//! Lists of messages of unlike lengths, at once and one after another: how many lists have the same
-//! digests and the same tags both ways, and the time of the one way divided by that of the other, for
-//! lists whose groups would leave lanes idle.
+//! Lists of messages that fill lanes or leave some idle, at once and one by one: how many have the
+//! same digests and tags both ways, and the quotient of the times.
 
 use crate::variants::{Task, VARIANTS, of_variant};
 use ripemd_batch::{BatchDigest, digest_each, tag_each};
@@ -8,7 +7,7 @@ use ripemd_mac::Hmac;
 use std::io;
 use std::time::Instant;
 
-// What is made of each message of a list: its digest, or its tag under the key.
+// What is made of each message: its digest, or its tag under `KEY`.
 #[derive(Clone, Copy)]
 pub(super) enum What {
     Digests,
@@ -20,7 +19,7 @@ static KEY: [u8; 20] = [0x0b; 20];
 // The most messages of a list.
 pub(super) const MOST: usize = 32;
 
-// Lists of messages: a count and a size, and another count and size.
+// Each list: a number of messages and their size, then another of each.
 static LISTS: [[usize; 4]; 11] = [
     [1, 0, 0, 0],
     [3, 32, 0, 0],
@@ -35,7 +34,7 @@ static LISTS: [[usize; 4]; 11] = [
     [1, 64_000, 31, 0],
 ];
 
-// The messages of a list, all of them parts of the same bytes, and how many they are.
+// The messages of a list, all parts of the same bytes, and their number.
 fn messages_of<'a>(list: &[usize; 4], bytes: &'a [u8; 64_000]) -> ([&'a [u8]; MOST], usize) {
     let mut messages: [&[u8]; MOST] = [&[]; MOST];
     let [first, first_size, second, second_size] = *list;
@@ -50,7 +49,6 @@ fn messages_of<'a>(list: &[usize; 4], bytes: &'a [u8; 64_000]) -> ([&'a [u8]; MO
     (messages, count)
 }
 
-// Writes the digests one after another.
 fn digest_one_by_one<D: BatchDigest>(messages: &[&[u8]], digests: &mut [D::Output]) {
     for i in 0..messages.len() {
         if i < digests.len() {
@@ -60,7 +58,7 @@ fn digest_one_by_one<D: BatchDigest>(messages: &[&[u8]], digests: &mut [D::Outpu
     }
 }
 
-// Writes the tags one after another, from copies of one keyed state.
+// Makes each tag by a copy of one keyed state.
 fn tag_one_by_one<D: BatchDigest>(texts: &[&[u8]], tags: &mut [D::Output]) {
     let keyed = Hmac::<D>::new(&KEY);
     for i in 0..texts.len() {
@@ -73,7 +71,7 @@ fn tag_one_by_one<D: BatchDigest>(texts: &[&[u8]], tags: &mut [D::Output]) {
     }
 }
 
-// Writes what is made of a list, the one way or the other. There are as many places as messages.
+// Writes what is made of a list, at once or one by one, to as many places.
 fn write<D: BatchDigest>(what: What, at_once: bool, messages: &[&[u8]], places: &mut [D::Output]) {
     match what {
         What::Digests if !at_once => digest_one_by_one::<D>(messages, places),
@@ -84,7 +82,7 @@ fn write<D: BatchDigest>(what: What, at_once: bool, messages: &[&[u8]], places: 
     }
 }
 
-// Whether a list has the same digests or tags both ways. `other` has as many places as `places`.
+// Whether a list has the same digests or tags both ways.
 pub(super) fn agrees<D: BatchDigest>(
     what: What,
     messages: &[&[u8]],
@@ -104,7 +102,7 @@ pub(super) fn agrees<D: BatchDigest>(
     true
 }
 
-// The time of as many calls, in nanoseconds, of the one way or the other.
+// The time of so many calls, in nanoseconds.
 fn time_of<D: BatchDigest>(
     rt: &HostRuntime,
     what: What,
@@ -120,8 +118,8 @@ fn time_of<D: BatchDigest>(
     Ok(start.elapsed(rt)?.as_nanos().min(u64::MAX.into()) as u64)
 }
 
-// The least time of both ways in turn, of slices of a millisecond or so: how many hundredths the
-// first is of the second.
+// The least time at once, in hundredths of that one by one, of slices of a millisecond or so in
+// turn.
 pub(super) fn hundredths<D: BatchDigest>(
     rt: &HostRuntime,
     what: What,
@@ -149,7 +147,7 @@ fn print_parts<'a>(rt: &HostRuntime, what: What, messages: &'a [&'a [u8]]) -> io
     println!(rt; " |")
 }
 
-// Prints a row of the table: the list, and the part for each variant.
+// Prints a row: the list, and its part for each variant.
 fn print_row(
     rt: &HostRuntime,
     what: What,
@@ -167,7 +165,7 @@ fn print_row(
     print_parts(rt, what, &messages[..count])
 }
 
-// Prints, as a table, the time that each list takes at once, as a part of that one after another.
+// Prints, as a table, the part of the time one by one that each list takes at once.
 pub(super) fn print_table(rt: &HostRuntime, what: What) -> io::Result<()> {
     let bytes = [b'a'; 64_000];
     let head = match what {
@@ -182,7 +180,7 @@ pub(super) fn print_table(rt: &HostRuntime, what: What) -> io::Result<()> {
     Ok(())
 }
 
-// Whether a list has the same digests or tags both ways, by all four hash functions.
+// Whether a list agrees by all four hash functions.
 fn all_agree(rt: &HostRuntime, what: What, messages: &[&[u8]]) -> io::Result<bool> {
     for variant in VARIANTS {
         let task = Task::Agree { what, messages };

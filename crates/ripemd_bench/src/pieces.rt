@@ -16,7 +16,7 @@ fn time_of<D: BatchDigest>(rt: &HostRuntime, hasher: &mut D, piece: &[u8]) -> io
     Ok(start.elapsed(rt)?.as_nanos().min(u64::MAX.into()) as u64)
 }
 
-// Prints, as a table, the least time of an update, of slices in turn, for pieces of some sizes.
+// Prints, as a table, the least time of an update by pieces of some sizes.
 pub(super) fn print_updates<D: BatchDigest>(rt: &HostRuntime) -> io::Result<()> {
     let bytes = [b'a'; 64];
     println!(rt; "| bytes | ns |")?;

@@ -1,4 +1,4 @@
-//! How long `verify` takes for a right tag, and for tags of which one byte is wrong.
+//! How long `verify` takes for a right tag and for tags with one wrong byte.
 
 use ripemd_batch::BatchDigest;
 use ripemd_mac::Hmac;
@@ -11,7 +11,7 @@ const CALLS: u32 = 200;
 // Tags by what is wrong with them.
 static NAMES: [&str; 3] = ["right", "first byte wrong", "last byte wrong"];
 
-// The time of a slice of calls, in nanoseconds, and how many of them took the tag.
+// The time of a slice in nanoseconds, and how many calls took the tag.
 fn time_of<D: BatchDigest>(
     rt: &HostRuntime,
     keyed: &Hmac<D>,
@@ -28,8 +28,7 @@ fn time_of<D: BatchDigest>(
     Ok((time, taken))
 }
 
-// Prints, as a table, the least time of `verify` for each of the tags, of slices in turn, of a text
-// of 8 bytes.
+// Prints, as a table, the least time of `verify` for each tag of a text of 8 bytes.
 pub(super) fn print_verification<D: BatchDigest>(rt: &HostRuntime) -> io::Result<()> {
     let mut keyed = Hmac::<D>::new(&[0x0b; 20]);
     keyed.update(b"Hi There");

@@ -1,5 +1,5 @@
-//! What is measured of each variant. Each hasher is named at one place alone, since a call at a hasher
-//! takes the prover long.
+//! What is measured of each variant. Each hasher is named in one place alone, since its calls take
+//! the prover long.
 
 use crate::lists::{MOST, What, agrees, hundredths};
 use crate::pieces::print_updates;
@@ -23,7 +23,7 @@ pub(super) const VARIANTS: [Variant; 4] = [
     Variant::R320,
 ];
 
-// What to do by a hash function, and what the number says that comes of it.
+// What to do by a hash function, and the number that comes of it.
 #[derive(Drop)]
 pub(super) enum Task<'a> {
     // Prints the digest of so many MiB; 0.
@@ -35,7 +35,7 @@ pub(super) enum Task<'a> {
         what: What,
         messages: &'a [&'a [u8]],
     },
-    // The time of a list at once, in hundredths of that of one after another.
+    // The time of a list at once, in hundredths of that one by one.
     Compare {
         what: What,
         messages: &'a [&'a [u8]],
@@ -46,7 +46,7 @@ pub(super) enum Task<'a> {
     Verify,
 }
 
-// Hashes so many MiB of the letter "a", in pieces of 64 KiB, and prints the digest in hexadecimal.
+// Prints the digest of so many MiB of the letter "a", taken in by 64 KiB.
 fn hash_much<D: BatchDigest>(rt: &HostRuntime, mebibytes: usize) -> io::Result<()> {
     let piece = [b'a'; 65_536];
     let mut hasher = D::new();
@@ -61,7 +61,6 @@ fn hash_much<D: BatchDigest>(rt: &HostRuntime, mebibytes: usize) -> io::Result<(
     println!(rt; "")
 }
 
-// Does a task by a hash function. Both slices have the same number of places.
 fn work<D: BatchDigest>(
     rt: &HostRuntime,
     task: &Task,

@@ -1,10 +1,10 @@
-//! Arrays of bytes, whatever their length, and words as bytes.
+//! Arrays of bytes, of any length, and words as bytes.
 
 ghost use Rattle.std.specs.Prelude.{◌≡◌, ℕ, ◌+◌, ◌*◌, ◌^◌, ◌<◌, ◌≤◌, ◌↔◌, List, ◌++◌, length, drop, replicate, IfSome, IsSome};
 ghost use Rattle.std.specs.List.{All};
 ghost use Rattle.ripemd_block.specs.Standard.Words.{word_bytes, eight_bytes};
 
-/// An array of bytes: `[u8; N]`, for any length `N`.
+/// An array of bytes, `[u8; N]` for any `N`.
 pub trait ByteArray: Copy {
     ghost bytes: { Self → List ℕ };
 
@@ -19,12 +19,12 @@ pub trait ByteArray: Copy {
     fn zeros() -> Self
         ensures { bytes result ≡ replicate LEN 0 };
 
-    /// The array of these bytes; `None` exactly if there are more or fewer than `LEN`.
+    /// The array of these bytes; `None` unless they are `LEN` bytes.
     fn from_slice(slice: &[u8]) -> Option<Self>
         ensures same { IfSome result (λ array. bytes array ≡ slice.now) }
         ensures some { IsSome result ↔ (length slice.now ≡ LEN) };
 
-    /// The array of `front` and then `back`; `None` exactly if together they are more or fewer than `LEN`.
+    /// The array of `front` and then `back`; `None` unless together they are `LEN` bytes.
     fn from_slices(front: &[u8], back: &[u8]) -> Option<Self>
         ensures same { IfSome result (λ array. bytes array ≡ front.now ++ back.now) }
         ensures some { IsSome result ↔ (length front.now + length back.now ≡ LEN) };
@@ -66,8 +66,7 @@ impl<const N: usize> ByteArray for [u8; N] {
     }
 }
 
-/// Writes at most 64 bytes to the front of `place`, which has room for them, without a call of `memcpy`, which takes
-/// longer.
+/// Writes at most 64 bytes to the front of `place`, which has room, without a call of `memcpy`, which takes longer.
 #[inline(always)]
 pub fn write_short(place: &mut [u8], bytes: &[u8])
     requires few { length bytes.now ≤ 64 }
@@ -92,8 +91,8 @@ pub fn write_short(place: &mut [u8], bytes: &[u8])
     }
 }
 
-// Writes `N` to `2 * N` bytes as two arrays, which may overlap. The first `N` come last, so that one store has them
-// all: a load of bytes from two recent stores waits long.
+// Writes `N` to `2 * N` bytes as two arrays, which may overlap. The front one comes last, so that one store has it all:
+// a load of bytes from two recent stores waits long.
 #[inline(always)]
 fn write_ends<const N: usize>(place: &mut [u8], bytes: &[u8])
     requires few { (N ≤ length bytes.now) × (length bytes.now ≤ 2 * N) }
@@ -125,7 +124,7 @@ fn write_slices(front: &[u8], back: &[u8], out: &mut [u8])
     last.copy_from_slice(back);
 }
 
-// Writes words as bytes, four each, least significant first.
+// Writes words as bytes, least significant first.
 pub(crate) fn write_words(words: &[u32], out: &mut [u8])
     requires { length out.old ≡ 4 * length words.now }
     ensures bytes { out.new ≡ word_bytes words.now }

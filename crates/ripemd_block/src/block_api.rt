@@ -1,5 +1,4 @@
-//! The block cores, which take in the whole blocks of a message and leave its tail to a
-//! [`Buffer`](crate::buffer::Buffer), their traits, and block functions.
+//! The block cores, block functions, and their traits.
 
 pub use crate::arrays::{ByteArray, write_short};
 pub use crate::block_core::{

@@ -19,8 +19,8 @@ use std::fmt;
 use std::marker::Model;
 use std::slice::from_ref;
 
-/// Takes in the whole blocks of a message, and leaves its tail to a [`Buffer`]. Contracts see the state of the block
-/// function and the count of the blocks so far, modulo 2^64, with an empty tail.
+/// Takes in the whole blocks of a message, and leaves its tail to a [`Buffer`]. Contracts see the state and the count
+/// of blocks, modulo 2^64, with an empty tail.
 #[derive(Drop)]
 pub struct BlockCore<F: ListBlockFunction> {
     state: F::State,
@@ -159,7 +159,7 @@ impl<F: ListBlockFunction> FixedOutputCore for BlockCore<F> {
         let mut state = self.state;
         walk_tail::<F>(&mut state, tail, bit_len);
         *out = F::output(state);
-        // Proof only: its contract gives the size of the digest.
+        // Proof only: gives the digest's size.
         out.as_bytes();
         *buffer = Buffer::default();
     }
@@ -179,7 +179,7 @@ pub fn walk<F: ListBlockFunction>(state: F::State, blocks: &[[u8; 64]]) -> F::St
     last
 }
 
-// Takes the last one or two blocks of a message into `state`: its tail and the padding, with `bit_len` as its length.
+// Takes in the tail of a message of `bit_len` bits, and its padding.
 fn walk_tail<F: ListBlockFunction>(state: &mut F::State, tail: &[u8], bit_len: u64)
     requires valid { F.is_state state.old }
     requires short { length tail.now < block_size }
@@ -198,13 +198,12 @@ pub fn digest_message<F: ListBlockFunction>(message: &[u8]) -> F::Digest
     ensures size { length (F.Digest.bytes result) ≡ F.Digest.LEN }
 {
     let digest = F::output(walk_message::<F>(F::start(), 0, message));
-    // Proof only: its contract gives the size of the digest.
+    // Proof only: gives the digest's size.
     digest.as_bytes();
     digest
 }
 
-/// The state after the blocks of `message` with its padding. The length counts also the `before` bytes that led to
-/// `first`.
+/// The state after `message` and its padding. The length field also counts the `before` bytes that led to `first`.
 #[inline(always)]
 pub fn walk_message<F: ListBlockFunction>(first: F::State, before: u64, message: &[u8]) -> F::State
     requires { F.is_state first }
@@ -219,8 +218,8 @@ pub fn walk_message<F: ListBlockFunction>(first: F::State, before: u64, message:
     state
 }
 
-/// What [`walk_message`] gives, faster for a message whose length the compiler knows, as that of a digest, and that
-/// is fewer than fourteen whole words.
+/// Gives what [`walk_message`] does, faster if the compiler knows the length of `message`, as of a digest, and this is
+/// a multiple of 4 below 56.
 #[inline(always)]
 pub fn walk_words<F: ListBlockFunction>(first: F::State, before: u64, message: &[u8]) -> F::State
     requires { F.is_state first }
@@ -279,7 +278,7 @@ impl<F: ResumableFunction> SerializableState for BlockCore<F> {
     ghost same_saved = { F.SavedCore.same_array };
 }
 
-/// Takes blocks in order into a saved core, in place. Nothing is known of the result if no core is saved as `saved`.
+/// Takes blocks in order into a saved core, in place. If no core has these saved bytes, nothing is known of the result.
 #[inline(always)]
 pub fn update_saved<F: ResumableFunction>(saved: &mut [u8], blocks: &[[u8; 64]])
     requires size { length saved.old ≡ F.SavedCore.LEN }

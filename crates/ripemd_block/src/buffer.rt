@@ -14,7 +14,7 @@ use crate::traits::UpdateCore;
 use std::marker::Model;
 use std::slice::from_ref;
 
-/// The tail of a message: fewer than 64 bytes. Contracts see the list of them.
+/// Holds 0 to 63 bytes. Contracts see them as a list.
 #[derive(Drop)]
 pub struct Buffer {
     bytes: [u8; 64],
@@ -41,7 +41,7 @@ impl Default for Buffer {
 }
 
 impl Buffer {
-    /// A buffer that holds these bytes; `None` exactly if there are 64 or more.
+    /// A buffer of these bytes; `None` exactly if there are 64 or more.
     pub fn try_new(bytes: &[u8]) -> Option<Buffer>
         ensures value { SomeIff result (length bytes.now < block_size) bytes.now }
         ensures valid { IfSome result IsTail }
@@ -49,9 +49,8 @@ impl Buffer {
         Buffer::try_front(bytes, bytes.len())
     }
 
-    /// A buffer that holds the first `len` of `bytes`; `None` exactly if `len` is 64 or more, or there are fewer than
-    /// `len` bytes, or more than 64. It copies all of `bytes`, which is faster than a part if the compiler knows
-    /// their number.
+    /// A buffer of the first `len` of `bytes`; `None` exactly if `len` is 64 or more, or `bytes` has fewer than `len`
+    /// or more than 64. It copies all of `bytes`: this is faster if the compiler knows their number.
     #[inline(always)]
     pub fn try_front(bytes: &[u8], len: usize) -> Option<Buffer>
         ensures value { SomeIff result ((len < block_size) × (len ≤ length bytes.now)
@@ -67,7 +66,7 @@ impl Buffer {
         Some(Buffer { bytes: all, len })
     }
 
-    /// A buffer of the same bytes.
+    /// A copy of the buffer.
     pub fn duplicate(&self) -> Buffer
         ensures { result ≡ self.now }
     {
@@ -77,7 +76,7 @@ impl Buffer {
         }
     }
 
-    /// How many bytes it holds: 0 to 63.
+    /// The number of bytes held: 0 to 63.
     pub fn get_pos(&self) -> usize
         ensures length { result ≡ length self.now }
         ensures small { result < block_size }
@@ -85,7 +84,7 @@ impl Buffer {
         self.len
     }
 
-    /// The bytes that it holds.
+    /// The bytes held.
     pub fn get_data(&self) -> &[u8]
         ensures bytes { result.now ≡ self.now }
         ensures small { length result.now < block_size }
@@ -96,8 +95,8 @@ impl Buffer {
         data
     }
 
-    /// Appends `bytes`: the whole blocks of all bytes go into the core, in order, and the buffer keeps the 0 to 63
-    /// bytes after them. The core's count of blocks is taken modulo 2^64.
+    /// Appends `bytes`. The core takes in the whole blocks of all bytes, in order, and the buffer keeps the 0 to 63
+    /// bytes after them.
     pub fn absorb<C: UpdateCore>(&mut self, core: &mut C, bytes: &[u8])
         ensures core { core.new ≡ C.after core.old (blocks (self.old ++ bytes.now)) }
         ensures buffer { self.new ≡ partial_block (self.old ++ bytes.now) }
@@ -121,10 +120,8 @@ impl Buffer {
         bytes_in_range(self.get_data());
     }
 
-    /// The end of a message whose tail it holds and whose length is `bit_len` bits (RFC 1320,
-    /// sections 3.1 and 3.2): the one or two blocks of the tail, the byte 0x80, the fewest zero bytes that
-    /// leave room for the length, and the length in 8 bytes, least first. The buffer is empty
-    /// afterwards.
+    /// The last one or two blocks of a message of `bit_len` bits, of which it holds the tail, padded as by
+    /// [`last_blocks`] (RFC 1320, sections 3.1 and 3.2). Afterwards the buffer is empty.
     pub fn len64_padding_le(&mut self, bit_len: u64) -> Padded
         ensures value { result.first ∷ option_to_list result.second
             ≡ blocks (with_padding self.old bit_len) }
@@ -143,8 +140,8 @@ impl Buffer {
     }
 }
 
-// Takes the whole blocks of a tail and then `bytes` into the core, in order; there is at least one. Gives the 0 to 63
-// bytes after them. The tail is the first `len` bytes of `front`.
+// Takes the whole blocks, at least one, of a tail (the first `len` bytes of `front`) and then `bytes` into the core.
+// Gives the 0 to 63 bytes after them.
 #[inline(always)]
 fn take_blocks<'a, C: UpdateCore>(
     core: &mut C,
@@ -173,8 +170,8 @@ fn take_blocks<'a, C: UpdateCore>(
     rest
 }
 
-/// Fills a block with a tail and the first of `bytes`, and gives the rest of these. The tail is the first `len` bytes
-/// of `front`, which is copied whole, as by `try_front`.
+/// Fills a block with the first `len` bytes of `front` and then the first of `bytes`, and gives the rest of these. It
+/// copies all of `front`, as `try_front` does.
 #[inline(always)]
 pub fn fill_block<'a>(block: &mut [u8; 64], front: &[u8], len: usize, bytes: &'a [u8]) -> &'a [u8]
     requires short { len < block_size }
@@ -189,7 +186,6 @@ pub fn fill_block<'a>(block: &mut [u8; 64], front: &[u8], len: usize, bytes: &'a
     behind
 }
 
-// Writes bytes to the front of a block.
 #[inline(always)]
 fn put_front(block: &mut [u8; 64], bytes: &[u8])
     requires { length bytes.now ≤ block_size }
@@ -199,13 +195,12 @@ fn put_front(block: &mut [u8; 64], bytes: &[u8])
     front.copy_from_slice(bytes);
 }
 
-// Proof only: fewer bytes than a block are a tail, since bytes are below 256.
+// Proof only: bytes are below 256.
 fn bytes_in_range(tail: &[u8])
     requires { length tail.now < block_size }
     ensures { IsTail tail.now }
 {}
 
-// Writes bytes after the first `len` of a block.
 fn put_behind(block: &mut [u8; 64], len: usize, bytes: &[u8])
     requires { len + length bytes.now ≤ block_size }
     ensures { block.new

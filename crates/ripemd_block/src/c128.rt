@@ -1,5 +1,5 @@
 //! The compression function of RIPEMD-128 (1996, pseudo-code): both lines start from the whole
-//! state, and nothing is exchanged between them.
+//! state and exchange nothing.
 
 ghost use Rattle.std.specs.Prelude.{◌≡◌};
 ghost use Rattle.ripemd_block.specs.Standard.Compression.{compress, ripemd128};

@@ -1,5 +1,5 @@
 //! The compression function of RIPEMD-256 (1996, extension to 256 bits): each line starts from its
-//! half of the state, and after each round the lines exchange a register.
+//! half of the state, and after each round the lines exchange a register: A, B, C and D in turn.
 
 ghost use Rattle.std.specs.Prelude.{◌≡◌};
 ghost use Rattle.ripemd_block.specs.Standard.Compression.{compress, ripemd256};
@@ -8,7 +8,7 @@ ghost use Rattle.ripemd_block.specs.States.{AreWords};
 use crate::chaining::{double_state_of_four, lines_of_256};
 use crate::lanes::{lane_of_four, lanes_of_four, lines_after};
 
-/// Takes one block into the state. The registers that are exchanged are A, B, C and D in turn.
+/// Takes one block into the state.
 #[tactic(auto, using(crate::proofs::Stepping::word_sums_fit))]
 pub(crate) fn compress(state: &mut [u32; 8], block: &[u8; 64])
     ensures state { state.new ≡ compress ripemd256 state.old block.now }

@@ -1,5 +1,5 @@
 //! The compression function of RIPEMD-320 (1996, extension to 320 bits): each line starts from its
-//! half of the state, and after each round the lines exchange a register.
+//! half of the state, and after each round the lines exchange a register: B, D, A, C and E in turn.
 
 ghost use Rattle.std.specs.Prelude.{◌≡◌};
 ghost use Rattle.ripemd_block.specs.Standard.Compression.{compress, ripemd320};
@@ -8,7 +8,7 @@ ghost use Rattle.ripemd_block.specs.States.{AreWords};
 use crate::chaining::{double_state_of_five, lines_of_320};
 use crate::lanes::{lane_of_five, lanes_of_five, lines_after};
 
-/// Takes one block into the state. The registers that are exchanged are B, D, A, C and E in turn.
+/// Takes one block into the state.
 #[tactic(auto, using(crate::proofs::Stepping::word_sums_fit))]
 pub(crate) fn compress(state: &mut [u32; 10], block: &[u8; 64])
     ensures state { state.new ≡ compress ripemd320 state.old block.now }

@@ -1,5 +1,4 @@
-//! Facts of the definitions: what the authors published, and laws. The functions do nothing; their contracts are the
-//! facts.
+//! Facts of the definitions, published values and laws, as contracts of functions that do nothing.
 
 ghost use Rattle.std.specs.Prelude.{◌≡◌, ℕ, ◌+◌, ◌-◌, ◌*◌, ◌%◌, ◌^◌, ◌<◌, List, [], ◌++◌, length, drop};
 ghost use Rattle.std.specs.Prelude.{slice_index_or};
@@ -14,9 +13,8 @@ ghost use Rattle.ripemd_block.specs.Published.{DigestsOfEmpty, DigestsOfAbc, Dig
 ghost use Rattle.ripemd_block.specs.Published.{OrderOfLeftLine, OrderOfRightLine, ConstantsOfLines, AreWholeRoots};
 ghost use Rattle.ripemd_block.specs.Published.{SavedCores, SavedHasher, SavedBlockAndTail, EndsOfLongMessages, StatesThatOccur};
 
-/// The definitions give the digests that the authors published of the empty message, of "abc", of a
-/// message of 56 bytes, whose padding needs a second block, and of "1234567890" eight times, for
-/// each of the four variants.
+/// In each of the four variants, the definitions give the published digests of the empty message, of "abc", of a
+/// message of 56 bytes, whose padding needs a second block, and of "1234567890" eight times.
 pub fn published_digests()
     ensures empty { DigestsOfEmpty }
     ensures abc { DigestsOfAbc }
@@ -24,8 +22,8 @@ pub fn published_digests()
     ensures digits { DigestsOfDigits }
 {}
 
-/// The definitions give the published orders of the message words and the published constants, and
-/// each constant is the greatest whole number that is not above its root.
+/// The definitions give the published orders of the message words and the published constants. Each constant is its
+/// root, rounded down.
 pub fn published_tables()
     ensures left { OrderOfLeftLine }
     ensures right { OrderOfRightLine }
@@ -36,8 +34,8 @@ pub fn published_tables()
     ensures roots_of_seven { AreWholeRoots 3 }
 {}
 
-/// The definitions give the saved bytes of new cores of the four variants, of a RIPEMD-160 hasher
-/// that was fed "abc", and of one that was fed 65 bytes.
+/// The definitions give the saved bytes of new cores of the four variants, of a RIPEMD-160 hasher that was fed "abc",
+/// and, behind the words, of one that was fed 65 bytes.
 #[tactic(auto, unfolding(crate::specs::Standard::Compression::registers_after, crate::specs::Standard::Compression::lines_after, crate::specs::Standard::Compression::compress, crate::specs::Standard::Hashing::blocks, crate::specs::Standard::Hashing::partial_block, crate::specs::States::fed, crate::specs::States::output_and_count, crate::specs::States::core_and_tail))]
 pub fn saved_states()
     ensures cores { SavedCores }
@@ -45,19 +43,18 @@ pub fn saved_states()
     ensures block_and_tail { SavedBlockAndTail }
 {}
 
-/// Where the length in bits passes 2^64, and where the count of blocks does, the definitions give the
-/// digest that OpenSSL gives.
+/// The definitions give OpenSSL's digests where the length in bits or the count of blocks passes 2^64.
 #[tactic(auto, unfolding(crate::specs::Standard::Compression::registers_after, crate::specs::Standard::Compression::lines_after, crate::specs::Standard::Compression::compress, crate::specs::Standard::Hashing::with_padding, crate::specs::Standard::Hashing::blocks, crate::specs::Standard::Hashing::partial_block, crate::specs::States::fed, crate::specs::States::finish))]
 pub fn long_messages()
     ensures { EndsOfLongMessages }
 {}
 
-/// The greatest words, count and tail are those of a state that can occur; one more of each is not.
+/// The greatest words, count and tail of RIPEMD-160 can occur; no greater ones can, nor another number of words.
 pub fn states()
     ensures { StatesThatOccur }
 {}
 
-/// The start words of each variant are words, as many as its state has.
+/// Each variant starts from as many words as its state has.
 pub fn start_words()
     ensures of128 { AreWords 4 ripemd128.start }
     ensures of160 { AreWords 5 ripemd160.start }
@@ -65,9 +62,8 @@ pub fn start_words()
     ensures of320 { AreWords 10 ripemd320.start }
 {}
 
-/// The padding's zero bytes are the fewest after which the length has its place at the end of a
-/// block, a padded message is whole blocks, and its last 8 bytes are the message's length in bits,
-/// as long as that is below 2^64. Different messages have different padded messages, and those of
+/// The padding has the fewest zero bytes that bring the length to the end of a block. A padded message is whole blocks
+/// and, below 2^61 bytes, ends in its length in bits. Different messages have different padded messages; those of
 /// different lengths below 2^61 bytes differ in the last block.
 #[tactic(auto, using(crate::proofs::PaddedBlocks::whole_padded_message, crate::proofs::PaddedBlocks::end_padded_message, crate::proofs::PaddedBlocks::one_message, crate::proofs::PaddedBlocks::one_length))]
 pub fn padding_laws()
@@ -84,10 +80,8 @@ pub fn padding_laws()
         → length a ≡ length b }
 {}
 
-/// However a message is cut into pieces, its state is that of the whole message, and finishing that state gives its
-/// hash: for every block function over lists of numbers and messages of every length. For the four variants this is
-/// the digest.
-#[tactic(auto, using(crate::specs::Laws::Pieces::fed_nothing, crate::specs::Laws::Pieces::fed_twice, crate::specs::Laws::Pieces::finish_fed))]
+/// However a message is cut into pieces, its state is that of the whole message, and finishing it gives the hash, for
+/// every block function over lists of numbers and every length. For the four variants this is the digest.
 pub fn state_laws()
     ensures nothing { (step : List ℕ → List ℕ → List ℕ) (h : HashState)
         → h.count < 2 ^ 64 → length h.tail < block_size → fed step h [] ≡ h }

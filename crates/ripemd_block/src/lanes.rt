@@ -1,5 +1,4 @@
-//! Both lines of a block in lockstep, in the two lanes of vectors: lane 0 runs the left line, lane 1
-//! the right one, and each register is such a vector.
+//! Both lines of a block in lockstep, in the two lanes of vectors: the left line in lane 0, the right one in lane 1.
 
 ghost use Rattle.std.specs.Prelude.{◌≡◌, ◌<◌, ◌≤◌, ℕ, List, Some, length, slice_index};
 ghost use Rattle.std.specs.List.{All};
@@ -13,8 +12,7 @@ use crate::message::message_words;
 use crate::textbook::{amounts, left_constant, left_number, right_constant, right_number};
 use std::simd::prelude::*;
 
-/// The registers of both lines: as many vectors as a line has registers, which are as many as its
-/// rounds.
+/// The registers of both lines: as many vectors as a line has rounds.
 pub(crate) trait Registers: Copy {
     // The registers of the line in lane `j`.
     ghost lane: { Self → ℕ → List ℕ };
@@ -29,8 +27,7 @@ pub(crate) trait Registers: Copy {
         ensures { (j : ℕ) → j < 2
             → slice_index result j ≡ (line_of_lane ROUNDS j).constant r };
 
-    /// A step of both lines in round `r`, with the message words `x`, the constants `k` and rotations
-    /// by `s` bits.
+    /// A step of both lines in round `r`: message words `x`, constants `k`, rotations by `s` bits.
     fn step(self, r: usize, x: u32x2, k: u32x2, s: u32x2) -> Self
         requires round { r < ROUNDS }
         requires amounts { (j : ℕ) → j < 2 → (0 < slice_index s j) × (slice_index s j < 32) }
@@ -38,14 +35,14 @@ pub(crate) trait Registers: Copy {
             ≡ step ((line_of_lane ROUNDS j).function r) (slice_index x j) (slice_index k j)
             (slice_index s j) (lane self j) };
 
-    /// The lines with register `i` exchanged between them.
+    /// The lines with register `i` exchanged.
     fn exchange(self, i: usize) -> Self
         requires { i < ROUNDS }
         ensures { both_lines (lane result 0) (lane result 1)
             ≡ exchange (Some i) (both_lines (lane self 0) (lane self 1)) };
 }
 
-// Boolean function `k` of three words, in each lane (1996, Boolean functions).
+// Boolean function `k` in each lane (1996, Boolean functions).
 #[inline(always)]
 fn boolean_function(k: usize, x: u32x2, y: u32x2, z: u32x2) -> u32x2
     requires { k < 5 }
@@ -247,8 +244,7 @@ fn round<R: Registers>(r: usize, words: &[u32; 16], start: R) -> R
     registers
 }
 
-/// Both lines through their rounds on a block, with an exchange of one register after each round where
-/// `exchanges` has one for it.
+/// Both lines after all rounds on a block. After round `r` they exchange register `exchanges[r]`, if there is one.
 #[inline(always)]
 #[tactic(auto, unfolding(crate::specs::Standard::Compression::lines_after))]
 pub(crate) fn lines_after<R: Registers>(exchanges: &[usize], block: &[u8; 64], start: R) -> R

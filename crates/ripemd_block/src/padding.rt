@@ -1,5 +1,4 @@
-//! The padding, which is that of MD4 (RFC 1320): the whole blocks of a message, its last one or two blocks, and each
-//! block of the padded message by its place. Nothing has to be stored.
+//! The padding, that of MD4 (RFC 1320), and the blocks of a padded message, which need not be stored.
 
 ghost use Rattle.std.specs.Prelude.{◌≡◌, ◌-◌, ◌%◌, ◌<◌, ◌≤◌, ◌↔◌, ◌∷◌, ◌++◌, length, take, replicate, []};
 ghost use Rattle.std.specs.List.{slice_get};
@@ -10,7 +9,7 @@ ghost use Rattle.ripemd_block.specs.Standard.Hashing.{padded_message, blocks, pa
 use crate::arrays::{read_words, write_short};
 use std::simd::prelude::*;
 
-/// The last block or the last two blocks of a padded message.
+/// The last one or two blocks of a padded message.
 #[derive(Clone, Copy, PartialEq, Eq, Debug)]
 pub struct Padded {
     /// The block that begins with the tail.
@@ -19,7 +18,7 @@ pub struct Padded {
     pub second: Option<[u8; 64]>,
 }
 
-/// The whole blocks of a message, in order, and its tail, the 0 to 63 bytes after them. Neither is copied.
+/// The whole blocks of a message and its tail, the 0 to 63 bytes after them. Neither is copied.
 #[inline(always)]
 #[tactic(auto, unfolding(crate::specs::Standard::Hashing::blocks, crate::specs::Standard::Hashing::partial_block))]
 pub fn whole_blocks(message: &[u8]) -> (&[[u8; 64]], &[u8])
@@ -30,8 +29,8 @@ pub fn whole_blocks(message: &[u8]) -> (&[[u8; 64]], &[u8])
     message.as_chunks::<64>()
 }
 
-/// How many blocks a message has with its padding (RFC 1320, section 3.1): its whole blocks
-/// and one more, or two more if its tail has 56 bytes or more.
+/// How many blocks a padded message has (RFC 1320, section 3.1): its whole blocks and one more, or two if its tail has
+/// 56 bytes or more.
 #[tactic(auto, using(crate::proofs::PaddedBlocks::counts))]
 pub fn block_count(message: &[u8]) -> usize
     ensures { result ≡ length (blocks (padded_message message.now)) }
@@ -40,8 +39,8 @@ pub fn block_count(message: &[u8]) -> usize
     whole.len() + if tail.len() < 56 { 1 } else { 2 }
 }
 
-/// The block at a place, counted from 0, of a message with its padding (RFC 1320, section
-/// 3.1); `None` exactly if there is no block at that place, so from `block_count(message)` on.
+/// The padded message's block at `place`, counted from 0 (RFC 1320, section 3.1); `None` from `block_count(message)`
+/// on.
 #[tactic(auto, using(crate::proofs::PaddedBlocks::whole_block))]
 pub fn pad_block(message: &[u8], place: usize) -> Option<[u8; 64]>
     ensures { result ≡ slice_get (blocks (padded_message message.now)) place }
@@ -61,9 +60,9 @@ pub fn pad_block(message: &[u8], place: usize) -> Option<[u8; 64]>
     }
 }
 
-/// The one or two blocks of the tail of a message whose length is `bit_len` bits: the tail, the byte 0x80, the fewest
-/// zero bytes that leave room for the length, and the length in 8 bytes, least first (RFC 1320, sections 3.1 and
-/// 3.2). They are made in place of two blocks of zero bytes.
+/// The last one or two blocks of a message of `bit_len` bits: the tail, the byte 0x80, the fewest zero bytes that leave
+/// room for the length, and the length in 8 bytes, least first (RFC 1320, sections 3.1 and 3.2). They are made in place
+/// of `zeros`, two blocks of zero bytes.
 #[inline(always)]
 #[tactic(auto, using(crate::proofs::LastBlocks::with_padding_short, crate::proofs::LastBlocks::with_padding_long))]
 pub fn last_blocks<'a>(tail: &[u8], bit_len: u64, zeros: &'a mut [[u8; 64]; 2]) -> &'a [[u8; 64]]
@@ -83,7 +82,7 @@ pub fn last_blocks<'a>(tail: &[u8], bit_len: u64, zeros: &'a mut [[u8; 64]; 2]) 
     }
 }
 
-// Writes a tail and the byte 0x80 to the front of a block of zero bytes.
+// Writes a tail and then 0x80.
 #[inline(always)]
 #[tactic(auto, using(crate::proofs::LastBlocks::marked_block))]
 fn write_marked(block: &mut [u8; 64], tail: &[u8])
@@ -96,7 +95,6 @@ fn write_marked(block: &mut [u8; 64], tail: &[u8])
     block[len] = 0x80;
 }
 
-// Writes a length in bits to the last 8 bytes of a block.
 #[inline(always)]
 fn write_length(block: &mut [u8; 64], bit_len: u64)
     ensures { block.new ≡ take length_place block.old ++ eight_bytes bit_len }
@@ -104,8 +102,8 @@ fn write_length(block: &mut [u8; 64], bit_len: u64)
     block[56..].copy_from_slice(&bit_len.to_le_bytes());
 }
 
-// The last block of a message whose tail is fewer than fourteen whole words. It is assembled from words: a load of a
-// block waits long for recent stores of smaller parts.
+// The last block, if the tail is fewer than fourteen whole words. It is assembled from words: a load of a block waits
+// long for recent stores of smaller parts.
 #[inline(always)]
 pub(crate) fn padded_words(tail: &[u8], bit_len: u64) -> [u8; 64]
     requires words { length tail.now % 4 ≡ 0 }
@@ -121,7 +119,7 @@ pub(crate) fn padded_words(tail: &[u8], bit_len: u64) -> [u8; 64]
     block_of(&words)
 }
 
-// The block of sixteen message words, by vectors: the compiler does not join stores of single words.
+// By vectors: the compiler does not join stores of single words.
 #[inline(always)]
 fn block_of(words: &[u32]) -> [u8; 64]
     requires { length words.now ≡ 16 }

@@ -1,5 +1,5 @@
 //! Walks over blocks with both lines in general registers. These rotate in one instruction, so many blocks take less
-//! time than by the steps of the block function.
+//! time than in vectors.
 
 ghost use Rattle.std.specs.Prelude.{◌≡◌};
 ghost use Rattle.ripemd_block.specs.Standard.Hashing.{walk};
@@ -15,7 +15,7 @@ use crate::variants::{Ripemd128Function, Ripemd160Function, Ripemd256Function, R
 use lines::{Lines, exchange, round, words_of_five_rounds, words_of_four_rounds};
 use std::simd::prelude::*;
 
-/// A block function that has a step in general registers, too.
+/// A block function with a step in general registers.
 pub(crate) trait InRegisters: BlockFunction {
     /// The state after a block.
     fn compress(state: Self::State, block: &[u8; 64]) -> Self::State
@@ -77,8 +77,8 @@ impl InRegisters for Ripemd160Function {
         joint_state_of_five(state, lines.left, lines.right)
     }
 
-    // One store of four words: otherwise the compiler keeps them in a vector from block to block, and the next block
-    // waits for its words. It makes no vector of the states of the other functions.
+    // One store of four words: otherwise the compiler keeps them in a vector between blocks, and the next block waits
+    // for them. It makes no vector of other states.
     #[inline(always)]
     fn put(state: [u32; 5], place: &mut [u32; 5]) {
         let [s0, s1, s2, s3, s4] = state;
@@ -87,7 +87,7 @@ impl InRegisters for Ripemd160Function {
     }
 }
 
-// The registers that are exchanged are A, B, C and D in turn.
+// The lines exchange A, B, C and D in turn.
 impl InRegisters for Ripemd256Function {
     #[tactic(auto, using(crate::proofs::Stepping::word_sums_fit))]
     #[inline(always)]
@@ -103,7 +103,7 @@ impl InRegisters for Ripemd256Function {
     }
 }
 
-// The registers that are exchanged are B, D, A, C and E in turn.
+// The lines exchange B, D, A, C and E in turn.
 impl InRegisters for Ripemd320Function {
     #[tactic(auto, using(crate::proofs::Stepping::word_sums_fit))]
     #[inline(always)]

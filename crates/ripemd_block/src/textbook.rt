@@ -3,8 +3,7 @@
 ghost use Rattle.std.specs.Prelude.{◌≡◌, ◌<◌, ◌≤◌, ℕ, slice_index};
 ghost use Rattle.ripemd_block.specs.Standard.Schedule.{left_line, right_line, rotation};
 
-// The numbers of the message words that the left line takes, by round and step (1996, ordering of
-// the message words).
+// Message words of the left line, by round and step (1996, ordering of the message words).
 static LEFT_ORDER: [[usize; 16]; 5] = [
     [0, 1, 2, 3, 4, 5, 6, 7, 8, 9, 10, 11, 12, 13, 14, 15],
     [7, 4, 13, 1, 10, 6, 15, 3, 12, 0, 9, 5, 2, 14, 11, 8],
@@ -13,7 +12,7 @@ static LEFT_ORDER: [[usize; 16]; 5] = [
     [4, 0, 5, 9, 7, 12, 2, 10, 14, 1, 3, 8, 11, 6, 15, 13],
 ];
 
-// The numbers of the message words that the right line takes, by round and step.
+// Message words of the right line, by round and step.
 static RIGHT_ORDER: [[usize; 16]; 5] = [
     [5, 14, 7, 0, 9, 2, 11, 4, 13, 6, 15, 8, 1, 10, 3, 12],
     [6, 11, 3, 7, 0, 13, 5, 10, 14, 15, 8, 12, 4, 9, 1, 2],
@@ -22,7 +21,7 @@ static RIGHT_ORDER: [[usize; 16]; 5] = [
     [12, 15, 10, 4, 1, 5, 8, 7, 6, 2, 13, 14, 0, 3, 9, 11],
 ];
 
-// The amounts of the rotations, by round and message word (1996, shifts).
+// Rotations, by round and message word (1996, shifts).
 static ROTATIONS: [[u32; 16]; 5] = [
     [11, 14, 15, 12, 5, 8, 7, 9, 11, 13, 14, 15, 6, 7, 9, 8],
     [12, 13, 11, 15, 6, 9, 9, 7, 12, 15, 11, 13, 7, 8, 7, 7],
@@ -31,7 +30,7 @@ static ROTATIONS: [[u32; 16]; 5] = [
     [15, 12, 13, 13, 9, 5, 8, 6, 14, 11, 12, 11, 8, 6, 5, 5],
 ];
 
-// The amounts of the rotations, by round, line and step (1996, pseudo-code).
+// Rotations, by round, line and step (1996, pseudo-code).
 static AMOUNTS: [[[u32; 16]; 2]; 5] = [
     [
         [11, 14, 15, 12, 5, 8, 7, 9, 11, 13, 14, 15, 6, 7, 9, 8],
@@ -61,7 +60,7 @@ static LEFT_CONSTANTS: [u32; 5] = [0, 0x5a82_7999, 0x6ed9_eba1, 0x8f1b_bcdc, 0xa
 // The constants of the right line's rounds, except the last, which has none.
 static RIGHT_CONSTANTS: [u32; 4] = [0x50a2_8be6, 0x5c4d_d124, 0x6d70_3ef3, 0x7a6d_76e9];
 
-/// The number of the message word that step `i` of round `r` of the left line takes.
+/// The number of the left line's message word in step `i` of round `r`.
 #[inline(always)]
 pub fn left_number(r: usize, i: usize) -> usize
     requires round { r < 5 }
@@ -72,7 +71,7 @@ pub fn left_number(r: usize, i: usize) -> usize
     LEFT_ORDER[r][i]
 }
 
-/// The number of the message word that step `i` of round `r` of the right line takes, for any number of rounds.
+/// The number of the right line's message word in step `i` of round `r`, for any number of rounds.
 #[inline(always)]
 pub fn right_number(r: usize, i: usize) -> usize
     requires round { r < 5 }
@@ -83,7 +82,7 @@ pub fn right_number(r: usize, i: usize) -> usize
     RIGHT_ORDER[r][i]
 }
 
-/// By how many bits a step of round `r` that takes message word `j` rotates.
+/// By how many bits a step of round `r` with message word `j` rotates.
 #[inline(always)]
 pub fn rotation(r: usize, j: usize) -> u32
     requires round { r < 5 }
@@ -94,7 +93,7 @@ pub fn rotation(r: usize, j: usize) -> u32
     ROTATIONS[r][j]
 }
 
-/// By how many bits step `i` of round `r` of the left and of the right line rotates.
+/// By how many bits step `i` of round `r` rotates the left and the right line.
 #[inline(always)]
 pub(crate) fn amounts(r: usize, i: usize) -> [u32; 2]
     requires round { r < 5 }

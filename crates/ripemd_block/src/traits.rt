@@ -12,7 +12,7 @@ use crate::buffer::Buffer;
 use std::fmt;
 use thiserror::Error;
 
-/// The kind of buffer that hands a block on as soon as it holds a whole one.
+/// The kind of buffer that hands on a block as soon as it is full.
 #[derive(Clone, Copy, PartialEq, Eq, Debug)]
 pub struct Eager;
 
@@ -22,11 +22,11 @@ pub trait BlockSizeUser {
 
     ghost block_size_is: { BLOCK_SIZE ≡ block_size };
 
-    /// How many bytes a block has: 64.
+    /// The size of a block: 64 bytes.
     const BLOCK_SIZE: usize;
 }
 
-/// A type that has a digest.
+/// A type with a digest.
 pub trait OutputSizeUser {
     /// The digest, an array of bytes.
     type Output: Copy;
@@ -35,16 +35,16 @@ pub trait OutputSizeUser {
 
     ghost OUTPUT_SIZE: { ℕ };
 
-    /// How many bytes a digest has.
+    /// The size of a digest in bytes.
     const OUTPUT_SIZE: usize;
 
     ghost same_digest: { (a b : Self.Output) → bytes_of a ≡ bytes_of b → a ≡ b };
 }
 
-/// Marks a type that is a hash function, or a core of one. It has no items.
+/// Marks a hash function or its core, and has no items.
 pub trait HashMarker {}
 
-/// A type that has the name of a hash function.
+/// A type with the name of a hash function.
 pub trait AlgorithmName {
     // The characters of the name.
     ghost name: { List ℕ };
@@ -52,17 +52,17 @@ pub trait AlgorithmName {
     /// The name, such as `Ripemd160`.
     const ALG_NAME: &'static str;
 
-    /// Writes the name, and nothing for the width or another option of the formatter.
+    /// Writes the name, whatever the formatter's width and other options.
     ///
     /// # Errors
     ///
-    /// The error of the writer. What it then took is not known.
+    /// The writer's error. What it then took is not known.
     fn write_alg_name<W: fmt::Write>(f: &mut fmt::Formatter<W>) -> fmt::Result
         ensures writes { WritesOnOk W.write_str_gives f.old result name f.new }
         ensures styled { WritesStyledOnOk W.write_str_gives f.old result name f.new };
 }
 
-/// A core or a hasher that contracts see as a hash state: chaining value, count of blocks, tail.
+/// A core or hasher. Contracts see a hash state: chaining value, count of blocks, tail.
 pub trait HashMeaning {
     ghost meaning: { Self → HashState };
 
@@ -70,19 +70,19 @@ pub trait HashMeaning {
     ghost is_valid: { HashState → Type 0 };
 }
 
-/// The error of loading bytes that no state is saved as.
+/// The error of loading bytes that are no saved state.
 #[derive(Clone, Copy, PartialEq, Eq, Debug, Error)]
 #[error("Deserialization error")]
 pub struct DeserializeStateError;
 
-/// A core or a hasher that can be saved as bytes, and loaded from them.
+/// A core or hasher that can be saved as bytes and loaded.
 pub trait SerializableState: HashMeaning {
     /// The saved bytes, an array.
     type Saved: Copy;
 
     ghost saved_bytes: { Self.Saved → List ℕ };
 
-    // The bytes that a state is saved as.
+    // The saved bytes of a state.
     ghost state_bytes: { HashState → List ℕ };
 
     /// Saves the state.
@@ -90,11 +90,11 @@ pub trait SerializableState: HashMeaning {
         ensures bytes { saved_bytes result ≡ state_bytes (Self.meaning self.now) }
         ensures valid { Self.is_valid (Self.meaning self.now) };
 
-    /// Loads the state that is saved as these bytes.
+    /// Loads a saved state.
     ///
     /// # Errors
     ///
-    /// `DeserializeStateError` if no state is saved as these bytes.
+    /// `DeserializeStateError` if no state has these saved bytes.
     fn deserialize(saved: &Self::Saved) -> Result<Self, DeserializeStateError>
         ensures ok { IfOk result
             (λ value. state_bytes (Self.meaning value) ≡ saved_bytes saved.now) }
@@ -102,22 +102,22 @@ pub trait SerializableState: HashMeaning {
         ensures err { IfErr result
             (λ _. (h : HashState) → Self.is_valid h → state_bytes h ≢ saved_bytes saved.now) };
 
-    /// Loads the state that is saved as these bytes.
+    /// Loads a state from its saved bytes.
     ///
     /// # Errors
     ///
-    /// `DeserializeStateError` if no state is saved as these bytes, so for any other number of them.
+    /// `DeserializeStateError` if no state has these saved bytes, so for any other number of them.
     fn load_slice(bytes: &[u8]) -> Result<Self, DeserializeStateError>
         ensures ok { IfOk result (λ value. state_bytes (Self.meaning value) ≡ bytes.now) }
         ensures valid { IfOk result (λ value. Self.is_valid (Self.meaning value)) }
         ensures err { IfErr result
             (λ _. (h : HashState) → Self.is_valid h → state_bytes h ≢ bytes.now) };
 
-    // States saved as the same bytes are equal: a saved state loads as itself.
+    // A saved state loads as itself.
     ghost state_injective: { (g h : HashState) → Self.is_valid g → Self.is_valid h
         → state_bytes g ≡ state_bytes h → g ≡ h };
 
-    // Arrays of equal bytes are equal: a loaded array saves as itself.
+    // A loaded array saves as itself.
     ghost same_saved: { (a b : Self.Saved) → saved_bytes a ≡ saved_bytes b → a ≡ b };
 }
 
@@ -142,7 +142,7 @@ pub trait UpdateCore: BlockSizeUser {
     // A core after some blocks.
     ghost after: { Self → List (List ℕ) → Self };
 
-    /// Takes in blocks in order. The count of blocks is taken modulo 2^64.
+    /// Takes in blocks in order, and counts them modulo 2^64.
     fn update_blocks(&mut self, blocks: &[[u8; 64]])
         ensures after { self.new ≡ after self.old blocks.now }
         ensures valid_old { is_core self.old }
@@ -156,11 +156,11 @@ pub trait UpdateCore: BlockSizeUser {
 
 /// A core that gives a digest.
 pub trait FixedOutputCore: UpdateCore + BufferKindUser + OutputSizeUser {
-    // The bytes of the digest of a core and the tail of the message after its blocks.
+    // The digest's bytes, by the core and the tail.
     ghost digest_of: { Self → List ℕ → List ℕ };
 
-    /// Writes to `out` the digest of the message that is the core's blocks and then the buffer's bytes; its length in
-    /// bits is taken modulo 2^64. The core stays as it was, and the buffer is empty afterwards.
+    /// Writes to `out` the digest of the core's blocks and then the buffer's bytes, with the length in bits modulo
+    /// 2^64. The core stays as it was; the buffer becomes empty.
     fn finalize_fixed_core(&mut self, buffer: &mut Buffer, out: &mut Self::Output)
         ensures digest { Self.bytes_of out.new ≡ digest_of self.old buffer.old }
         ensures size { length (Self.bytes_of out.new) ≡ Self.OUTPUT_SIZE }
@@ -170,9 +170,9 @@ pub trait FixedOutputCore: UpdateCore + BufferKindUser + OutputSizeUser {
         ensures valid_tail { IsTail buffer.old };
 }
 
-/// A block function: a state to start from, a step that takes a state and a block to a state, and an output of the
-/// last state. The hash of a message is the output after the steps over the blocks of the padded message. The calls
-/// depend on their arguments alone and allocate nothing.
+/// A block function: a state to start from, a step from a state and a block to a state, and an output. The hash of a
+/// message is the output after the steps over its padded blocks. The calls depend on their arguments alone and allocate
+/// nothing.
 pub trait BlockFunction {
     /// A state.
     type State: Copy + Eq;
@@ -205,15 +205,13 @@ pub trait BlockFunction {
         ensures value { result ≡ output_of state }
         ensures valid { is_state state };
 
-    // States with equal outputs are equal.
     ghost output_injective: { (s t : Self.State) → is_state s → is_state t
         → output_of s ≡ output_of t → s ≡ t };
 
     ghost same_state: { (s t : Self.State) → Self.State.eq s t ≡ true → s ≡ t };
 }
 
-/// A block function that a hasher can be made of: its states are lists of numbers, and its digests
-/// are arrays of at most 64 bytes.
+/// A block function for hashers: its states are lists of numbers, and its digests arrays of at most 64 bytes.
 pub trait ListBlockFunction: BlockFunction<Digest: ByteArray> {
     // The numbers of a state.
     ghost list: { Self.State → List ℕ };
@@ -227,8 +225,7 @@ pub trait ListBlockFunction: BlockFunction<Digest: ByteArray> {
     // The bytes of the output of a list.
     ghost output: { List ℕ → List ℕ };
 
-    /// Takes blocks into a state in order. A block function may have a faster body than a step for
-    /// each block.
+    /// Takes blocks into a state in order. A block function may have a faster body than steps.
     #[inline(never)]
     fn walk_on(first: &mut Self::State, blocks: &[[u8; 64]])
         ensures value { first.new ≡ walk Self.step_of first.old blocks.now }
@@ -245,32 +242,30 @@ pub trait ListBlockFunction: BlockFunction<Digest: ByteArray> {
     ghost over_lists: { IsOverLists list Self.is_state Self.step_of Self.output_of
         Self.Digest.bytes are_words step output };
 
-    // A digest is no longer than a block.
     ghost digest_most: { Self.Digest.LEN ≤ 64 };
 }
 
-/// A block function whose states can be recovered from their outputs, so that a hash state can be saved as bytes: the
-/// output of its chaining value, the count of its blocks, and its tail.
+/// A block function whose outputs give back the states. A hash state is saved as the output of its chaining value, the
+/// count of its blocks, and its tail.
 pub trait ResumableFunction: ListBlockFunction {
-    /// The saved bytes of a core: 8 more than a digest has.
+    /// A saved core: 8 bytes more than a digest.
     type SavedCore: ByteArray;
 
-    /// The saved bytes of a hasher: 64 more than those of a core.
+    /// A saved hasher: 64 bytes more than a saved core.
     type SavedHasher: ByteArray;
 
-    /// The saved bytes of an HMAC state: twice as many as those of a hasher.
+    /// A saved HMAC state: twice as many bytes as a saved hasher.
     type SavedHmac: ByteArray;
 
-    /// The state that has this output; `None` exactly if no state has it.
+    /// The state with this output; `None` exactly if there is none.
     fn from_output(output: Self::Digest) -> Option<Self::State>
         ensures some { IfSome result (λ state. Self.output_of state ≡ output) }
         ensures valid { IfSome result Self.is_state }
         ensures none { IfNone result ((words : List ℕ) → Self.are_words words
             → Self.output words ≢ Self.Digest.bytes output) };
 
-    /// Replaces the output of a state by that of the state after these blocks. Nothing is known of the result if the
-    /// bytes are the output of no state. Never inlined: the state is loaded and stored once, and lies in registers in
-    /// between.
+    /// Replaces the output of a state by that of the state after these blocks. If no state has this output, nothing is
+    /// known of the result. Never inlined: the state is loaded and stored once, and stays in registers in between.
     #[inline(never)]
     final fn walk_output(output: &mut [u8], blocks: &[[u8; 64]])
         requires size { length output.old ≡ Self.Digest.LEN }
@@ -287,7 +282,7 @@ pub trait ResumableFunction: ListBlockFunction {
         }
     }
 
-    // An output has the size of a digest, and different words have different outputs.
+    // An output has the digest's size, and different words have different outputs.
     ghost injective_output: { IsInjectiveOutput Self.are_words Self.output Self.Digest.LEN };
 
     ghost saved_core_size: { Self.SavedCore.LEN ≡ Self.Digest.LEN + 8 };

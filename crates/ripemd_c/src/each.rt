@@ -1,6 +1,6 @@
 //! Digests of many messages, and their tags under one key (RFC 2104): of records of one size that lie one after
-//! another, and of a list of messages. The caller gives the number of words of the vectors by which lists go; only
-//! the time depends on it.
+//! another, and of a list of messages. `words` is how many words the processor's vectors have; only the time
+//! depends on it. A call that answers false writes nothing.
 
 ghost use Rattle.std.specs.Prelude.{◌≡◌, ◌↔◌, ◌+◌, ◌*◌, ◌^◌, ◌<◌, ◌≤◌, length, IsTrue};
 ghost use Rattle.std.specs.List.{flat_map};
@@ -20,9 +20,8 @@ use ripemd_calls::by_variant;
 // The most records of a list.
 const GROUP: usize = 32;
 
-/// Writes the digests of records by the variant, one after another to `digests`. The records lie one
-/// after another, each of `size` bytes. True exactly if there is such a variant, `digests` is a whole
-/// number of its digests, and `bytes` as many records; otherwise nothing is written.
+/// Writes the digests of records, `size` bytes each, to `digests`. Records and digests lie one after another. True
+/// exactly if there is such a variant, `digests` is a whole number of its digests, and `bytes` as many records.
 #[unsafe(no_mangle)]
 pub extern "C" fn nattizhu_each_nonnull(
     variant: u32,
@@ -57,8 +56,8 @@ pub extern "C" fn nattizhu_hmac_each_nonnull(
     )
 }
 
-/// Writes the digests of messages by the variant, one after another to `digests`. True exactly if there is such a
-/// variant, and `digests` is as long as all of them; otherwise nothing is written.
+/// Writes the digests of messages, one after another to `digests`. True exactly if there is such a variant, and
+/// `digests` is as long as all of them.
 #[unsafe(no_mangle)]
 pub extern "C" fn nattizhu_list_nonnull(
     variant: u32,
@@ -132,14 +131,13 @@ fn write_list<D: BatchDigest>(
     true
 }
 
-// Whether a length is `count` times a size.
 fn is_product(len: usize, count: usize, size: usize) -> bool
     ensures { IsTrue result ↔ (len ≡ count * size) }
 {
     count.checked_mul(size) == Some(len)
 }
 
-// Writes the outputs of records, from one on. More than a group are halved, so that nothing is allocated.
+// Writes the outputs of records from `at` on. More than a group are halved, so that nothing is allocated.
 fn write_records<'a, D: BatchDigest>(
     hasher: &ListHasher<D>,
     bytes: &'a [u8],

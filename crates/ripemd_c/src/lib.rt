@@ -1,6 +1,6 @@
-//! RIPEMD-128, RIPEMD-160, RIPEMD-256 and RIPEMD-320 (1996) for callers in C: the calls of `ripemd_calls`, and
-//! digests, tags and keys of many messages. The variant is a number, the bits of its digests, or is known by
-//! a state.
+//! RIPEMD-128, RIPEMD-160, RIPEMD-256 and RIPEMD-320 (1996) for callers in C: the calls of `ripemd_calls`,
+//! and digests, tags and keys of many messages. A number names the variant, the bits of its digests, unless
+//! a state does.
 //!
 //! C calls these functions through `nattizhu.h`. Those whose names end in `_nonnull` take slices, whose
 //! pointers may not be null; the header has each without this ending, which takes a null pointer with the
@@ -19,7 +19,7 @@ pub mod pbkdf2;
 
 use ripemd_calls::{hmac, streams};
 
-/// Does what [`ripemd_calls::digest_size`] does.
+/// Calls [`ripemd_calls::digest_size`].
 #[unsafe(no_mangle)]
 pub extern "C" fn nattizhu_digest_size(variant: u32) -> usize
     ensures { AtVariant variant (λ v. result ≡ digest_size v) (result ≡ 0) }
@@ -27,7 +27,7 @@ pub extern "C" fn nattizhu_digest_size(variant: u32) -> usize
     ripemd_calls::digest_size(variant)
 }
 
-/// Does what [`ripemd_calls::digest`] does.
+/// Calls [`ripemd_calls::digest`].
 #[unsafe(no_mangle)]
 pub extern "C" fn nattizhu_digest_nonnull(variant: u32, message: &[u8], digest: &mut [u8]) -> bool
     ensures { WritesDigest variant message.now digest.old digest.new result }
@@ -35,7 +35,7 @@ pub extern "C" fn nattizhu_digest_nonnull(variant: u32, message: &[u8], digest: 
     ripemd_calls::digest(variant, message, digest)
 }
 
-/// Does what [`streams::init`] does.
+/// Calls [`streams::init`].
 #[unsafe(no_mangle)]
 pub extern "C" fn nattizhu_init(variant: u32, state: &mut [u8; 113]) -> bool
     ensures { InitsState variant state.old state.new result }
@@ -43,7 +43,7 @@ pub extern "C" fn nattizhu_init(variant: u32, state: &mut [u8; 113]) -> bool
     streams::init(variant, state)
 }
 
-/// Does what [`streams::update`] does.
+/// Calls [`streams::update`].
 #[unsafe(no_mangle)]
 pub extern "C" fn nattizhu_update_nonnull(state: &mut [u8; 113], bytes: &[u8]) -> bool
     ensures { UpdatesState state.old bytes.now state.new result }
@@ -51,7 +51,7 @@ pub extern "C" fn nattizhu_update_nonnull(state: &mut [u8; 113], bytes: &[u8]) -
     streams::update(state, bytes)
 }
 
-/// Does what [`streams::finalize`] does.
+/// Calls [`streams::finalize`].
 #[unsafe(no_mangle)]
 pub extern "C" fn nattizhu_final_nonnull(state: &[u8; 113], digest: &mut [u8]) -> bool
     ensures { FinalizesState state.now digest.old digest.new result }
@@ -59,7 +59,7 @@ pub extern "C" fn nattizhu_final_nonnull(state: &[u8; 113], digest: &mut [u8]) -
     streams::finalize(state, digest)
 }
 
-/// Does what [`streams::save`] does.
+/// Calls [`streams::save`].
 #[unsafe(no_mangle)]
 pub extern "C" fn nattizhu_save_nonnull(state: &[u8; 113], saved: &mut [u8]) -> bool
     ensures { SavesState state.now saved.old saved.new result }
@@ -67,7 +67,7 @@ pub extern "C" fn nattizhu_save_nonnull(state: &[u8; 113], saved: &mut [u8]) -> 
     streams::save(state, saved)
 }
 
-/// Does what [`streams::load`] does.
+/// Calls [`streams::load`].
 #[unsafe(no_mangle)]
 pub extern "C" fn nattizhu_load_nonnull(variant: u32, state: &mut [u8; 113], saved: &[u8]) -> bool
     ensures { LoadsState variant saved.now state.old state.new result }
@@ -75,7 +75,7 @@ pub extern "C" fn nattizhu_load_nonnull(variant: u32, state: &mut [u8; 113], sav
     streams::load(variant, state, saved)
 }
 
-/// Does what [`hmac::tag`] does.
+/// Calls [`hmac::tag`].
 #[unsafe(no_mangle)]
 pub extern "C" fn nattizhu_hmac_nonnull(
     variant: u32,
@@ -88,7 +88,7 @@ pub extern "C" fn nattizhu_hmac_nonnull(
     hmac::tag(variant, key, text, tag)
 }
 
-/// Does what [`hmac::verify_text`] does.
+/// Calls [`hmac::verify_text`].
 #[unsafe(no_mangle)]
 pub extern "C" fn nattizhu_hmac_verify_text_nonnull(
     variant: u32,
@@ -101,7 +101,7 @@ pub extern "C" fn nattizhu_hmac_verify_text_nonnull(
     hmac::verify_text(variant, key, text, tag)
 }
 
-/// Does what [`hmac::init`] does.
+/// Calls [`hmac::init`].
 #[unsafe(no_mangle)]
 pub extern "C" fn nattizhu_hmac_init_nonnull(
     variant: u32,
@@ -113,7 +113,7 @@ pub extern "C" fn nattizhu_hmac_init_nonnull(
     hmac::init(variant, state, key)
 }
 
-/// Does what [`hmac::update`] does.
+/// Calls [`hmac::update`].
 #[unsafe(no_mangle)]
 pub extern "C" fn nattizhu_hmac_update_nonnull(state: &mut [u8; 225], bytes: &[u8]) -> bool
     ensures { UpdatesHmac state.old bytes.now state.new result }
@@ -121,7 +121,7 @@ pub extern "C" fn nattizhu_hmac_update_nonnull(state: &mut [u8; 225], bytes: &[u
     hmac::update(state, bytes)
 }
 
-/// Does what [`hmac::finalize`] does.
+/// Calls [`hmac::finalize`].
 #[unsafe(no_mangle)]
 pub extern "C" fn nattizhu_hmac_final_nonnull(state: &[u8; 225], tag: &mut [u8]) -> bool
     ensures { FinalizesHmac state.now tag.old tag.new result }
@@ -129,7 +129,7 @@ pub extern "C" fn nattizhu_hmac_final_nonnull(state: &[u8; 225], tag: &mut [u8])
     hmac::finalize(state, tag)
 }
 
-/// Does what [`hmac::verify`] does.
+/// Calls [`hmac::verify`].
 #[unsafe(no_mangle)]
 pub extern "C" fn nattizhu_hmac_verify_nonnull(state: &[u8; 225], tag: &[u8]) -> bool
     ensures { VerifiesHmac state.now tag.now result }
@@ -137,7 +137,7 @@ pub extern "C" fn nattizhu_hmac_verify_nonnull(state: &[u8; 225], tag: &[u8]) ->
     hmac::verify(state, tag)
 }
 
-/// Does what [`hmac::save`] does.
+/// Calls [`hmac::save`].
 #[unsafe(no_mangle)]
 pub extern "C" fn nattizhu_hmac_save_nonnull(state: &[u8; 225], saved: &mut [u8]) -> bool
     ensures { SavesHmac state.now saved.old saved.new result }
@@ -145,7 +145,7 @@ pub extern "C" fn nattizhu_hmac_save_nonnull(state: &[u8; 225], saved: &mut [u8]
     hmac::save(state, saved)
 }
 
-/// Does what [`hmac::load`] does.
+/// Calls [`hmac::load`].
 #[unsafe(no_mangle)]
 pub extern "C" fn nattizhu_hmac_load_nonnull(
     variant: u32,

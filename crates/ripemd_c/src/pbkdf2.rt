@@ -9,9 +9,9 @@ use ripemd::{Ripemd128, Ripemd160, Ripemd256, Ripemd320};
 use ripemd_batch::{BatchDigest, pbkdf2_hmac, pbkdf2_hmac_each};
 use ripemd_calls::by_variant;
 
-/// Derives a key from a password and a salt by `rounds` rounds, with HMAC over the variant, and fills
-/// `key` with it. False exactly if there is no such variant, there are no rounds, or the key is longer
-/// than 2^32 - 1 digests, and then nothing is written.
+/// Fills `key` with the key derived from a password and a salt by `rounds` rounds, with HMAC over the
+/// variant. False exactly if there is no such variant, there are no rounds, or the key is longer than
+/// 2^32 - 1 digests; nothing is written then.
 #[unsafe(no_mangle)]
 pub extern "C" fn nattizhu_pbkdf2_nonnull(
     variant: u32,
@@ -25,10 +25,10 @@ pub extern "C" fn nattizhu_pbkdf2_nonnull(
     by_variant!(variant, derive_key(password, salt, rounds, key))
 }
 
-/// Derives a key of `size` bytes from each password and its salt by `rounds` rounds, with HMAC over the
-/// variant, and writes the keys one after another to `keys`. False exactly if there is no such variant,
-/// there are no rounds, `size` is more than 2^32 - 1 digests, there are not as many salts as passwords, or
-/// `keys` is not as long as all keys; nothing is written then.
+/// Writes the keys of `size` bytes, each derived from a password and its salt as by
+/// `nattizhu_pbkdf2_nonnull`, one after another to `keys`. False exactly if there is no such variant,
+/// there are no rounds, `size` is more than 2^32 - 1 digests, there are not as many salts as passwords,
+/// or `keys` is not as long as all keys; nothing is written then.
 #[unsafe(no_mangle)]
 pub extern "C" fn nattizhu_pbkdf2_list_nonnull(
     variant: u32,
@@ -44,7 +44,6 @@ pub extern "C" fn nattizhu_pbkdf2_list_nonnull(
     by_variant!(variant, derive_keys(passwords, salts, rounds, size, keys))
 }
 
-// Fills `key` with the key that is derived; otherwise it answers false and writes nothing.
 fn derive_key<D: BatchDigest>(password: &[u8], salt: &[u8], rounds: u32, key: &mut [u8]) -> bool
     ensures { FillsKey (hash D.start D.step D.output) D.OUTPUT_SIZE password.now salt.now rounds
         key.old key.new result }
@@ -52,7 +51,6 @@ fn derive_key<D: BatchDigest>(password: &[u8], salt: &[u8], rounds: u32, key: &m
     pbkdf2_hmac::<D>(password, salt, rounds, key).is_ok()
 }
 
-// Fills `keys` with the keys that are derived; otherwise it answers false and writes nothing.
 fn derive_keys<D: BatchDigest>(
     passwords: &[&[u8]],
     salts: &[&[u8]],

@@ -1,5 +1,4 @@
-//! What is proved of the definitions. The functions do nothing, or call one that does nothing; their
-//! contracts are the facts.
+//! Facts of the definitions. The functions do nothing, or call one that does nothing: their contracts are the facts.
 
 ghost use Rattle.ripemd_calls.specs.Worked.{WorkedDigests, WorkedHmacStates, WorkedKept, WorkedKeys};
 ghost use Rattle.ripemd_calls.specs.Worked.{WorkedStates, WorkedTags};

@@ -1,4 +1,4 @@
-//! Tags of texts under keys (HMAC, RFC 2104), whole and in pieces.
+//! Tags of texts under keys (HMAC, RFC 2104), whole and in pieces. A call that answers false writes nothing.
 
 ghost use Rattle.std.specs.Prelude.{◌≡◌, ◌↔◌, length, IsTrue};
 ghost use Rattle.ripemd.specs.Standard.Hashing.{hash};
@@ -13,64 +13,61 @@ use ripemd::digest::BlockDigest;
 use ripemd::{Ripemd128, Ripemd160, Ripemd256, Ripemd320};
 use ripemd_mac::Hmac;
 
-/// Writes the tag of the text under the key by the variant to `tag`. True exactly if there is such a
-/// variant and `tag` has the size of its digests; otherwise nothing is written.
+/// Writes the tag of the text under the key to `tag`. True exactly if there is such a variant and `tag` has the size
+/// of its digests.
 pub fn tag(variant: u32, key: &[u8], text: &[u8], tag: &mut [u8]) -> bool
     ensures { WritesTag variant key.now text.now tag.old tag.new result }
 {
     by_variant!(variant, write_tag(key, text, tag))
 }
 
-/// Whether there is such a variant, and these bytes are the tag of the text under the key by it, all of them. It
-/// compares all bytes of a tag of the right length, whatever they are.
+/// Whether there is such a variant, and `tag` is its whole tag of the text under the key. All bytes of a tag of the
+/// right length are compared, whatever they are.
 pub fn verify_text(variant: u32, key: &[u8], text: &[u8], tag: &[u8]) -> bool
     ensures { VerifiesTag variant key.now text.now tag.now result }
 {
     by_variant!(variant, is_tag(key, text, tag))
 }
 
-/// Writes the HMAC state of the key and the empty text by the variant. False exactly if there is no such variant;
-/// nothing is written then.
+/// Writes the HMAC state of the key and the empty text. False exactly if there is no such variant.
 pub fn init(variant: u32, state: &mut [u8; 225], key: &[u8]) -> bool
     ensures { InitsHmac variant key.now state.old state.new result }
 {
     by_variant!(variant, init_kept::<Hmac>(key, state))
 }
 
-/// Appends bytes to the text. False exactly if these are the bytes of no HMAC state; nothing is written then.
+/// Appends bytes to the text. False exactly if `state` holds no HMAC state.
 pub fn update(state: &mut [u8; 225], bytes: &[u8]) -> bool
     ensures { UpdatesHmac state.old bytes.now state.new result }
 {
     by_variant!(bits_of(state), update_kept::<Hmac>(state, bytes))
 }
 
-/// Writes the tag of the text so far to `tag`. True exactly if these are the bytes of an HMAC state, and
-/// `tag` has the size of its tags; otherwise nothing is written.
+/// Writes the tag of the text so far to `tag`. True exactly if `state` holds an HMAC state and `tag` has the size of
+/// its tags.
 pub fn finalize(state: &[u8; 225], tag: &mut [u8]) -> bool
     ensures { FinalizesHmac state.now tag.old tag.new result }
 {
     by_variant!(bits_of(state), final_kept::<Hmac>(state, tag))
 }
 
-/// Whether these bytes are the tag of the text so far, all of them. False also if these are the bytes of no HMAC
-/// state.
+/// Whether `tag` is the whole tag of the text so far. False also if `state` holds no HMAC state.
 pub fn verify(state: &[u8; 225], tag: &[u8]) -> bool
     ensures { VerifiesHmac state.now tag.now result }
 {
     by_variant!(bits_of(state), verify_kept::<Hmac>(state, tag))
 }
 
-/// Writes the bytes that the HMAC state is saved as to `saved`: its inner hash state, and then its outer one. True
-/// exactly if these are the bytes of an HMAC state, and `saved` has 144 bytes more than two tags; otherwise nothing
-/// is written.
+/// Writes the saved form of the HMAC state to `saved`: its inner hash state, and then its outer one. True exactly if
+/// `state` holds an HMAC state and `saved` has 144 bytes more than two tags.
 pub fn save(state: &[u8; 225], saved: &mut [u8]) -> bool
     ensures { SavesHmac state.now saved.old saved.new result }
 {
     by_variant!(bits_of(state), save_kept::<Hmac>(state, saved))
 }
 
-/// Writes the HMAC state of the variant that is saved as these bytes. False exactly if there is no such variant, or
-/// no HMAC state of it is saved so; nothing is written then.
+/// Writes the HMAC state of the variant with the saved form `saved`. False exactly if there is no such variant or
+/// state.
 pub fn load(variant: u32, state: &mut [u8; 225], saved: &[u8]) -> bool
     ensures { LoadsHmac variant saved.now state.old state.new result }
 {
@@ -85,7 +82,6 @@ fn bits_of(state: &[u8; 225]) -> u32
     8 * state[0].saturating_sub(128) as u32
 }
 
-// Writes the tag of a whole text to its place, if that has its size.
 fn write_tag<D: BlockDigest>(key: &[u8], text: &[u8], tag: &mut [u8]) -> bool
     ensures { Writes (length tag.old ≡ D.OUTPUT_SIZE) (hmac (hash D.start D.step D.output) key.now text.now)
         tag.old tag.new result }
@@ -93,7 +89,6 @@ fn write_tag<D: BlockDigest>(key: &[u8], text: &[u8], tag: &mut [u8]) -> bool
     write(D::output_bytes(&mac_of::<D>(key, text).finalize()), tag)
 }
 
-// Whether these bytes are the tag of a whole text.
 fn is_tag<D: BlockDigest>(key: &[u8], text: &[u8], tag: &[u8]) -> bool
     ensures { IsTrue result ↔ (tag.now ≡ hmac (hash D.start D.step D.output) key.now text.now) }
 {

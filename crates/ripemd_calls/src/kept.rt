@@ -1,5 +1,5 @@
-//! Hashers and HMACs as callers keep them between the pieces of a message: as the bytes that they are saved as,
-//! except that any bytes may stand after a tail.
+//! Hashers and HMACs as callers keep them between the pieces of a message: in their saved form, except that any bytes
+//! may stand after a tail.
 
 ghost use Rattle.std.specs.Prelude.{◌≡◌, ◌≢◌, ℕ, ◌+◌, ◌%◌, ◌≤◌, ◌<◌, List, [], length, IfSome, IfNone, IfOk, IfErr, IsTrue, IsFalse};
 ghost use Rattle.std.specs.List.{All};
@@ -26,10 +26,10 @@ pub(crate) trait Kept: Incremental {
     // The states that can occur.
     ghost is_valid: { Self → Type 0 };
 
-    // The bytes that a state is saved as.
+    // The saved form of a state.
     ghost state_bytes: { Self → List ℕ };
 
-    // The bytes that a kept state is saved as.
+    // The saved form of kept bytes.
     ghost cleared: { List ℕ → List ℕ };
 
     // The state before the first byte, under this key; a hasher has only one.
@@ -46,11 +46,11 @@ pub(crate) trait Kept: Incremental {
     fn mark() -> u8
         ensures { result ≡ mark };
 
-    /// Loads the state that is saved as these bytes. It is kept as them, too.
+    /// Loads the state with this saved form, which may be kept as it is.
     ///
     /// # Errors
     ///
-    /// `DeserializeStateError` if no state is saved as these bytes.
+    /// `DeserializeStateError` if no state has this saved form.
     fn load_from(saved: &[u8]) -> Result<Self, DeserializeStateError>
         ensures ok { IfOk result (λ loaded. state_bytes loaded ≡ saved.now) }
         ensures valid { IfOk result is_valid }
@@ -71,13 +71,12 @@ pub(crate) trait Kept: Incremental {
         ensures valid { IfSome result is_valid }
         ensures none { IfNone result ((s : Self) → is_valid s → state_bytes s ≢ cleared kept.now) };
 
-    /// Writes zeros after the tails of a kept state: its bytes are then those that it is saved as.
+    /// Writes zeros after the tails of kept bytes: they are then the saved form.
     fn clear(kept: &mut [u8])
         requires { length kept.old ≡ Self.Saved.LEN }
         ensures { kept.new ≡ cleared kept.old };
 
-    /// Appends bytes to the message of a kept state. False, and nothing is written, exactly if no state is kept as
-    /// these bytes.
+    /// Appends bytes to the message of a kept state. False, and nothing is written, exactly if there is none.
     fn update_kept(kept: &mut [u8], bytes: &[u8]) -> bool
         requires { length kept.old ≡ Self.Saved.LEN }
         ensures appended { IsTrue result → IsAppended is_valid state_bytes Self.fed
@@ -168,7 +167,7 @@ impl<F: ResumableFunction> Kept for BlockHasher<F> {
     ghost injective = { core_and_tail_injective F.injective_output };
 }
 
-// The length of the tail of the hasher that is kept as these bytes; `None` exactly if there is none.
+// The length of the tail of a kept hasher; `None` exactly if there is none.
 #[inline(always)]
 fn tail_len<F: ResumableFunction>(kept: &[u8]) -> Option<usize>
     requires { length kept.now ≡ F.SavedHasher.LEN }
@@ -189,7 +188,7 @@ fn tail_len<F: ResumableFunction>(kept: &[u8]) -> Option<usize>
     Some(len)
 }
 
-// Appends bytes that complete no block to the message of a kept hasher, whose tail has `len` bytes.
+// Appends bytes that complete no block to a kept hasher with a tail of `len` bytes.
 #[inline(always)]
 fn append_kept<F: ResumableFunction>(kept: &mut [u8], len: usize, bytes: &[u8])
     requires size { length kept.old ≡ F.SavedHasher.LEN }

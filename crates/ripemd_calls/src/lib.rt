@@ -1,16 +1,16 @@
-//! Calls of RIPEMD-128, RIPEMD-160, RIPEMD-256 and RIPEMD-320 (1996) whose variant is a number, the bits of its
-//! digests, or is known by a state: digests of messages, whole and in pieces, tags (HMAC, RFC 2104), and keys
-//! derived from passwords (PBKDF2, RFC 8018). The libraries for callers in other languages stand on them.
+//! Calls of RIPEMD-128, RIPEMD-160, RIPEMD-256 and RIPEMD-320 (1996) for other languages: digests of messages, whole
+//! and in pieces, tags (HMAC, RFC 2104), and keys derived from passwords (PBKDF2, RFC 8018). A number names the
+//! variant, the bits of its digests, unless a state does. A call that answers false writes nothing.
 #![tactic(auto)]
 
 ghost use Rattle.std.specs.Prelude.{◌≡◌, length};
 ghost use Rattle.ripemd.specs.Standard.Hashing.{hash};
 ghost use Rattle.ripemd_calls.specs.Variants.{AtVariant, Writes, WritesDigest, digest_size};
 
-/// A call of a generic function at the hasher of the variant whose digests have so many bits, or at the HMAC over it;
-/// false if there is no such variant. The names of the hashers, and `Hmac`, have to be in scope. Of one `match` over all
-/// four the compiler would make a table of jumps, which at times take longer. RIPEMD-160 is the first arm: the
-/// compiler puts its code right after the tests, with no jump.
+/// Calls a generic function at the hasher of the variant with digests of so many bits, or at the HMAC over it; false
+/// if there is no such variant. The names of the hashers, and `Hmac`, have to be in scope. Of one `match` over all
+/// four the compiler would make a table of jumps, which at times take longer. It puts the first arm, RIPEMD-160,
+/// right after the tests, with no jump.
 #[macro_export]
 macro_rules! by_variant {
     ($bits:expr, $call:ident::<Hmac> $arguments:tt) => {{
@@ -56,7 +56,7 @@ pub mod streams;
 
 use ripemd::{Digest, Ripemd128, Ripemd160, Ripemd256, Ripemd320};
 
-/// How many bytes the digests and the tags of the variant have; 0 if there is none.
+/// The size of the variant's digests and tags in bytes; 0 if there is no such variant.
 pub fn digest_size(variant: u32) -> usize
     ensures { AtVariant variant (λ v. result ≡ digest_size v) (result ≡ 0) }
 {
@@ -69,15 +69,14 @@ pub fn digest_size(variant: u32) -> usize
     }
 }
 
-/// Writes the digest of the message by the variant to `digest`. True exactly if there is such a
-/// variant and `digest` has the size of its digests; otherwise nothing is written.
+/// Writes the digest of the message to `digest`. True exactly if there is such a variant and `digest` has the size of
+/// its digests.
 pub fn digest(variant: u32, message: &[u8], digest: &mut [u8]) -> bool
     ensures { WritesDigest variant message.now digest.old digest.new result }
 {
     by_variant!(variant, write_digest(message, digest))
 }
 
-// Writes the digest of a message to its place, if that has its size.
 fn write_digest<D: Digest>(message: &[u8], digest: &mut [u8]) -> bool
     ensures { Writes (length digest.old ≡ D.OUTPUT_SIZE) (hash D.start D.step D.output message.now)
         digest.old digest.new result }

@@ -1,5 +1,5 @@
-//! What calls do with a state that a caller keeps: a mark, and then the bytes of [`Kept`](crate::kept::Kept). Hash
-//! states and HMAC states have the same calls.
+//! Calls on a state that a caller keeps, of a hash or an HMAC: a mark, and then the bytes of
+//! [`Kept`](crate::kept::Kept). A call that answers false writes nothing.
 
 ghost use Rattle.std.specs.Prelude.{◌≡◌, ◌↔◌, ℕ, ◌+◌, ◌<◌, List, [], length, drop, slice_index, IsTrue, IsFalse};
 ghost use Rattle.ripemd_calls.specs.KeptBytes.{IsSaved};
@@ -28,8 +28,7 @@ pub(crate) fn init_kept<S: Kept>(key: &[u8], state: &mut [u8]) -> bool
     true
 }
 
-// Keeps the state that is saved as these bytes, after its mark. False exactly if there is none; nothing is written
-// then.
+// Keeps the state with this saved form, after its mark. False exactly if there is none.
 pub(crate) fn load_saved<S: Kept>(saved: &[u8], state: &mut [u8]) -> bool
     requires room { S.Saved.LEN < length state.old }
     ensures { WithState (IsSaved S.is_valid S.state_bytes) saved.now
@@ -57,8 +56,7 @@ fn put(bytes: &[u8], mark: u8, state: &mut [u8])
     place.copy_from_slice(bytes);
 }
 
-// Writes the bytes that a kept state is saved as to their place, if that has their size. False also if no state is
-// kept as these bytes; nothing is written then.
+// Writes the saved form of a kept state to `saved`, if that has its size. False also if no state is kept.
 pub(crate) fn save_kept<S: Kept>(state: &[u8], saved: &mut [u8]) -> bool
     requires room { S.Saved.LEN < length state.now }
     ensures { WithState (λ s kept. IsSaved S.is_valid S.state_bytes s (S.cleared kept))
@@ -75,8 +73,7 @@ pub(crate) fn save_kept<S: Kept>(state: &[u8], saved: &mut [u8]) -> bool
     true
 }
 
-// Appends bytes to the message of a kept state. False exactly if no state is kept as these bytes; nothing is written
-// then.
+// Appends bytes to the message of a kept state. False exactly if there is none.
 pub(crate) fn update_kept<S: Kept>(state: &mut [u8], bytes: &[u8]) -> bool
     requires room { S.Saved.LEN < length state.old }
     ensures updates { Updates (λ s kept. IsSaved S.is_valid S.state_bytes s (S.cleared kept)) S.fed
@@ -90,8 +87,7 @@ pub(crate) fn update_kept<S: Kept>(state: &mut [u8], bytes: &[u8]) -> bool
     S::update_kept(kept, bytes)
 }
 
-// Writes the digest or the tag of a kept state to its place, if that has its size. False also if no state is kept as
-// these bytes; nothing is written then.
+// Writes the digest or the tag of a kept state to `output`, if that has its size. False also if no state is kept.
 pub(crate) fn final_kept<S: Kept>(state: &[u8], output: &mut [u8]) -> bool
     requires room { S.Saved.LEN < length state.now }
     ensures { WithOutput (λ s kept. IsSaved S.is_valid S.state_bytes s (S.cleared kept)) S.new_state S.fed
@@ -105,8 +101,7 @@ pub(crate) fn final_kept<S: Kept>(state: &[u8], output: &mut [u8]) -> bool
     }
 }
 
-// Whether these bytes are the digest or the tag of a kept state, all of them. False also if no state is kept as these
-// bytes.
+// Whether `output` is the whole digest or tag of a kept state. False also if no state is kept.
 pub(crate) fn verify_kept<S: Kept>(state: &[u8], output: &[u8]) -> bool
     requires room { S.Saved.LEN < length state.now }
     ensures { WithOutput (λ s kept. IsSaved S.is_valid S.state_bytes s (S.cleared kept)) S.new_state S.fed

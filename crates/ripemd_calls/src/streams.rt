@@ -1,4 +1,4 @@
-//! Digests of messages that come in pieces.
+//! Digests of messages that come in pieces. A call that answers false writes nothing.
 
 ghost use Rattle.std.specs.Prelude.{◌≡◌};
 ghost use Rattle.ripemd_calls.specs.KeptStates.{FinalizesState, InitsState, LoadsState, SavesState, UpdatesState, bits_of_state};
@@ -6,15 +6,14 @@ ghost use Rattle.ripemd_calls.specs.KeptStates.{FinalizesState, InitsState, Load
 use crate::states::{final_kept, init_kept, load_saved, save_kept, update_kept};
 use ripemd::{Ripemd128, Ripemd160, Ripemd256, Ripemd320};
 
-/// Writes the hash state of the empty message by the variant. False exactly if there is no such variant; nothing is
-/// written then.
+/// Writes the hash state of the empty message. False exactly if there is no such variant.
 pub fn init(variant: u32, state: &mut [u8; 113]) -> bool
     ensures { InitsState variant state.old state.new result }
 {
     by_variant!(variant, init_kept(&[], state))
 }
 
-/// Appends bytes to the message. False exactly if these are the bytes of no hash state; nothing is written then.
+/// Appends bytes to the message. False exactly if `state` holds no hash state.
 #[inline(always)]
 pub fn update(state: &mut [u8; 113], bytes: &[u8]) -> bool
     ensures { UpdatesState state.old bytes.now state.new result }
@@ -22,8 +21,8 @@ pub fn update(state: &mut [u8; 113], bytes: &[u8]) -> bool
     by_variant!(bits_of(state), update_kept(state, bytes))
 }
 
-/// Writes the digest of the message so far to `digest`. True exactly if these are the bytes of a hash
-/// state, and `digest` has the size of its digests; otherwise nothing is written.
+/// Writes the digest of the message so far to `digest`. True exactly if `state` holds a hash state and `digest` has
+/// the size of its digests.
 #[inline(always)]
 pub fn finalize(state: &[u8; 113], digest: &mut [u8]) -> bool
     ensures { FinalizesState state.now digest.old digest.new result }
@@ -31,17 +30,16 @@ pub fn finalize(state: &[u8; 113], digest: &mut [u8]) -> bool
     by_variant!(bits_of(state), final_kept(state, digest))
 }
 
-/// Writes the bytes that the hash state is saved as to `saved`: its core, the length of the tail, the tail and zeros.
-/// True exactly if these are the bytes of a hash state, and `saved` has 72 bytes more than a digest; otherwise
-/// nothing is written.
+/// Writes the saved form of the hash state to `saved`: its core, the length of the tail, the tail and zeros. True
+/// exactly if `state` holds a hash state and `saved` has 72 bytes more than a digest.
 pub fn save(state: &[u8; 113], saved: &mut [u8]) -> bool
     ensures { SavesState state.now saved.old saved.new result }
 {
     by_variant!(bits_of(state), save_kept(state, saved))
 }
 
-/// Writes the hash state of the variant that is saved as these bytes. False exactly if there is no such variant, or
-/// no hash state of it is saved so; nothing is written then.
+/// Writes the hash state of the variant with the saved form `saved`. False exactly if there is no such variant or
+/// state.
 pub fn load(variant: u32, state: &mut [u8; 113], saved: &[u8]) -> bool
     ensures { LoadsState variant saved.now state.old state.new result }
 {

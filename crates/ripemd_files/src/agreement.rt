@@ -1,4 +1,4 @@
-//! A check accepts what was printed. Functions without a result do nothing; their contracts are the theorems.
+//! A check accepts what was printed. Functions without a result do nothing: their contracts are the theorems.
 
 ghost use Rattle.std.specs.Prelude.{◌≡◌, ◌≢◌, ◌<◌, ◌^◌, ◌++◌, ◌↔◌, ◌⊎◌, ℕ, List, map, Bool, true, Option, None, Some, Result, Ok, length, unwrap_or, IfSome, IsNone};
 ghost use Rattle.std.specs.List.{All};
@@ -29,23 +29,21 @@ use crate::line::Variant;
 use ripemd::block_api::{Ripemd128Core, Ripemd160Core, Ripemd256Core, Ripemd320Core};
 use ripemd::witness::{Collision, collision_witness};
 
-/// A digest has the length of its variant, and consists of bytes.
+/// Digests have their variant's length, and consist of bytes.
 #[tactic(auto, using(crate::proofs::Agreeing::digests))]
 pub fn digest_laws()
     ensures size { (variant : Variant) (message : List ℕ) → length (ripemd (parameters_of variant) message) ≡ size_of variant }
     ensures bytes { (variant : Variant) (message : List ℕ) → IsBytes (ripemd (parameters_of variant) message) }
 {}
 
-/// What a check says of the line that was printed of a message and a name, whatever came of it since.
-///
-/// If its file is found to match, it gave a message with the printed digest: the printed one, or see
+/// What a check says of a line printed for a message and a name. If a matching file gave another message, see
 /// [`matching_collision`].
 pub fn printed_lines<F: Folder>(_folder: &F)
     // A check accepts the line as one for this file.
     ensures taken { (rules : Rules) (layout : Option Layout) (form : Form) (variant : Variant) (message name : List ℕ)
         → IsPrinted rules layout form variant name
         → IsTaken rules layout (printed_line form variant message name) variant (ripemd (parameters_of variant) message) name }
-    // No file that gives the same bytes differs.
+    // A file that gives only the message never differs.
     ensures accepted { (rules : Rules) (layout : Option Layout) (form : Form) (variant : Variant) (message name found : List ℕ)
         (ignore_missing : Bool) (number : ℕ) (verdict : Verdict) → IsPrinted rules layout form variant name
         → IsEventOn (F.place _folder.now) ignore_missing rules layout number (printed_line form variant message name) (checked found verdict)
@@ -59,21 +57,21 @@ pub fn printed_lines<F: Folder>(_folder: &F)
         × (ripemd (parameters_of variant) given ≡ ripemd (parameters_of variant) message) }
 {}
 
-/// What a check says of a list that was printed, in a folder of which all is known. Of a file that is found to match
-/// though it gives another message than the printed one, see [`matching_collision`].
+/// What a check says of a printed list, in a folder of which all is known. Of matching files that give other
+/// messages, see [`matching_collision`].
 pub fn printed_lists<F: Folder>(_folder: &F)
-    // These lines are printed of files that give these messages,
+    // A print of files that give these messages has their lines and no others.
     ensures printed { (contents : List ℕ → Result (List ℕ) Error) (style : Style) (files : List Printed) (before : List Item) (failure : Option Error)
         → IsKnown (F.place _folder.now) contents → style.ending ≡ Newline → All (λ (f : Printed). contents f.name ≡ Ok f.message) files
         → (one : Print (F.place _folder.now) style (map (λ (f : Printed). f.name) files) (record { items = Some before; failure = failure }))
         → (one.told.items ≡ Some (before ++ written (printed_text style.form style.variant files))) × (one.all ≡ true) }
-    // and of a list of them there is one event for each file, in order, by what it gives now.
+    // A check of a list of them has one event for each file, in order, by what it gives now.
     ensures checked { (contents : List ℕ → Result (List ℕ) Error) (options : Options) (rules : Rules) (first : Option Layout) (form : Form)
         (variant : Variant) (files : List Printed) (start : Start) → IsKnown (F.place _folder.now) contents → unwrap_or first Standard ≡ Standard
         → All (λ (f : Printed). IsPrinted rules None form variant f.name) files → start.list ≡ printed_text form variant files
         → (one : Report (F.place _folder.now) options rules first start) → one.checks.stage ≡ ended
         → one.checks.report.events ≡ events_now options.ignore_missing variant contents files }
-    // Where all give the printed messages, the check succeeds.
+    // If all give the printed messages, the check succeeds.
     ensures accepted { (contents : List ℕ → Result (List ℕ) Error) (options : Options) (rules : Rules) (first : Option Layout) (form : Form)
         (variant : Variant) (files : List Printed) (start : Start) → IsKnown (F.place _folder.now) contents → unwrap_or first Standard ≡ Standard
         → All (λ (f : Printed). IsPrinted rules None form variant f.name) files → start.list ≡ printed_text form variant files
@@ -91,9 +89,8 @@ pub enum VariantCollision {
     R320(Collision<[u32; 10]>),
 }
 
-/// What is in hand where a check finds that a file matches and it gives another message than the printed one: the
-/// collision of the variant's block function that [`collision_witness`] makes of both. Each message has fewer than
-/// 2^61 bytes.
+/// The collision of the variant's block function that [`collision_witness`] makes of a printed message and another
+/// that a matching file gives. Each message has fewer than 2^61 bytes.
 pub fn matching_collision<F: Folder>(
     _folder: &F,
     variant: Variant,
@@ -103,10 +100,10 @@ pub fn matching_collision<F: Folder>(
     requires printed_short { length printed.now < 2 ^ 61 }
     requires given_short { length given.now < 2 ^ 61 }
     ensures collision { IfSome result (IsCollisionOf variant printed.now given.now) }
-    // Of a whole list: if there is none, the messages are equal or the file differs.
+    // In a list: `None` exactly if the messages are equal or the file differs.
     ensures none { (ignore_missing : Bool) → IsNone result
         ↔ ((printed.now ≡ given.now) ⊎ (verdict_now ignore_missing variant printed.now (Ok given.now) ≡ Differs)) }
-    // Of a line: if there is none, and the file, which gives no other message, matches, the messages are equal.
+    // In a line: if the file gives only `given`, and matches, `None` means equal messages.
     ensures line { (rules : Rules) (layout : Option Layout) (form : Form) (name found : List ℕ) (ignore_missing : Bool) (number : ℕ)
         → IsPrinted rules layout form variant name
         → IsEventOn (F.place _folder.now) ignore_missing rules layout number (printed_line form variant printed.now name) (checked found Matches)

@@ -1,5 +1,5 @@
-//! What is proved of the definitions of prints and checks: worked cases, and that one thing is right. The
-//! functions do nothing; their contracts are the facts.
+//! Facts of the definitions of prints and checks: worked cases, and that one answer is right. The functions do
+//! nothing: their contracts are the facts.
 
 ghost use Rattle.std.specs.Prelude.{◌≡◌, ◌≢◌, ◌⊎◌, ℕ, List, [], ◌∷◌, Bool, Option, Some, Result, length};
 ghost use Rattle.std.specs.declared.io.Error.{Error};
@@ -17,22 +17,22 @@ ghost use Rattle.ripemd_files.specs.WorkedChecks.{DigestVerdicts, ErrorVerdicts,
 
 use crate::folder::Folder;
 
-/// Where all is known of a folder, one report on a list is right.
+/// If all is known of a folder, only one report on a list is right.
 pub fn one_report<F: Folder>(_folder: &F)
-    // If all of the list was read, or as much of it, one thing is told and answered.
+    // Reports that read the list to its end, or equally far, agree.
     ensures same { (contents : List ℕ → Result (List ℕ) Error) (options : Options) (rules : Rules) (first : Option Layout) (start : Start)
         → IsKnown (F.place _folder.now) contents → (one other : Report (F.place _folder.now) options rules first start)
         → one.checks.stage ≡ other.checks.stage
         → one.checks.stage ≡ ended ⊎ (length one.checks.report.read.bytes ≡ length other.checks.report.read.bytes)
         → (one.last ≡ other.last) × (one.told.items ≡ other.told.items) × (one.success ≡ other.success) }
-    // A run that ends before its end, but for a list that can't be read, told the front of it.
+    // A run that ends early, unless a read of its list failed, told the front of the report.
     ensures early { (contents : List ℕ → Result (List ℕ) Error) (options : Options) (rules : Rules) (first : Option Layout) (start : Start)
         → IsKnown (F.place _folder.now) contents → (one : Report (F.place _folder.now) options rules first start) → one.checks.stage ≡ ended
         → (end : EarlyEnd (F.place _folder.now) options rules first start) → end.stops.stage ≢ failed
         → IsFront start.items end.told.items one.told.items }
 {}
 
-/// And one print of files.
+/// If all is known of a folder, only one print of files is right.
 pub fn one_print<F: Folder>(_folder: &F)
     ensures same { (contents : List ℕ → Result (List ℕ) Error) (style : Style) (names : List (List ℕ)) (before : List Item) (failure : Option Error)
         → IsKnown (F.place _folder.now) contents
@@ -51,7 +51,7 @@ pub fn worked_verdicts()
     ensures errors { (error : Error) → ErrorVerdicts error }
 {}
 
-/// What is said of them.
+/// What is said of files and lines.
 pub fn worked_events()
     ensures lines { (error : Error) → LinesOfEvents error }
     ensures remarks { (error : Error) → RemarksOnEvents error }
@@ -67,7 +67,7 @@ pub fn worked_counts()
     ensures answers { Answers }
 {}
 
-/// Which lines of a list are passed over, what the others say, and the layout of a list.
+/// Which lines are passed over, what others say, and the layout of lists.
 #[tactic(auto, unfolding(crate::specs::Reading::skip_blanks, crate::specs::Reading::split_blank, crate::specs::Reading::strip_tag, crate::specs::Reading::untagged_at, crate::specs::Layouts::layout_at))]
 pub fn worked_lists()
     ensures passed { PassedOver }
@@ -83,7 +83,7 @@ pub fn worked_prints()
     ensures errors { (style : Style) (error : Error) → PrintedErrors style error }
 {}
 
-/// Of which folders all is known.
+/// Folders of which all is known, and others.
 pub fn worked_folders()
     ensures { (error : Error) → KnownFolders error }
 {}

@@ -22,19 +22,18 @@ use crate::verdict::{Options, Tally, Verdict};
 use crate::writing::push_text;
 use std::alloc::{AllocError, Global};
 
-/// Checks a list of which no read has failed: reads it to its end, and the files that its lines name; writes a line for each of these, and
-/// remarks on those that can't be read, on lines that say nothing, and on what was counted. Whether the check
-/// succeeds.
+/// Checks a list of which no read has failed: reads it, and the files that its lines name, writes a line for each
+/// file, and remarks on unreadable files, misformatted lines, and counts. Whether the check succeeds.
 ///
-/// `layout` is that of the lists so far, and is left as that of this one too.
+/// `layout` holds the layout that the first untagged line of this or an earlier list decides.
 ///
 /// # Errors
 ///
 /// - `Write`: a call of the log failed with this error.
-/// - `NoMemory`: there is no memory left.
+/// - `NoMemory`: memory is exhausted.
 /// - `TooManyLines`: the list has more than 2^64 - 2 lines.
 ///
-/// Till then the first part of the report was told. `layout` is as it was.
+/// Till then the front of the report was told. `layout` is as it was.
 #[tactic(auto, using(crate::proofs::Checked::stops_at_once))]
 pub fn check_list<F: Folder, R: ReadList, L: Log>(
     alloc: Global,
@@ -73,7 +72,7 @@ pub fn check_list<F: Folder, R: ReadList, L: Log>(
     Ok(success)
 }
 
-// Checks a list, group by group of its lines.
+// Checks a list in groups of lines.
 fn check_groups<F: Folder, R: ReadList, L: Log>(
     alloc: Global,
     folder: &F,
@@ -121,7 +120,7 @@ fn check_groups<F: Folder, R: ReadList, L: Log>(
     }
 }
 
-// Counts a line that says nothing that can be read, if there is one, and remarks on it.
+// Counts and remarks on a misformatted line, if there is one.
 #[tactic(auto, using(crate::proofs::Telling::telling))]
 fn check_misformatted<L: Log>(
     options: Options,
@@ -141,7 +140,7 @@ fn check_misformatted<L: Log>(
     remark_if(log, options.warn, Complaint::Misformatted(number))
 }
 
-// Remarks on what was counted of a list. Whether its check succeeds.
+// Remarks on the counts. Whether the check succeeds.
 #[tactic(auto, using(crate::proofs::Telling::telling))]
 fn close<L: Log>(options: Options, tally: &Tally, log: &mut L) -> Result<bool, Fault>
     requires told { (L.told log.old).failure ≡ None }
@@ -157,7 +156,7 @@ fn close<L: Log>(options: Options, tally: &Tally, log: &mut L) -> Result<bool, F
     Ok(tally.is_success(options))
 }
 
-// Remarks on counts that are not 0, and on a list of which no file was verified.
+// Remarks on counts other than 0, and that nothing was verified.
 #[tactic(auto, using(crate::proofs::Telling::telling))]
 fn remark_counts<L: Log>(options: Options, tally: &Tally, log: &mut L) -> Result<(), Fault>
     requires told { (L.told log.old).failure ≡ None }
@@ -174,14 +173,12 @@ fn remark_counts<L: Log>(options: Options, tally: &Tally, log: &mut L) -> Result
     remark_if(log, nothing, Complaint::NothingVerified)
 }
 
-// Whether missing files were left out, and no other was verified.
 fn verified_nothing(options: Options, tally: &Tally) -> bool
     ensures { result ≡ options.ignore_missing && not tally.now.matched }
 {
     options.ignore_missing && !tally.matched
 }
 
-// Says what is wrong with a list.
 fn remark<L: Log>(log: &mut L, complaint: Complaint) -> Result<(), Fault>
     requires told { (L.told log.old).failure ≡ None }
     ensures told { OnOk result (Tells (L.told log.old) (L.told log.new) (about_list complaint ∷ [])) }
@@ -190,7 +187,6 @@ fn remark<L: Log>(log: &mut L, complaint: Complaint) -> Result<(), Fault>
     log.complain(complaint).map_err(Fault::Write)
 }
 
-// Says what is wrong with a list, if it is.
 #[tactic(auto, using(crate::proofs::Telling::telling))]
 fn remark_if<L: Log>(log: &mut L, wrong: bool, complaint: Complaint) -> Result<(), Fault>
     requires told { (L.told log.old).failure ≡ None }
@@ -237,8 +233,7 @@ fn check_lines<F: Folder, L: Log>(
     Ok(())
 }
 
-// Tells and counts what was found of lines whose files were read. Their lines are written at once, and before a
-// remark.
+// Tells and counts outcomes. Their lines are written at once, and before a remark.
 fn check_outcomes<F: Folder, L: Log>(
     alloc: Global,
     _folder: &F,
@@ -263,7 +258,7 @@ fn check_outcomes<F: Folder, L: Log>(
     put(log, report.as_slice())
 }
 
-// What comes of reading the files of the first lines: of one, or of several that name one hash.
+// Reads the files of the first lines, all of one variant.
 #[tactic(auto, using(crate::proofs::Zips::first_through, crate::proofs::Checked::outcome_of_named))]
 fn read_files_of<F: Folder>(
     alloc: Global,
@@ -281,7 +276,7 @@ fn read_files_of<F: Folder>(
     Ok(outcomes)
 }
 
-// The names of the first lines, up to one of another hash.
+// The names of the first lines, up to another variant.
 fn names_of(alloc: Global, variant: Variant, lines: &[Line]) -> Result<Vec<&[u8]>, AllocError>
     requires first { (line : Line) → 0 < length lines.now → get_or lines.now 0 line ≡ line → line.variant ≡ variant }
     ensures { IfOk result (λ names. OfFirst (IsNamed variant) lines.now (targets names.items)) }
@@ -296,7 +291,7 @@ fn names_of(alloc: Global, variant: Variant, lines: &[Line]) -> Result<Vec<&[u8]
     Ok(names)
 }
 
-// Remarks on what was found of the file of this name, and adds its line to some that are not written yet.
+// Remarks on a file, and adds its line to those not yet written.
 #[tactic(auto, using(crate::proofs::Telling::telling))]
 fn tell<L: Log>(
     options: Options,
@@ -316,7 +311,7 @@ fn tell<L: Log>(
     Ok(())
 }
 
-// Remarks on a file, if its verdict is an error.
+// Remarks on an unreadable file.
 #[tactic(auto, using(crate::proofs::Telling::telling))]
 fn remark_on<L: Log>(
     name: &[u8],
@@ -334,7 +329,7 @@ fn remark_on<L: Log>(
     Ok(())
 }
 
-// Adds the line of what was found, if it has one.
+// Adds the verdict's line, if it has one.
 fn push_verdict(
     lines: &mut Vec<u8>,
     options: Options,
@@ -355,14 +350,13 @@ fn push_verdict(
     }
 }
 
-// Whether a name has several lines.
 fn has_newline(name: &[u8]) -> bool
     ensures { result ≡ has_lines name.now }
 {
     name.iter().any(|byte| *byte == b'\n')
 }
 
-// Adds a name as it is shown, and what follows it.
+// Adds a name, escaped only if it has a newline, and what follows it.
 fn push_shown(lines: &mut Vec<u8>, name: &[u8], after: &[u8]) -> Result<(), AllocError>
     ensures { OnOk result (lines.new.items ≡ lines.old.items ++ (shown name.now ++ after.now)) }
 {

@@ -20,13 +20,13 @@ use ripemd_batch::{BatchDigest, digest_each};
 use std::alloc::{AllocError, Global};
 use std::io;
 
-// The length of a message that is too long: its length in bits does not fit into 64 bits.
+// A message of this length in bytes is too long: its length in bits does not fit into 64 bits.
 const TOO_LONG: u64 = 1 << 61;
 
-// So many files are hashed at once, at most.
+// The most files that are hashed at once.
 pub(crate) const GROUP: usize = 8;
 
-// What a file gave: a whole message, or the digest of a longer one.
+// A message shorter than the buffer, the digest of another, or an error.
 #[derive(Drop)]
 enum Content<T> {
     Short(Vec<u8>),
@@ -35,8 +35,7 @@ enum Content<T> {
     Broken(io::Error),
 }
 
-// Reads to the front of the buffer, until the file ends or the buffer is full. How many bytes: if there is room for
-// more, the file has ended.
+// Reads until the file ends or the buffer is full. How many bytes.
 fn fill<F: Folder>(folder: &F, file: &mut F::File, buffer: &mut [u8]) -> Result<usize, io::Error>
     requires readable { F.is_readable folder.now file.old }
     ensures ok { IfOk result (λ count. (count ≤ length buffer.new)
@@ -58,7 +57,7 @@ fn fill<F: Folder>(folder: &F, file: &mut F::File, buffer: &mut [u8]) -> Result<
     Ok(count)
 }
 
-// The digest of a file that fills the buffer: of these bytes, and of the rest.
+// The digest of the bytes in the buffer and the rest of the file.
 #[tactic(auto, using(crate::proofs::Pieces::consumed))]
 fn hash_rest<D: Digest, F: Folder>(
     folder: &F,
@@ -89,7 +88,6 @@ fn hash_rest<D: Digest, F: Folder>(
     Err(too_large())
 }
 
-// What is said of a file that is too long.
 fn too_large() -> io::Error
     ensures { error_kind result ≡ FileTooLarge }
 {
@@ -129,7 +127,7 @@ fn read_file<D: Digest, F: Folder>(
     }
 }
 
-// What the files of the first names gave: of one, or of several short ones.
+// Reads the files of the first names: one, or several short ones.
 fn read_files<D: Digest, F: Folder>(
     alloc: Global,
     folder: &F,
@@ -157,7 +155,7 @@ fn read_files<D: Digest, F: Folder>(
     Ok(contents)
 }
 
-// The message of a short file; of all others the empty one.
+// The message of a short file, else the empty one.
 fn message_of<T>(content: &Content<T>) -> &[u8]
     ensures { result.now ≡ message_in content.now }
 {
@@ -167,7 +165,6 @@ fn message_of<T>(content: &Content<T>) -> &[u8]
     }
 }
 
-// These messages.
 fn messages_of<T>(alloc: Global, contents: &[Content<T>]) -> Result<Vec<&[u8]>, AllocError>
     ensures { IfOk result (λ messages. targets messages.items ≡ map message_in contents.now) }
 {
@@ -178,7 +175,7 @@ fn messages_of<T>(alloc: Global, contents: &[Content<T>]) -> Result<Vec<&[u8]>, 
     Ok(messages)
 }
 
-// What came of a file, by its content and the digest of its message.
+// The outcome of a file, by its content and the digest of its message.
 fn outcome_of<D: Digest>(
     alloc: Global,
     content: &Content<D::Output>,
@@ -195,7 +192,6 @@ fn outcome_of<D: Digest>(
     })
 }
 
-// What came of some files.
 fn outcomes_of<D: Digest>(
     alloc: Global,
     contents: &[Content<D::Output>],
@@ -212,7 +208,7 @@ fn outcomes_of<D: Digest>(
     Ok(outcomes)
 }
 
-// What comes of the files of the first names, by one hash.
+// Reads and hashes the files of the first names.
 fn read_group<D: BatchDigest, F: Folder>(
     alloc: Global,
     folder: &F,
@@ -230,9 +226,8 @@ fn read_group<D: BatchDigest, F: Folder>(
     Ok(outcomes)
 }
 
-/// What comes of reading the files of the first of some names, in order: of one, or of up to eight
-/// [short](Folder::is_short) ones. Each is read to the buffer, which has to have room; those that leave room there are
-/// hashed at once.
+/// Reads and hashes the files of the first names, in order: one, or up to eight [short](Folder::is_short) ones. Each
+/// is read to the buffer, which must have room; those that leave room there are hashed at once.
 pub fn read_digests<F: Folder>(
     alloc: Global,
     folder: &F,

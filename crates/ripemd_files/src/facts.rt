@@ -1,5 +1,5 @@
-//! What is proved of the definitions themselves: that they give worked cases, and laws. The
-//! functions do nothing; their contracts are the facts.
+//! Facts of the definitions: worked cases, and laws. The functions do nothing: their contracts
+//! are the facts.
 
 ghost use Rattle.std.specs.Prelude.{◌≡◌, ◌≢◌, ◌==◌, ℕ, List, ◌∷◌, false};
 ghost use Rattle.std.specs.List.{list_any};
@@ -39,15 +39,15 @@ pub fn one_meaning()
         → (variant ≡ other_variant) × (digest ≡ other_digest) × (name ≡ other_name) }
 {}
 
-/// Where a written line ends, and how no line begins, so that lists can be split into lines.
+/// How lines end and begin, so that lists can be split into lines.
 pub fn line_ends()
-    // Before the newline stands no newline, no carriage return and no zero.
+    // No newline, carriage return or byte 0 stands before the newline.
     ensures newline { (layout : Layout) (form : Form) (variant : Variant) (digest name : List ℕ) → RoundTrips layout form variant digest name
         → list_any is_end (line_of Newline form variant digest name) ≡ false }
-    // Before the zero stands none.
+    // No byte 0 stands before the last.
     ensures zero { (layout : Layout) (form : Form) (variant : Variant) (digest name : List ℕ) → RoundTrips layout form variant digest name
         → list_any (λ byte. byte == 0) (line_of Zero form variant digest name) ≡ false }
-    // A line is not empty, and begins with no `#`.
+    // No line is empty or begins with `#`.
     ensures first { (layout : Layout) (line : List ℕ) (variant : Variant) (digest name : List ℕ) → IsLine layout line variant digest name
         → (byte : ℕ) × (rest : List ℕ) × (line ≡ byte ∷ rest) × (byte ≢ 35) }
 {}

@@ -1,4 +1,4 @@
-//! Why a run ends before its end.
+//! Errors that end a run.
 
 ghost use Rattle.std.specs.Prelude.{◌≡◌};
 ghost use Rattle.ripemd_files.specs.declared.fault.Fault.TheVariants.{NoMemory};
@@ -10,13 +10,13 @@ use thiserror::Error;
 /// Why a run ends before all files were printed or checked.
 #[derive(Debug, Drop, Error)]
 pub enum Fault {
-    /// A write of a line or of a remark failed with this error.
+    /// Writing a line or a remark failed with this error.
     #[error("write error")]
     Write(io::Error),
     /// There is no memory left.
     #[error("memory exhausted")]
     NoMemory,
-    /// A list has more than 2^64 - 2 lines.
+    /// A list has more than 2^64 - 2 lines, or a run about 2^64 names.
     #[error("too many checksum lines")]
     TooManyLines,
 }

@@ -7,15 +7,15 @@ ghost use Rattle.ripemd_files.specs.Files.{Place};
 
 use std::io;
 
-/// A folder: what opens files by their names, which need not be text, and reads them.
+/// Opens files by their names, which need not be text, and reads them.
 pub trait Folder {
     /// An opened file.
     type File: Drop;
 
-    // What it is, as contracts see it.
+    // The folder as contracts see it.
     ghost place: { Self → Place Self.File };
 
-    // Whether a file may still be read: not after a read of it failed or found its end.
+    // Whether a file may still be read: not after a failed read or its end.
     ghost is_readable: { Self → Self.File → Type 0 } = { λ folder file. ⊤ };
 
     /// Opens the file of a name.
@@ -24,13 +24,13 @@ pub trait Folder {
         ensures readable { IfOk result (is_readable self.now) }
         ensures err { IfErr result ((place self.now).refuses name.now) };
 
-    /// Whether the file of a name is, as far as is known before it is opened, a regular one of less than 64 KiB, for
-    /// which nothing has to wait long. Several such files are read before their lines are written, and before any
-    /// other file all lines are.
+    /// Whether the file of a name seems, before it is opened, to be a regular one of less than 64 KiB, for which
+    /// nothing waits long. Several such files are read before their lines are written; before any other file, all
+    /// lines so far are written.
     fn is_short(&self, name: &[u8]) -> bool;
 
-    /// Reads bytes of a file to the front of the buffer, and answers how many: 0 at its end. No file is read after that,
-    /// nor after a read that failed.
+    /// Reads bytes of a file to the front of the buffer, and answers how many: 0 at its end. No file is read after
+    /// that, or after a failed read.
     fn read(&self, file: &mut Self::File, buffer: &mut [u8]) -> io::Result<usize>
         requires readable { is_readable self.now file.old }
         ensures bound { ReadsAtMost result buffer.new }

@@ -9,14 +9,12 @@ ghost use Rattle.ripemd_files.specs.Layouts.{has_digits, is_wanted_length, untag
 use crate::line::{Layout, Variant};
 use crate::reading::untagged_parts;
 
-// Whether a byte is a hexadecimal digit.
 fn is_digit(byte: u8) -> bool
     ensures { result ≡ is_hex_digit byte }
 {
     byte.is_ascii_hexdigit()
 }
 
-// Whether all bytes of a text are.
 fn are_digits(text: &[u8]) -> bool
     ensures { result ≡ list_all is_hex_digit text.now }
 {
@@ -33,7 +31,7 @@ fn has_wanted_length(only: Option<Variant>, count: usize) -> bool
     }
 }
 
-// Whether a body has the digits of a digest, and a name in this layout.
+// Whether a body has digits that count and a name, in this layout.
 fn is_untagged(only: Option<Variant>, layout: Layout, body: &[u8]) -> bool
     ensures { result ≡ has_digits only (untagged_at layout body.now) }
 {
@@ -43,9 +41,9 @@ fn is_untagged(only: Option<Variant>, layout: Layout, body: &[u8]) -> bool
     }
 }
 
-// The layout of a body that has no tag. It is reversed if no standard line stands there: `sha256sum --check` takes
-// the layout of a list from its first untagged line. If one variant alone counts, only a digest of its length does.
-// The digits and a name have to stand there, but what the name spells does not count.
+// The layout of a body without a tag, if it has digits that count, and a name, whatever that spells; standard if both
+// fit. `sha256sum --check` takes the layout of a list from its first untagged line. With `only`, digits of its length
+// alone count.
 pub(crate) fn layout_of_untagged(only: Option<Variant>, body: &[u8]) -> Option<Layout>
     ensures { result ≡ untagged_layout only body.now }
 {

@@ -1,5 +1,5 @@
-//! The lines that `md5sum`, `sha256sum` and their kin print and check, for RIPEMD-128, RIPEMD-160,
-//! RIPEMD-256 and RIPEMD-320: a digest and the name of a file.
+//! Digests of files by RIPEMD-128, RIPEMD-160, RIPEMD-256 and RIPEMD-320, printed and checked as
+//! `sha256sum` does.
 #![tactic(auto)]
 
 pub mod agreement;

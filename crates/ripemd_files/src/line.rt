@@ -1,4 +1,4 @@
-//! What a line says, and the forms in which it is written.
+//! Lines: what they say, and how they are written.
 
 ghost use Rattle.std.specs.Prelude.{◌≡◌};
 
@@ -53,12 +53,12 @@ pub enum Form {
     Tagged,
 }
 
-/// How a list of untagged lines parts digests from names.
+/// What parts digests from names in the untagged lines of a list.
 #[derive(Clone, Copy, PartialEq, Eq, Debug)]
 pub enum Layout {
-    /// By two bytes, as in `HEX  NAME` and `HEX *NAME`.
+    /// Two bytes, as in `HEX  NAME` and `HEX *NAME`.
     Standard,
-    /// By one, as in `HEX NAME`, which BSD's `md5 -r` writes.
+    /// One byte, as in `HEX NAME`, which BSD's `md5 -r` writes.
     Reversed,
 }
 

@@ -21,7 +21,7 @@ pub struct Rules {
     pub from_input: bool,
 }
 
-// How far a list is read: its layout, if an untagged line said it, and the number of the next line.
+// How far a list is read: its layout, if known, and the number of the next line.
 #[derive(Clone, Copy)]
 pub(crate) struct Cursor {
     pub layout: Option<Layout>,
@@ -36,8 +36,7 @@ pub(crate) enum Next {
     Failed,
 }
 
-// Some lines of a list, the number of one after them that says nothing that can be read, if there is one, and how
-// the list goes on.
+// Some lines, the number of a misformatted one after them, and how the list goes on.
 #[derive(Drop)]
 pub(crate) struct Group {
     pub lines: Vec<Line>,
@@ -55,7 +54,7 @@ fn without_return(text: &[u8]) -> &[u8]
     }
 }
 
-// Whether a line is passed over.
+// Whether a line is empty or a comment.
 fn is_skipped(text: &[u8]) -> bool
     ensures { result ≡ is_passed_over text.now }
 {
@@ -65,7 +64,6 @@ fn is_skipped(text: &[u8]) -> bool
     }
 }
 
-// Whether a variant counts.
 fn is_wanted(only: Option<Variant>, variant: Variant) -> bool
     ensures { IsTrue result ↔ IsWanted only variant }
 {
@@ -89,7 +87,7 @@ fn is_taken(rules: Rules, line: &Line) -> bool
     is_wanted(rules.only, line.variant) && !(rules.from_input && is_input(line.name.as_slice()))
 }
 
-// What a line that is not passed over says, if that counts, and the layout of its list after it.
+// What a line that is not skipped says, if it counts; it may decide the layout.
 #[tactic(auto, using(crate::proofs::Listed::is_taken))]
 fn read_entry(
     alloc: Global,
@@ -112,8 +110,7 @@ fn read_entry(
     }
 }
 
-// Takes the next line from a list: adds what it says to some lines. The line's number, if it says nothing that can
-// be read.
+// Adds what the next line says to `lines`. Its number, if it is misformatted.
 fn take_line<F: Folder>(
     alloc: Global,
     _folder: &F,
@@ -145,7 +142,6 @@ fn take_line<F: Folder>(
     }
 }
 
-// Adds a line to some.
 fn push_line(lines: &mut Vec<Line>, line: Line) -> Result<(), AllocError>
     ensures { OnOk result (lines.new.items ≡ lines.old.items ++ line ∷ []) }
 {
@@ -153,14 +149,14 @@ fn push_line(lines: &mut Vec<Line>, line: Line) -> Result<(), AllocError>
     Ok(())
 }
 
-// Whether the files of some lines are read before the next line: there are enough, or reading it may wait.
+// Whether the files of the lines are read now: there are enough, or the next line may be waited for.
 fn is_group<R: ReadList>(lines: &[Line], reader: &R) -> bool
     ensures { IsTrue result → 0 < length lines.now }
 {
     lines.len() >= GROUP || (!lines.is_empty() && !reader.has_line())
 }
 
-// Reads some lines of a list, up to the next one that says nothing that can be read, or that is not at hand.
+// Reads lines until there are enough, one is misformatted, or the next is not at hand.
 #[tactic(auto, using(crate::proofs::Grouped::reads_nothing))]
 pub(crate) fn read_group<F: Folder, R: ReadList>(
     alloc: Global,

@@ -1,5 +1,5 @@
-//! What is proved of the definitions of lists: worked cases, and laws. The functions do nothing;
-//! their contracts are the facts.
+//! Facts of the definitions of lists: worked cases, and laws. The functions do nothing: their contracts are the
+//! facts.
 
 ghost use Rattle.std.specs.Prelude.{◌≡◌, ◌≢◌, ℕ, List, [], ◌∷◌, ◌++◌, Option, Some};
 ghost use Rattle.ripemd_files.specs.declared.line.Variant.{Variant};
@@ -27,12 +27,10 @@ pub fn list_layouts()
     ensures none { NoLayouts }
 {}
 
-/// The layout that is found is the one that a line has, or the standard one if it has both.
+/// A line's layout is found, and no other; the standard one, if it has both.
 #[tactic(auto, using(crate::proofs::Layouts::finding))]
 pub fn found_layouts()
-    // What is found, the line has.
     ensures found { (only : Option Variant) (layout : Layout) (line : List ℕ) → layout_of only line ≡ Some layout → HasLayout only layout line }
-    // What it has is found.
     ensures standard { (only : Option Variant) (line : List ℕ) → HasLayout only Standard line → layout_of only line ≡ Some Standard }
     ensures reversed { (only : Option Variant) (line : List ℕ) → HasLayout only Reversed line → ¬ HasLayout only Standard line
         → layout_of only line ≡ Some Reversed }

@@ -1,4 +1,4 @@
-//! Where the lines of a run are written, and its remarks beside them.
+//! Where the lines and remarks of a run go.
 
 ghost use Rattle.std.specs.Prelude.{◌≡◌, [], ◌∷◌, IfErr, None, OnOk, Some};
 ghost use Rattle.ripemd_files.specs.Said.{AddsFirst, Tells, Told, about_list, unreadable, written};
@@ -8,35 +8,35 @@ use std::io;
 /// What is wrong with a list.
 #[derive(Clone, Copy, PartialEq, Eq, Debug)]
 pub enum Complaint {
-    /// Its line of this number says nothing that can be read.
+    /// The line of this number is misformatted: it says nothing that counts.
     Misformatted(u64),
-    /// So many of its lines say nothing that can be read.
+    /// So many of its lines are misformatted.
     MisformattedLines(u64),
-    /// None of its lines says anything.
+    /// None of its lines says anything that counts.
     NoLines,
     /// So many of its files could not be read.
     UnreadableFiles(u64),
     /// So many of its files have another digest.
     Mismatches(u64),
-    /// None of its files has its digest.
+    /// None of its files matches.
     NothingVerified,
     /// It could not be read to its end.
     Unreadable,
 }
 
-/// Where lines and remarks go, in order. An error ends the run: after it nothing is told.
+/// Takes lines and remarks, in order. An error ends the run: after it nothing is told.
 pub trait Log {
-    // What it was told so far, and the error of the last call that failed.
+    // What it was told, and the error of the last call that failed.
     ghost told: { Self → Told };
 
-    /// Writes lines, and flushes them. If it fails, it may have written the first of their bytes.
+    /// Writes and flushes lines. If it fails, it may have written their first bytes.
     fn write(&mut self, lines: &[u8]) -> io::Result<()>
         requires works { (told self.old).failure ≡ None }
         ensures ok { OnOk result (Tells (told self.old) (told self.new) (written lines.now)) }
         ensures err { IfErr result (λ error. AddsFirst (told self.old).items (told self.new).items (written lines.now)
             × ((told self.new).failure ≡ Some error)) };
 
-    /// Says that the file of a name could not be opened or read, with this error.
+    /// Remarks that a file could not be opened or read, with this error.
     fn unreadable(&mut self, name: &[u8], error: io::Error) -> io::Result<()>
         requires works { (told self.old).failure ≡ None }
         ensures ok { OnOk result (Tells (told self.old) (told self.new) (unreadable name.now error ∷ [])) }

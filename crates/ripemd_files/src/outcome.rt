@@ -1,4 +1,4 @@
-//! What comes of reading a file.
+//! Outcomes of reading files.
 
 use std::io;
 

@@ -10,7 +10,7 @@ use std::alloc::AllocError;
 use std::io;
 use std::io::{BufRead, BufReader, ErrorKind, Read};
 
-/// What was read of a text whose pieces end with a certain byte, as lines do with a newline.
+/// What was read of a text whose pieces end with a certain byte, as lines with a newline.
 #[derive(Clone, Copy, Debug)]
 pub enum Piece {
     /// A piece that ended with its byte.
@@ -23,11 +23,11 @@ pub enum Piece {
     Failed(io::Error),
 }
 
-/// Reads the next piece to `text`, in place of what stood there, without the byte `end` that ends it.
+/// Replaces `text` by the next piece, without the byte `end` that ends it.
 ///
 /// # Errors
 ///
-/// `AllocError` if there is no memory left for it.
+/// `AllocError` if memory is exhausted.
 #[tactic(auto, using(crate::proofs::Cutting::read_rest))]
 pub fn read_piece<R: Read>(
     reader: &mut BufReader<R>,
@@ -42,7 +42,7 @@ pub fn read_piece<R: Read>(
     let is_whole = pop(text, end);
     match outcome {
         Err(error) if error.kind() == ErrorKind::OutOfMemory => Err(AllocError),
-        // Of a read that fails after the byte, which none does, the next one tells.
+        // No read fails after the byte; if one did, the next would tell.
         _ if is_whole => Ok(Piece::Whole),
         Err(error) => Ok(Piece::Failed(error)),
         Ok(0) => Ok(Piece::Nothing),
@@ -50,7 +50,7 @@ pub fn read_piece<R: Read>(
     }
 }
 
-// Takes the byte `end` from the end of a text. Whether it was there.
+// Removes the byte `end` from the end of a text. Whether it was there.
 fn pop(text: &mut Vec<u8>, end: u8) -> bool
     ensures found { result ≡ ends_with_byte end text.old.items }
     ensures text { text.new.items ≡ strip_last end text.old.items }
@@ -67,22 +67,21 @@ fn pop(text: &mut Vec<u8>, end: u8) -> bool
 
 /// A list, as it is read.
 pub trait ReadList {
-    // What is left of it, and whether a read of it failed.
+    // What is left of it, and whether a read failed.
     ghost state: { Self → ListState };
 
     // Whether it may still be read: not after its end.
     ghost is_readable: { Self → Type 0 } = { λ list. ⊤ };
 
-    /// Whether its next line is at hand, so that reading it does not wait. Before a read that may wait, what the
-    /// lines so far say is written.
+    /// Whether the next line is at hand, so that reading it does not wait. Before a read that may wait, what earlier
+    /// lines say is written.
     fn has_line(&self) -> bool;
 
-    /// Reads the next line to `text`, in place of what stood there, without its newline. No list is read after its end,
-    /// nor after a read that failed.
+    /// Replaces `text` by the next line, without its newline. No list is read after its end, or after a failed read.
     ///
     /// # Errors
     ///
-    /// `AllocError` if there is no memory left for it.
+    /// `AllocError` if memory is exhausted.
     fn read_line(&mut self, text: &mut Vec<u8>) -> Result<Piece, AllocError>
         requires works { (state self.old).failed ≡ false }
         requires readable { is_readable self.old }
@@ -102,7 +101,7 @@ pub struct List<R> {
 impl<R: Read> List<R> {
     ghost use Rattle.ripemd_files.specs.Splitting.{state_of};
 
-    /// A list of which no read has failed. Its buffer has room.
+    /// A list of which no read has failed. Its buffer must have room.
     pub fn new(reader: BufReader<R>) -> List<R>
         ensures works { (state_of R.remaining result).failed ≡ false }
         ensures left { (state_of R.remaining result).left ≡ reader_remaining R.remaining reader }

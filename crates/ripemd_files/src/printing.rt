@@ -1,4 +1,4 @@
-//! The lines of the digests of files.
+//! Prints the digests of files.
 
 ghost use Rattle.std.specs.Prelude.{◌≡◌, ◌<◌, ◌++◌, ◌∷◌, [], length, IfErr, IfOk, None, OnOk};
 ghost use Rattle.std.specs.List.{AllZip};
@@ -32,13 +32,13 @@ pub struct Style {
 // How much of a file is read at once.
 const BUFFER: usize = 1 << 16;
 
-/// Writes the line of each file, with the digest of all that it gave, in the order of their names. A file that
-/// can't be opened or read has no line, and is complained of. Whether all were read.
+/// Writes a line for each file, with the digest of all that it gave, in order. A file that can't be opened or read is
+/// remarked on instead. Whether all were read.
 ///
 /// # Errors
 ///
 /// - `Write`: a call of the log failed with this error.
-/// - `NoMemory`: there is no memory left.
+/// - `NoMemory`: memory is exhausted.
 #[tactic(auto, using(crate::proofs::Printed::prints_no_memory))]
 pub fn print_digests<F: Folder, L: Log>(
     alloc: Global,
@@ -55,7 +55,7 @@ pub fn print_digests<F: Folder, L: Log>(
     print_groups(alloc, folder, style, names, &mut buffer, log)
 }
 
-// Prints files, group by group. Each is read through the buffer.
+// Prints files in groups, read through the buffer.
 fn print_groups<F: Folder, L: Log>(
     alloc: Global,
     folder: &F,
@@ -82,14 +82,13 @@ fn print_groups<F: Folder, L: Log>(
     Ok(all)
 }
 
-// What files are read to.
 pub(crate) fn new_buffer(alloc: Global) -> Result<Vec<u8>, AllocError>
     ensures { IfOk result (λ buffer. 0 < length buffer.items) }
 {
     vec![in alloc; 0; BUFFER]
 }
 
-// Prints files that were read. Their lines are written at once, and before a remark.
+// Prints outcomes. Their lines are written at once, and before a remark.
 fn print_outcomes<F: Folder, L: Log>(
     alloc: Global,
     _folder: &F,
@@ -114,8 +113,7 @@ fn print_outcomes<F: Folder, L: Log>(
     Ok(all)
 }
 
-// Adds the line of a file to some that are not written yet, or remarks on it, by what came of it. Whether it was
-// read.
+// Adds the line of a file to those not yet written, or remarks on it. Whether it was read.
 #[tactic(auto, using(crate::proofs::Telling::telling))]
 fn print_outcome<L: Log>(
     alloc: Global,
@@ -150,7 +148,7 @@ fn print_outcome<L: Log>(
     }
 }
 
-// Writes lines, and says then that the file of a name can't be read.
+// Writes lines, and then remarks that a file can't be read.
 #[tactic(auto, using(crate::proofs::Telling::telling))]
 pub(crate) fn remark_unreadable<L: Log>(
     name: &[u8],

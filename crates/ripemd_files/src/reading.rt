@@ -15,7 +15,7 @@ use crate::line::{Layout, Line, Variant};
 use hex::FromHexError;
 use std::alloc::{AllocError, Global};
 
-// What a line says, in parts: the digits of the digest, and the text of the name.
+// A line in parts: the digits of the digest, and the text of the name.
 #[derive(Clone, Copy)]
 pub(crate) struct Parts<'a> {
     variant: Variant,
@@ -23,14 +23,13 @@ pub(crate) struct Parts<'a> {
     text: &'a [u8],
 }
 
-// Whether a byte is a space or a tab.
 fn is_blank_byte(byte: u8) -> bool
     ensures { result ≡ is_blank byte }
 {
     byte == b' ' || byte == b'\t'
 }
 
-// What follows the blanks at the front.
+// What follows leading blanks.
 #[tactic(auto, unfolding(crate::specs::Reading::skip_blanks))]
 fn without_blanks(text: &[u8]) -> &[u8]
     ensures { result.now ≡ skip_blanks text.now }
@@ -50,7 +49,7 @@ fn behind<'a>(prefix: &[u8], text: &'a [u8]) -> Option<&'a [u8]>
     text.strip_prefix(prefix)
 }
 
-// What comes before and after the first blank.
+// What stands before and after the first blank.
 #[tactic(auto, unfolding(crate::specs::Reading::split_blank))]
 fn around_blank(text: &[u8]) -> Option<(&[u8], &[u8])>
     ensures { option_map (λ x. (x.0.now, x.1.now)) result ≡ split_blank text.now }
@@ -63,7 +62,7 @@ fn around_blank(text: &[u8]) -> Option<(&[u8], &[u8])>
     None
 }
 
-// What comes before and after the last closing parenthesis.
+// What stands before and after the last closing parenthesis.
 #[tactic(auto, using(crate::proofs::Places::split_close_found), unfolding(crate::specs::Reading::split_close))]
 fn around_close(text: &[u8]) -> Option<(&[u8], &[u8])>
     ensures { option_map (λ x. (x.0.now, x.1.now)) result ≡ split_close text.now }
@@ -76,7 +75,6 @@ fn around_close(text: &[u8]) -> Option<(&[u8], &[u8])>
     None
 }
 
-// The variant whose digest has so many digits.
 fn variant_by_digits(count: usize) -> Option<Variant>
     ensures { result ≡ variant_of count }
 {
@@ -89,7 +87,7 @@ fn variant_by_digits(count: usize) -> Option<Variant>
     }
 }
 
-// The variant by its length in bits at the end of a tag, and what follows.
+// The variant by the bits that end its tag, and what follows.
 fn behind_bits(text: &[u8]) -> Option<(Variant, &[u8])>
     ensures { option_map (λ x. (x.0, x.1.now)) result ≡ strip_bits text.now }
 {
@@ -135,7 +133,6 @@ fn behind_separator(layout: Layout, text: &[u8]) -> Option<&[u8]>
     }
 }
 
-// The parts of an untagged line.
 #[tactic(auto, unfolding(crate::specs::Reading::untagged_at))]
 pub(crate) fn untagged_parts(layout: Layout, body: &[u8]) -> Option<Parts<'_>>
     ensures { option_map found_of result ≡ untagged_at layout body.now }
@@ -175,7 +172,7 @@ fn tagged_parts(variant: Variant, text: &[u8]) -> Option<Parts<'_>>
     })
 }
 
-// The parts of a line in either form, by the layout of its list. If none is known yet, an untagged line tells it.
+// The parts of a line, tagged or not. An untagged line decides the layout of its list, if none is known.
 #[tactic(auto, unfolding(crate::specs::Reading::found_at, crate::specs::Layouts::layout_at))]
 fn either_parts<'a>(
     only: Option<Variant>,
@@ -196,7 +193,6 @@ fn either_parts<'a>(
     }
 }
 
-// The bytes of a digest.
 #[tactic(auto, unfolding(crate::specs::Reading::digest_at))]
 fn decode_digest(
     alloc: Global,
@@ -215,7 +211,7 @@ fn decode_digest(
     }
 }
 
-// The byte that a letter after a backslash stands for.
+// What a letter after a backslash stands for.
 fn meaning(letter: u8) -> Option<u8>
     ensures { result ≡ meant_by letter }
 {
@@ -250,7 +246,7 @@ fn unescape(alloc: Global, text: &[u8]) -> Result<Option<Vec<u8>>, AllocError>
     Ok(if escaping { None } else { Some(name) })
 }
 
-// The name of a file by its text, unless it has a zero.
+// The name that a text spells, unless it has a byte 0.
 #[tactic(auto, unfolding(crate::specs::Reading::name_at))]
 fn read_name(alloc: Global, marked: bool, text: &[u8]) -> Result<Option<Vec<u8>>, AllocError>
     ensures { IfOk result (λ found. option_map (λ v. v.items) found ≡ name_at marked text.now) }
@@ -276,7 +272,7 @@ fn without_mark(text: &[u8]) -> (bool, &[u8])
     }
 }
 
-// What a line says, by the layout of its list, which it may tell.
+// What a line says, in the layout of its list, which it may decide.
 #[tactic(auto, unfolding(crate::specs::Reading::said_by))]
 pub(crate) fn read_line(
     alloc: Global,
@@ -304,18 +300,17 @@ pub(crate) fn read_line(
     }))
 }
 
-/// What a line says, given without its end: its variant, its digest and the name of its file;
-/// `None` if it is no line of a digest and a name.
+/// What a line, given without its end, says: its variant, its digest and the name of its file; `None` if it is no
+/// line of a digest and a name.
 ///
-/// It takes the lines that [`write_line`](crate::write_line) writes, and what `sha256sum --check`
-/// takes beside them: blanks in front, digits of either case, a tab for the first of the two
-/// spaces, and tagged lines as OpenSSL writes them. The length of an untagged digest tells the
-/// variant.
+/// It takes what [`write_line`](crate::write_line) writes and, as `sha256sum --check` does, leading blanks, digits of
+/// either case, a tab for the first of the two spaces, and tagged lines as OpenSSL writes them. The length of an
+/// untagged digest tells the variant.
 #[tactic(auto, using(crate::proofs::Sayings::line_is_found, crate::proofs::Written::writing))]
 pub fn parse_line(alloc: Global, layout: Layout, line: &[u8]) -> Result<Option<Line>, AllocError>
-    // What is found, it is a line of.
+    // The line says what is found.
     ensures found { IfOk result (λ found. IfSome found (λ l. IsLine layout line.now l.variant l.digest.items l.name.items)) }
-    // What it is a line of is found, and nothing else.
+    // What it says is found, and nothing else.
     ensures only { (variant : Variant) (digest name : List ℕ) → IsLine layout line.now variant digest name
         → IfOk result (λ found. Says found variant digest name) }
     // What was written is found.

@@ -7,16 +7,16 @@ use crate::outcome::Outcome;
 use std::io;
 use std::io::ErrorKind;
 
-/// How a list is checked, as the options of `sha256sum` say it.
+/// How a list is checked: options of `sha256sum`.
 #[derive(Clone, Copy, PartialEq, Eq, Debug)]
 pub struct Options {
-    /// Leave out files that are not there.
+    /// Leave out missing files.
     pub ignore_missing: bool,
-    /// Write no line for a file that is as its line says.
+    /// Write no line for a file that matches.
     pub quiet: bool,
-    /// Write no lines, and count nothing at the end.
+    /// Write no lines, and remark on no counts.
     pub status: bool,
-    /// Fail if a line says nothing that can be read.
+    /// Fail if a line is misformatted.
     pub strict: bool,
     /// Remark on each such line.
     pub warn: bool,
@@ -29,14 +29,14 @@ pub enum Verdict {
     Matches,
     /// Its digest is another.
     Differs,
-    /// There is no such file, and it is left out.
+    /// It is missing, and left out.
     Missing,
     /// It could not be opened or read.
     Unreadable(io::Error),
 }
 
 impl Verdict {
-    /// The verdict on a file of which this came, and of which a line says this digest.
+    /// The verdict on a file with this outcome, whose line has the digest `wanted`.
     pub fn of(ignore_missing: bool, wanted: &[u8], outcome: &Outcome) -> Verdict
         ensures { result ≡ verdict_of ignore_missing wanted.now outcome.now }
     {
@@ -64,7 +64,6 @@ impl Verdict {
     }
 }
 
-// Whether an error says that there is no file of this name.
 fn is_missing_error(error: &io::Error) -> bool
     ensures { result ≡ is_missing error.now }
 {
@@ -74,15 +73,15 @@ fn is_missing_error(error: &io::Error) -> bool
 /// What was counted of a list. Counts stop at 2^64 - 1.
 #[derive(Clone, Copy, PartialEq, Eq, Debug, Default)]
 pub struct Tally {
-    /// Lines that say nothing that can be read.
+    /// Misformatted lines.
     pub misformatted: u64,
-    /// Files whose digest is another.
+    /// Files with another digest.
     pub differing: u64,
     /// Files that could not be opened or read.
     pub unreadable: u64,
-    /// Whether a file is as its line says.
+    /// Whether a file matches.
     pub matched: bool,
-    /// Whether a line says something.
+    /// Whether a line was checked.
     pub checked: bool,
 }
 
@@ -100,7 +99,7 @@ impl Tally {
         }
     }
 
-    /// Counts a line that says nothing that can be read.
+    /// Counts a misformatted line.
     pub fn add_misformatted(&mut self)
         ensures { (events : List Event) (number : ℕ) → IsTally events self.old → IsTally (events ++ misformatted number ∷ []) self.new }
     {
@@ -120,7 +119,7 @@ impl Tally {
         }
     }
 
-    /// Whether the check of the list succeeds.
+    /// Whether the check succeeds.
     pub fn is_success(&self, options: Options) -> bool
         ensures { result ≡ is_success options self.now }
     {

@@ -7,7 +7,6 @@ ghost use Rattle.ripemd_files.specs.Lines.{tag_of, is_special, escape_of, mark_o
 use crate::line::{Ending, Form, Variant};
 use std::alloc::{AllocError, Global};
 
-// The tag of a variant.
 fn tag(variant: Variant) -> &'static [u8]
     ensures { result.now ≡ tag_of variant }
 {
@@ -26,7 +25,6 @@ fn is_special_byte(byte: u8) -> bool
     byte == b'\\' || byte == b'\n' || byte == b'\r'
 }
 
-// Whether a name has a byte that is escaped.
 fn has_special(name: &[u8]) -> bool
     ensures { result ≡ list_any is_special name.now }
 {
@@ -43,7 +41,6 @@ fn needs_mark(ending: Ending, name: &[u8]) -> bool
     }
 }
 
-// Adds a byte, escaped.
 fn push_escaped(line: &mut Vec<u8>, byte: u8) -> Result<(), AllocError>
     ensures { OnOk result (line.new.items ≡ line.old.items ++ escape_of byte) }
 {
@@ -56,7 +53,7 @@ fn push_escaped(line: &mut Vec<u8>, byte: u8) -> Result<(), AllocError>
     Ok(())
 }
 
-// Adds the text of a name.
+// Adds a name, escaped if it is marked.
 pub(crate) fn push_text(line: &mut Vec<u8>, marked: bool, name: &[u8]) -> Result<(), AllocError>
     ensures { OnOk result (line.new.items ≡ line.old.items ++ text_of marked name.now) }
 {
@@ -70,7 +67,6 @@ pub(crate) fn push_text(line: &mut Vec<u8>, marked: bool, name: &[u8]) -> Result
     Ok(())
 }
 
-// Adds the body of a line, from the digits of its digest.
 fn push_body(
     line: &mut Vec<u8>,
     form: Form,
@@ -105,9 +101,9 @@ fn push_body(
 
 /// The line of a digest and a name, with its end, as `sha256sum` writes it.
 ///
-/// The digest is in lower case. [`parse_line`](crate::parse_line) finds all of it again if the
-/// digest has the variant's length, and the name no zero, and, in an untagged line, one byte or
-/// more.
+/// The digits are in lower case. [`parse_line`](crate::parse_line) finds digest and name again if
+/// the digest has the variant's length, the name has no byte 0, and an untagged line has a name
+/// that is not empty and is read in the standard layout.
 pub fn write_line(
     alloc: Global,
     ending: Ending,

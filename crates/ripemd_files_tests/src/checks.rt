@@ -22,7 +22,6 @@ const PLAIN: Options = Options {
     warn: false,
 };
 
-// Missing files are left out, and nothing is said of others that are as they should be.
 const IGNORING: Options = Options {
     ignore_missing: true,
     quiet: true,
@@ -34,8 +33,8 @@ const RULES: Rules = Rules {
     from_input: false,
 };
 
-// Two lines of files that are as they say, by two hashes, one of a file with another digest, one of a missing
-// file, one that says nothing, and a comment.
+// A comment, two lines that match, by two variants, one that differs, one that is misformatted, and one of a
+// missing file.
 const LIST: &[u8] = b"# a comment\n8eb208f7e05d987a9b044a8e98c6b087f15a0bfc  abc\n\
     cdf26213a150dc3ecb610f18f6b38b46  empty\r\n\
     9c1185a5c5e9fc54612808977ee8f548b2258d31  abc\nnothing\n\
@@ -45,7 +44,6 @@ const REPORT: &[u8] = b"abc: OK\nempty: OK\nabc: FAILED\nmissing: FAILED open or
 
 const FILES: &[(&[u8], &[u8])] = &[(b"abc", b"abc"), (b"empty", b"")];
 
-// What a check of a list answers, and what it leaves.
 fn check(
     alloc: Global,
     mut list: List<Bytes<'_>>,
@@ -62,7 +60,7 @@ fn check(
     check_list(alloc, &memory, PLAIN, RULES, &mut None, &mut list, page)
 }
 
-// A list, how it is checked, in which layout, and what comes of that.
+// A list, how it is checked, and what comes of that.
 #[derive(Clone, Copy)]
 struct Case<'a> {
     options: Options,
@@ -258,7 +256,7 @@ fn each_read_of_a_list_may_fail(rt: HostRuntime) -> Result<(), Fail> {
     Ok(())
 }
 
-// Whichever call of the folder fails, no line of the report is another, but that of the file.
+// Whichever call of the folder fails, only the line of its file changes.
 #[test]
 fn each_call_of_a_folder_may_fail(rt: HostRuntime) -> Result<(), Fail> {
     let alloc = rt.alloc();
@@ -280,7 +278,7 @@ fn each_call_of_a_folder_may_fail(rt: HostRuntime) -> Result<(), Fail> {
     Ok(())
 }
 
-// Whichever write or remark fails, the check ends with its error, and what was told is the front of the report.
+// Whichever write or remark fails, the check ends with its error, after the front of the report.
 #[test]
 fn each_write_may_fail(rt: HostRuntime) -> Result<(), Fail> {
     let alloc = rt.alloc();

@@ -13,7 +13,7 @@ use std::cell::Cell;
 use std::io;
 use std::io::{BufReader, ErrorKind, Read};
 
-/// Counts calls, one of which fails: the first is 1, and 0 is none.
+/// Counts calls, one of which fails: 1 is the first, 0 none.
 #[derive(Drop)]
 pub struct Calls {
     made: Cell<usize>,
@@ -34,7 +34,6 @@ impl Calls {
         self.made.get()
     }
 
-    // Makes a call.
     fn make(&self) -> io::Result<()> {
         self.made.set(self.made.get().saturating_add(1));
         if self.made.get() == self.failing {
@@ -87,7 +86,7 @@ impl<'a> Folder for Memory<'a> {
     }
 }
 
-// Takes bytes from the front, as many as there is room for.
+// Takes as many bytes from the front as there is room for.
 fn take(rest: &mut &[u8], buffer: &mut [u8]) -> io::Result<usize>
     ensures { ReadsAtMost result buffer.new }
 {
@@ -108,7 +107,7 @@ impl Read for Bytes<'_> {
     }
 }
 
-/// A list of these bytes, of which so many are at hand at most. This read of it fails.
+/// A list of these bytes, at most `at_hand` of them at hand. Its read number `failing` fails.
 pub fn list_of(
     alloc: Global,
     rest: &[u8],
@@ -124,7 +123,7 @@ pub fn list_of(
     Ok(List::new(BufReader::with_capacity(alloc, at_hand, bytes)?))
 }
 
-/// Keeps what it is told: the lines, how many files could not be read, and what is wrong with a list.
+/// Keeps lines, the number of unreadable files, and complaints.
 #[derive(Drop)]
 pub struct Page {
     pub bytes: Vec<u8>,

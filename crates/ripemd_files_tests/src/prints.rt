@@ -44,7 +44,7 @@ fn files_are_printed_in_order(rt: HostRuntime) -> Result<(), Fail> {
     Ok(())
 }
 
-// Whichever opening or read fails, the other file has its line, and the failing one has none.
+// Whichever opening or read fails, only the other file has its line.
 #[test]
 fn each_call_of_a_folder_may_fail(rt: HostRuntime) -> Result<(), Fail> {
     let alloc = rt.alloc();

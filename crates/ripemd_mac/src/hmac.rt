@@ -23,8 +23,8 @@ use ripemd::{BlockHasher, ListBlockFunction, ResumableFunction};
 use std::alloc::AllocError;
 use std::marker::Model;
 
-/// An HMAC state of a key and a text, by any hash function (RFC 2104). The text comes in pieces, and how it is cut
-/// makes no difference. No call allocates, and only `load` and `load_slice` can fail.
+/// An HMAC state of a key and a text, by any hash function (RFC 2104). How the text is cut into pieces makes no
+/// difference. No call allocates, and only `load` and `load_slice` can fail.
 #[derive(Drop)]
 pub struct Hmac<D: Digest> {
     inner: D,
@@ -38,8 +38,7 @@ impl<D: Digest> Model for Hmac<D> {
 }
 
 impl<D: BlockDigest> Hmac<D> {
-    /// The state of a key and the empty text. The key has any length: a longer one than 64 bytes
-    /// counts as its digest, and a shorter one is filled with zeros to 64 bytes.
+    /// The state of a key, of any length, and the empty text. A key longer than 64 bytes counts as its digest.
     pub fn new(key: &[u8]) -> Hmac<D>
         ensures state { result ≡ keyed_state D.start D.step D.output key.now }
         ensures text { StandsFor D.start D.step D.output key.now [] result }
@@ -51,7 +50,7 @@ impl<D: BlockDigest> Hmac<D> {
         }
     }
 
-    /// The state of two hashers: the inner one takes in the text, and the outer one the digest of the inner.
+    /// The state of two hashers: the inner takes in the text, the outer the inner digest.
     #[inline(always)]
     pub fn from_hashers(inner: D, outer: D) -> Hmac<D>
         ensures inner { result.inner ≡ D.meaning inner }
@@ -60,7 +59,7 @@ impl<D: BlockDigest> Hmac<D> {
         Hmac { inner, outer }
     }
 
-    /// Its inner hasher and its outer one. They are as secret as the key.
+    /// The inner and the outer hasher, as secret as the key.
     #[inline(always)]
     pub fn hashers(&self) -> (&D, &D)
         ensures inner { D.meaning result.0.now ≡ self.now.inner }
@@ -78,8 +77,8 @@ impl<D: BlockDigest> Hmac<D> {
         self.inner.update(bytes);
     }
 
-    /// A second state of the same key and text, independent of this one. To tag many texts under one key, copy the
-    /// state of the empty text: the key is then hashed once.
+    /// An independent copy. To tag many texts under one key, copy the state of the empty text: the key is then hashed
+    /// once.
     pub fn duplicate(&self) -> Hmac<D>
         ensures { result ≡ self.now }
     {
@@ -100,8 +99,8 @@ impl<D: BlockDigest> Hmac<D> {
         self.outer.chain_update(D::output_bytes(&inner)).finalize()
     }
 
-    /// Whether these bytes are the tag, all of them. It compares all bytes of a tag of the right length, whatever
-    /// they are, and refuses a tag of another length at once. Constant time is not proved.
+    /// Whether these bytes are the whole tag. It compares all bytes of a tag of the right length, whatever they are,
+    /// and refuses another length at once. Constant time is not proved.
     pub fn verify(self, tag: &[u8]) -> bool
         ensures state { IsTrue result ↔ (tag.now ≡ tag_of D.step D.output self) }
         ensures text { (key text : List ℕ) → StandsFor D.start D.step D.output key text self
@@ -153,8 +152,8 @@ impl<F: ListBlockFunction> Incremental for Hmac<BlockHasher<F>> {
 }
 
 impl<F: ResumableFunction> Hmac<BlockHasher<F>> {
-    /// Saves the state: the saved bytes of its inner hasher, and then those of its outer one. They are as
-    /// secret as the key: whoever has them can make tags under it.
+    /// Saves the state: the saved bytes of the inner hasher and then of the outer. They are as secret as the key:
+    /// whoever has them can make tags.
     pub fn save(&self) -> F::SavedHmac
         ensures bytes { F.SavedHmac.bytes result ≡ hmac_bytes F.output self.now }
         ensures valid { IsKeyedState F.are_words self.now }
@@ -168,11 +167,11 @@ impl<F: ResumableFunction> Hmac<BlockHasher<F>> {
         F::SavedHmac::from_slices(inner.as_bytes(), outer.as_bytes()).unwrap()
     }
 
-    /// Loads the state that is saved as these bytes.
+    /// Loads a saved state.
     ///
     /// # Errors
     ///
-    /// `DeserializeStateError` if no state is saved as these bytes.
+    /// `DeserializeStateError` if no state has these saved bytes.
     pub fn load(saved: &F::SavedHmac) -> Result<Hmac<BlockHasher<F>>, DeserializeStateError>
         ensures ok { IfOk result (λ mac. hmac_bytes F.output mac ≡ F.SavedHmac.bytes saved.now) }
         ensures valid { IfOk result (IsKeyedState F.are_words) }
@@ -186,11 +185,11 @@ impl<F: ResumableFunction> Hmac<BlockHasher<F>> {
         Self::load_slice(saved.as_bytes())
     }
 
-    /// Loads the state that is saved as these bytes.
+    /// Loads a state from its saved bytes.
     ///
     /// # Errors
     ///
-    /// `DeserializeStateError` if no state is saved as these bytes, so for any other number of them.
+    /// `DeserializeStateError` if no state has these saved bytes, so for any other number of them.
     pub fn load_slice(bytes: &[u8]) -> Result<Hmac<BlockHasher<F>>, DeserializeStateError>
         ensures ok { IfOk result (λ mac. hmac_bytes F.output mac ≡ bytes.now) }
         ensures valid { IfOk result (IsKeyedState F.are_words) }
@@ -211,7 +210,7 @@ impl<F: ResumableFunction> Hmac<BlockHasher<F>> {
     }
 }
 
-/// Whether bytes are equal. If both have the same length, it compares all of them, whatever they are.
+/// Whether bytes are equal. If their lengths are, it compares all bytes, whatever they are.
 pub fn all_equal(a: &[u8], b: &[u8]) -> bool
     ensures { IsTrue result ↔ (a.now ≡ b.now) }
 {
@@ -225,7 +224,7 @@ pub fn all_equal(a: &[u8], b: &[u8]) -> bool
     difference == 0
 }
 
-/// A key as the two blocks that are hashed first. They are as secret as the key.
+/// A key as the two blocks that are hashed first, as secret as the key.
 #[derive(Clone, Copy)]
 pub struct MaskedKeys {
     /// The block before the text.
@@ -234,9 +233,8 @@ pub struct MaskedKeys {
     pub outer: [u8; 64],
 }
 
-/// The key, or its digest if it is longer than 64 bytes, filled with zeros to 64 bytes, with each byte
-/// masked by 0x36, and by 0x5c (RFC 2104). The tag of a text is the hash of the outer block and the hash
-/// of the inner block and the text.
+/// The key, or its digest if longer than 64 bytes, filled with zeros to 64 bytes, each byte xored with 0x36 for `inner`
+/// and with 0x5c for `outer` (RFC 2104). The tag of a text is `hash(outer ++ hash(inner ++ text))`.
 pub fn masked_keys<D: BlockDigest>(key: &[u8]) -> MaskedKeys
     ensures inner { result.inner
         ≡ masked 0x36 (key_block (hash D.start D.step D.output) key.now) }
@@ -250,7 +248,6 @@ pub fn masked_keys<D: BlockDigest>(key: &[u8]) -> MaskedKeys
     }
 }
 
-// The key as a block of the hash function.
 fn key_block<D: BlockDigest>(key: &[u8]) -> [u8; 64]
     ensures { result ≡ key_block (hash D.start D.step D.output) key.now }
 {
@@ -273,7 +270,6 @@ pub fn filled(bytes: &[u8]) -> [u8; 64]
     block
 }
 
-// A block with each byte masked, by exclusive or.
 fn masked(block: &[u8; 64], mask: u8) -> [u8; 64]
     ensures { result ≡ masked mask block.now }
 {

@@ -1,5 +1,5 @@
-//! HMAC (RFC 2104) over any hash function that `ripemd`'s traits describe, and the reduction of its
-//! collisions to those of the block function.
+//! HMAC (RFC 2104) and PBKDF2 (RFC 8018) over any hash function of `ripemd`, and the reduction of
+//! HMAC's collisions to the block function's.
 #![tactic(auto)]
 
 pub mod facts;

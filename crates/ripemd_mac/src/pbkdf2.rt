@@ -23,13 +23,12 @@ pub enum Pbkdf2Error {
     KeyTooLong,
 }
 
-/// Derives a key from a password and a salt, each of any length, by `rounds` rounds, and writes it to
-/// `key`, which may have any length up to 2^32 - 1 digests. Nothing is allocated.
+/// Derives a key from a password and a salt, each of any length, by `rounds` rounds, into `key`, of any length up to
+/// 2^32 - 1 digests. Nothing is allocated.
 ///
 /// # Errors
 ///
-/// `NoRounds` if `rounds` is 0, and else `KeyTooLong` if `key` is longer than that. Nothing is written
-/// then.
+/// `NoRounds` if `rounds` is 0, else `KeyTooLong` if `key` is longer. Nothing is written then.
 pub fn pbkdf2_hmac<D: BlockDigest>(
     password: &[u8],
     salt: &[u8],
@@ -59,11 +58,11 @@ pub fn pbkdf2_hmac<D: BlockDigest>(
     Ok(())
 }
 
-/// Whether a key of `len` bytes may be derived by `rounds` rounds, if a digest has `size` bytes.
+/// Whether `rounds` rounds may derive a key of `len` bytes, with digests of `size` bytes.
 ///
 /// # Errors
 ///
-/// `NoRounds` if `rounds` is 0, and else `KeyTooLong` if the key is longer than 2^32 - 1 digests.
+/// `NoRounds` if `rounds` is 0, else `KeyTooLong` if the key is longer than 2^32 - 1 digests.
 pub fn allowed(rounds: u32, size: usize, len: usize) -> Result<(), Pbkdf2Error>
     ensures ok { IfOk result (λ _. (rounds ≢ 0) × (len ≤ (2 ^ 32 - 1) * size)) }
     ensures no_rounds { IfErr result (λ why. (why ≡ Pbkdf2Error.NoRounds) ↔ (rounds ≡ 0)) }
@@ -79,7 +78,7 @@ pub fn allowed(rounds: u32, size: usize, len: usize) -> Result<(), Pbkdf2Error>
     Ok(())
 }
 
-/// Writes the front of a block, as much as fits into `part`.
+/// Fills `part` with the front of a block.
 pub fn write_front(block: &[u8; 64], part: &mut [u8])
     requires { length part.old ≤ 64 }
     ensures { part.new ≡ take (length part.old) block.now }
@@ -87,8 +86,7 @@ pub fn write_front(block: &[u8; 64], part: &mut [u8])
     part.copy_from_slice(&block[..part.len()]);
 }
 
-// Block `number` of the key, counted from 1, filled with zeros; `keyed` is the state of the password and the empty
-// text.
+// Block `number` of the key, from 1, filled with zeros. `keyed` has the password and the empty text.
 fn derived_block<D: BlockDigest>(keyed: &Hmac<D>, salt: &[u8], rounds: u32, number: u32) -> [u8; 64]
     requires { 0 < rounds }
     ensures block { (password : List ℕ) → StandsFor D.start D.step D.output password [] keyed.now

@@ -14,26 +14,25 @@ use ripemd::digest::BlockDigest;
 use ripemd::witness::{BlockFunction, Collision, collision_witness};
 use std::alloc::{AllocError, Global};
 
-/// A collision of the block function in the hashing of two texts with the same tag.
+/// A collision of the block function, from two texts with the same tag.
 #[derive(Clone, Copy, PartialEq, Eq, Debug)]
 pub enum MacCollision<S> {
-    /// In the inner messages: the masked key, and then the text.
+    /// In the inner messages: masked key, then text.
     Inner(Collision<S>),
-    /// In the outer messages: the masked key, and then the inner digest.
+    /// In the outer messages: masked key, then inner digest.
     Outer(Collision<S>),
 }
 
-/// Gives, for two different texts with the same tag under one key, the collision of the block function
-/// to which they lead: what `collision_witness` gives for the inner messages if their digests are equal,
-/// and otherwise for the outer ones.
+/// From two different texts with the same tag under one key, the collision of the block function that
+/// `collision_witness` gives for the inner messages if their digests are equal, else for the outer ones.
 ///
-/// `None` exactly if the texts are equal or their tags differ. The key has any length. Each text
-/// has fewer than 2^61 - 64 bytes, so that its inner message has fewer than 2^61.
+/// `None` exactly if the texts are equal or their tags differ. The key has any length. Texts have fewer than 2^61 - 64
+/// bytes, so that inner messages have fewer than 2^61.
 ///
 /// # Errors
 ///
-/// `AllocError` if the inner messages cannot be allocated. Where their digests differ, or the texts
-/// are equal, it allocates nothing.
+/// `AllocError` if the inner messages cannot be allocated. If their digests differ or the texts are equal, nothing is
+/// allocated.
 pub fn mac_collision<D: BlockDigest>(
     alloc: Global,
     key: &[u8],
@@ -76,7 +75,6 @@ pub fn mac_collision<D: BlockDigest>(
     Ok(collision.map(MacCollision::Outer))
 }
 
-// The digest of a masked key and then `bytes`.
 fn prefixed_digest<D: BlockDigest>(masked_key: &[u8; 64], bytes: &[u8]) -> D::Output
     ensures { D.bytes_of result ≡ hash D.start D.step D.output (masked_key.now ++ bytes.now) }
 {
@@ -85,7 +83,7 @@ fn prefixed_digest<D: BlockDigest>(masked_key: &[u8; 64], bytes: &[u8]) -> D::Ou
         .finalize()
 }
 
-// The collision of two messages, each a masked key and then some bytes, which it writes to `left` and `right`.
+// The collision of two messages, each a masked key and then bytes, written to `left` and `right`.
 fn prefixed_collision<D: BlockDigest>(
     masked_key: &[u8; 64],
     a: &[u8],

@@ -1,4 +1,4 @@
-//! A hasher of any hash function, as what a run updates.
+//! A hasher of any hash function, for a run.
 
 ghost use Rattle.std.specs.Prelude.{◌≡◌, ⊤};
 ghost use Rattle.ripemd.specs.Standard.Hashing.{hash};
@@ -8,7 +8,7 @@ use ripemd::Digest;
 use ripemd::incremental::Incremental;
 use std::marker::Model;
 
-/// A hasher. Contracts see its hash state, whatever they see of the hasher itself.
+/// A hasher that contracts see as its hash state.
 #[derive(Drop)]
 pub struct AnyHasher<D: Digest> {
     hasher: D,

@@ -7,8 +7,8 @@ ghost use Rattle.ripemd_sum.specs.declared.variant.Variant.{Variant};
 
 use crate::variant::Variant;
 
-/// The variant that the program's arguments ask for: RIPEMD-160 if there is none, or the one that a single
-/// argument names; `None` for all others.
+/// The variant that the arguments ask for: RIPEMD-160 for none, or the one that a single argument names; `None` for all
+/// others.
 pub fn choose(arguments: &[String]) -> Option<Variant>
     ensures { (v : Variant) → (result ≡ Some v) ↔ Chooses (map string_bytes arguments.now) v }
 {
@@ -19,11 +19,10 @@ pub fn choose(arguments: &[String]) -> Option<Variant>
     }
 }
 
-/// The variant and the key of the tag that the program's arguments ask for: the name of the
-/// variant, `hmac`, and the text of the key, as `parse_key` reads it into `out`.
+/// The variant of the tag that the arguments ask for, and the number of bytes of its key. The arguments are the
+/// variant's name, `hmac`, and the text of the key, which `parse_key` reads into `out`.
 ///
-/// It gives the variant and the number of bytes of the key. It is `None` for all other arguments, fewer
-/// or more of them too; what `out` then holds means nothing.
+/// `None` for all other arguments; what `out` then holds means nothing.
 pub fn choose_mac(arguments: &[String], out: &mut [u8; 64]) -> Option<(Variant, usize)>
     ensures chosen { (v : Variant) (n : ℕ) → (result ≡ Some (v, n))
         ↔ ChoosesMac (map string_bytes arguments.now) v n }
@@ -41,11 +40,10 @@ pub fn choose_mac(arguments: &[String], out: &mut [u8; 64]) -> Option<(Variant, 
     }
 }
 
-/// Reads a key from its text in hexadecimal, two digits for each byte, of either case, to the front of
-/// `out`, and gives the number of its bytes.
+/// Reads a key from hexadecimal text, of either case, to the front of `out`, and gives the number of its bytes.
 ///
-/// It is `None` exactly if the text has an odd number of bytes, or more than 128, or one that is no
-/// hexadecimal digit. What `out` then holds means nothing.
+/// `None` exactly if the text has an odd number of bytes, or more than 128, or one that is no hexadecimal digit; what
+/// `out` then holds means nothing.
 pub fn parse_key(text: &str, out: &mut [u8; 64]) -> Option<usize>
     ensures length { (n : ℕ) → (result ≡ Some n) ↔ IsKeyText text.now n }
     ensures key { IfSome result (λ n. decode_of text.now ≡ Ok (take n out.new)) }

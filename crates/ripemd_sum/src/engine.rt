@@ -25,22 +25,21 @@ use std::io::{Read, Write};
 /// The most bytes that a read asks for.
 const CHUNK_SIZE: usize = 4096;
 
-/// The length of the longest line: 40 bytes in hexadecimal, and a newline.
+/// The longest line: 40 bytes in hexadecimal, and a newline.
 const LONGEST_LINE: usize = 81;
 
-/// Reads the reader to its end, and writes the digest of what it gave to the writer, as a line in lower
-/// case hexadecimal.
+/// Reads to the end, and writes the digest of what the reader gave, as a line in lowercase hexadecimal.
 ///
-/// The reader has not failed and has given nothing yet, and the writer has not failed. Nothing is
-/// written before the reader has ended, and nothing is allocated.
+/// The reader has given nothing yet, and neither it nor the writer has failed. Nothing is written before the reader has
+/// ended, and nothing is allocated.
 ///
 /// # Errors
 ///
-/// - `Read`: a read failed, with this error. It is not tried again.
-/// - `TooLong`: the reader gave more than `limit` bytes. At most 4,096 bytes more were read.
-/// - `Write`: the write failed, with this error. How much of the line went out is not known.
+/// - `Read`: a read failed. It is not tried again.
+/// - `TooLong`: the reader gave more than `limit` bytes, by at most 4,096.
+/// - `Write`: the write failed. How much of the line went out is not known.
 ///
-/// The first of these to happen is the answer.
+/// The first to happen is the answer.
 pub fn run<R: Read, W: Write>(
     variant: Variant,
     reader: &mut Tracked<R>,
@@ -59,8 +58,7 @@ pub fn run<R: Read, W: Write>(
     }
 }
 
-/// Reads the reader to its end, and writes the tag (HMAC, RFC 2104) of what it gave, under a key of any
-/// length, as a line in lower case hexadecimal. All else is as in [`run`], the errors too.
+/// As [`run`], errors too, but writes the tag (HMAC, RFC 2104) under a key of any length.
 pub fn run_mac<R: Read, W: Write>(
     variant: Variant,
     key: &[u8],
@@ -109,7 +107,7 @@ fn run_tag<F: ListBlockFunction, R: Read, W: Write>(
     run_state::<Hmac<BlockHasher<F>>, R, W>(Hmac::new(key), reader, writer, limit)
 }
 
-// The run of a new hasher or `Hmac`, whose line is not too long.
+// The run of a new hasher or `Hmac`.
 fn run_state<S: Incremental, R: Read, W: Write>(
     state: S,
     reader: &mut Tracked<R>,
@@ -133,17 +131,16 @@ fn run_state<S: Incremental, R: Read, W: Write>(
     writer.write_all(line).map_err(RunFault::Write)
 }
 
-/// Reads the reader to its end, and gives the digest of what it gave.
+/// The digest of all that the reader gives.
 ///
-/// The reader has not failed and has given nothing yet. It is read through an array of 4,096 bytes, and
-/// nothing is allocated.
+/// The reader has not failed and has given nothing yet. It is read at most 4,096 bytes at a time; nothing is allocated.
 ///
 /// # Errors
 ///
-/// - `Read`: a read failed, with this error. It is not tried again.
-/// - `TooLong`: the reader gave more than `limit` bytes. At most 4,096 bytes more were read.
+/// - `Read`: a read failed. It is not tried again.
+/// - `TooLong`: the reader gave more than `limit` bytes, by at most 4,096.
 ///
-/// The first of these to happen is the answer.
+/// The first to happen is the answer.
 pub fn hash_reader<D: Digest, R: Read>(
     reader: &mut Tracked<R>,
     limit: u64,
@@ -158,7 +155,7 @@ pub fn hash_reader<D: Digest, R: Read>(
     read_to_end::<AnyHasher<D>, R>(AnyHasher::new(), reader, limit)
 }
 
-// The digest or the tag of what the reader gives to its end, by a new hasher or `Hmac`.
+// The digest or tag of all that the reader gives, by a new hasher or `Hmac`.
 fn read_to_end<S: Incremental, R: Read>(
     state: S,
     reader: &mut Tracked<R>,

@@ -6,7 +6,7 @@ ghost use Rattle.ripemd_sum.specs.Faults.{of_reading};
 use std::io;
 use thiserror::Error;
 
-/// Why there is no digest of what a reader gives.
+/// Why hashing a reader failed.
 #[derive(Debug, Drop, Error)]
 pub enum ReadFault {
     /// A read failed with this error.
@@ -17,7 +17,7 @@ pub enum ReadFault {
     TooLong,
 }
 
-/// Why a run wrote no line, or perhaps not all of it.
+/// Why a run failed.
 #[derive(Debug, Drop, Error)]
 #[error("{}", self.message())]
 pub enum RunFault {
@@ -25,14 +25,14 @@ pub enum RunFault {
     Read(io::Error),
     /// The reader gave more bytes than the limit.
     TooLong,
-    /// The write of the line failed with this error.
+    /// The write failed with this error.
     Write(io::Error),
 }
 
 impl RunFault {
     ghost use Rattle.ripemd_sum.specs.Faults.{message_of};
 
-    /// The line that the program prints for it, without a newline.
+    /// The line that the program prints, without a newline.
     pub fn message(&self) -> &'static str
         ensures { result.now ≡ message_of self.now }
     {

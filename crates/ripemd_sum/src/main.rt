@@ -1,5 +1,4 @@
-//! `ripemd_sum` reads standard input to its end and writes the RIPEMD digest of it, or its tag
-//! under a key, as one line.
+//! `ripemd_sum` reads standard input to its end and writes its RIPEMD digest, or its tag under a key, as one line.
 #![tactic(auto)]
 
 mod any_hasher;
@@ -27,20 +26,19 @@ use std::process::ExitCode;
 use std::{env, io};
 use tracked::Tracked;
 
-/// What the program prints, with status 2, if it does not know its arguments.
+/// Printed, with status 2, if the arguments are not known.
 pub const USAGE: &str = "usage: ripemd_sum [128|160|256|320]";
 
-/// What the program prints, with status 3, if it cannot take its arguments or has no memory for its input.
+/// Printed, with status 3, if the program cannot take its arguments or has no memory for its input.
 pub const NO_MEMORY: &str = "ripemd_sum: out of memory";
 
 /// The size of a read of the input.
 const BUFFER: usize = 1 << 16;
 
-/// The greatest length of the input, 2^61 - 1 bytes: the length in bits of a longer one would not
-/// fit into 64 bits.
+/// The greatest length of the input, 2^61 - 1 bytes: in bits, a longer one does not fit into 64 bits.
 const LIMIT: u64 = u64::MAX / 8;
 
-/// The greatest length of the input with a key, whose block of 64 bytes is hashed before it.
+/// The greatest length of the input under a key, whose 64-byte block is hashed before it.
 const MAC_LIMIT: u64 = LIMIT - 64;
 
 // The arguments after the program's name.
@@ -48,12 +46,12 @@ fn collect_arguments(rt: &HostRuntime) -> io::Result<Vec<String>> {
     Ok(env::args(rt)?.skip(1).collect(rt.alloc())?)
 }
 
-// Prints a line to standard error. There is nowhere to report it to if that fails.
+// Prints a line to standard error. If that fails, there is nowhere to report it.
 fn complain(rt: &HostRuntime, line: &str) {
     let _ = eprintln!(rt; "{line}");
 }
 
-// Does what the arguments ask for. `None` exactly if they ask for nothing; nothing is read or written then.
+// Does what the arguments ask for. `None` exactly if that is nothing; then nothing is read or written.
 fn perform<R: Read, W: Write>(
     arguments: &[String],
     reader: &mut Tracked<R>,

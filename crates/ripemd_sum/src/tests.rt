@@ -42,7 +42,7 @@ struct Finished<'a> {
     writer: PageWriter,
 }
 
-/// A run of a variant over this reader and this writer, under this key, if there is one.
+/// A run, under a key if there is one.
 fn finish<'a>(
     variant: Variant,
     key: Option<&[u8]>,
@@ -70,12 +70,12 @@ impl Finished<'_> {
             && self.writer.written().split_last() == Some((&b'\n', digits.as_bytes()))
     }
 
-    /// Whether the run gave up since its input was too long, before it wrote.
+    /// Whether the input was too long, and nothing was written.
     fn was_too_long(&self) -> bool {
         matches!(&self.outcome, Err(RunFault::TooLong)) && self.writer.calls == 0
     }
 
-    /// Whether the run gave up since a read failed, with a planned error of this kind, before it wrote.
+    /// Whether a read failed with a planned error of this kind, and nothing was written.
     fn failed_reading(&self, alloc: Global, kind: ErrorKind) -> Result<bool, AllocError> {
         match &self.outcome {
             Err(RunFault::Read(error)) if self.writer.calls == 0 => is_planned(alloc, error, kind),
@@ -83,7 +83,7 @@ impl Finished<'_> {
         }
     }
 
-    /// Whether the run gave up since the write failed, with a planned error of this kind.
+    /// Whether the write failed with a planned error of this kind.
     fn failed_writing(&self, alloc: Global, kind: ErrorKind) -> Result<bool, AllocError> {
         match &self.outcome {
             Err(RunFault::Write(error)) => is_planned(alloc, error, kind),
@@ -92,7 +92,7 @@ impl Finished<'_> {
     }
 }
 
-/// Whether it is the error of this kind that a double makes.
+/// Whether a double made this error, of this kind.
 fn is_planned(alloc: Global, error: &io::Error, kind: ErrorKind) -> Result<bool, AllocError> {
     let text = format!(in alloc; "{error}")?;
     Ok(error.kind() == kind && text.as_str() == PLANNED)

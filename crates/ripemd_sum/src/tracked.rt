@@ -1,4 +1,4 @@
-//! A reader or a writer, with what a run has to know of it.
+//! Readers and writers that record their calls.
 
 ghost use Rattle.std.specs.Prelude.{◌≡◌, ◌+◌, ◌-◌, ◌^◌, min, false, true, OnOk, MatchResult};
 ghost use Rattle.std.specs.Io.{ReadsAtMost};
@@ -10,7 +10,7 @@ use std::io::{Read, Write};
 #[cfg(test)]
 mod tests;
 
-/// A reader or a writer, and with it whether a call has failed and how many bytes it has given.
+/// A reader or a writer, whether a call has failed, and how many bytes it has given.
 pub struct Tracked<T> {
     inner: T,
     failed: bool,
@@ -20,7 +20,7 @@ pub struct Tracked<T> {
 impl<T> Tracked<T> {
     ghost use Rattle.ripemd_sum.specs.Track.{inner_of, has_failed, taken_of};
 
-    /// Begins with no call: it has not failed and has given nothing.
+    /// Begins without a failure, and with nothing given.
     pub fn new(inner: T) -> Tracked<T>
         ensures inner { inner_of result ≡ inner }
         ensures failed { has_failed result ≡ false }
@@ -63,7 +63,7 @@ impl<T> Tracked<T> {
 impl<R: Read> Tracked<R> {
     ghost use Rattle.ripemd_sum.specs.Track.{inner_of, has_failed, taken_of};
 
-    /// One call of the reader's own `read`, with its answer.
+    /// One call of the reader's `read`.
     pub fn read(&mut self, buffer: &mut [u8]) -> io::Result<usize>
         ensures bound { ReadsAtMost result buffer.new }
         ensures bytes { ReadConsumes (R.remaining (inner_of self.old))
@@ -87,7 +87,7 @@ impl<R: Read> Tracked<R> {
 impl<W: Write> Tracked<W> {
     ghost use Rattle.ripemd_sum.specs.Track.{inner_of, has_failed, taken_of};
 
-    /// One call of the writer's own `write_all`, with its answer.
+    /// One call of the writer's `write_all`.
     pub fn write_all(&mut self, bytes: &[u8]) -> io::Result<()>
         ensures bytes { OnOk result
             (Appends (W.contents (inner_of self.old)) (W.contents (inner_of self.new)) bytes.now) }

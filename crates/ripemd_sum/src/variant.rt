@@ -18,8 +18,8 @@ pub enum Variant {
 }
 
 impl Variant {
-    /// The variant of this name: `128`, `160`, `256` or `320`, the digest's length in bits; `None`
-    /// for every other text.
+    /// The variant named `128`, `160`, `256` or `320`, the digest's length in bits; `None` for
+    /// every other text.
     pub fn from_name(name: &str) -> Option<Variant>
         ensures { (v : Variant) → (result ≡ Some v) ↔ (name.now ≡ name_of v) }
     {

@@ -14,7 +14,7 @@ pub fn sum_from(start: u8, bytes: &[u8]) -> u8
     sum
 }
 
-/// So many bytes, a number and those after it, modulo 256.
+/// `N` bytes that count up from `first`, modulo 256.
 pub fn counted<const N: usize>(first: u8) -> [u8; N] {
     let mut bytes = [0; N];
     let mut next = first;

@@ -63,7 +63,7 @@ pub const HELLO_160: &str = "7f772647d88750add82d8e1a7a3e5c0902a346a3";
 pub const HELLO_320: &str =
     "f1c1c231d301abcf2d7daae0269ff3e7bc68e623ad723aa068d316b056d26b7d1bb6f0cc0f28336d";
 
-/// Whether the bytes are these digits in lower case hexadecimal, two for each.
+/// Whether the bytes are these digits in lower-case hexadecimal.
 pub fn is_written(bytes: &[u8], digits: &str) -> bool {
     let signs = b"0123456789abcdef";
     let (pairs, rest) = digits.as_bytes().as_chunks::<2>();
@@ -78,7 +78,7 @@ pub fn is_written(bytes: &[u8], digits: &str) -> bool {
     true
 }
 
-/// Asserts each of these facts of the four block functions, given the digests that it names.
+/// Asserts each of these facts for the four block functions, with the digests it names.
 #[macro_export]
 macro_rules! assert_each {
     ($rt:expr; $($fact:ident($($digest:ident),*)),+) => {

@@ -13,7 +13,6 @@ pub(crate) fn finishes<D: Digest>(hasher: D, digits: &str) -> bool {
     is_written(D::output_bytes(&hasher.finalize()), digits)
 }
 
-// Whether the digest of the message is this one.
 fn has_digest<D: Digest>(message: &[u8], digits: &str) -> bool {
     is_written(D::output_bytes(&D::digest(message)), digits)
 }
@@ -24,7 +23,7 @@ fn digests<F: ListBlockFunction>(empty: &str, abc: &str, two_blocks: &str) -> bo
         && has_digest::<BlockHasher<F>>(TWO_BLOCKS, two_blocks)
 }
 
-// A hasher that takes in a piece so many times, and then a rest, perhaps with pieces of no bytes around them.
+// A hasher after so many pieces and the rest; if `around`, with empty pieces around them.
 fn fed_in_pieces<D: Digest>(piece: &[u8], times: usize, rest: &[u8], around: bool) -> D {
     let mut hasher = D::new();
     for _ in 0..times {
@@ -40,7 +39,7 @@ fn fed_in_pieces<D: Digest>(piece: &[u8], times: usize, rest: &[u8], around: boo
     hasher
 }
 
-// Whether this is the digest of a million times "a", in pieces of each of these sizes.
+// Whether a million times "a" has this digest, in pieces of these sizes.
 fn takes_a_million<F: ListBlockFunction>(million: &str) -> bool {
     let letters = [b'a'; 1_000];
     for size in [1, 63, 64, 65, 1_000] {
@@ -76,7 +75,7 @@ fn begins_again<F: ListBlockFunction>(empty: &str, abc: &str) -> bool {
         && is_written(BlockHasher::<F>::output_bytes(&last), abc)
 }
 
-// Whether a hasher and its duplicate go their own ways: the one is reset, the other goes on.
+// Whether a duplicate goes on as its hasher is reset.
 fn go_apart<F: ListBlockFunction>(empty: &str, abc: &str) -> bool {
     let mut hasher = BlockHasher::<F>::new_with_prefix(b"ab");
     let copy = hasher.duplicate();
@@ -87,7 +86,7 @@ fn go_apart<F: ListBlockFunction>(empty: &str, abc: &str) -> bool {
     is_abc && is_empty
 }
 
-// Whether a hasher and its clone go their own ways.
+// Whether a clone goes on as its hasher changes.
 fn is_cloned<F: ListBlockFunction>(abc: &str) -> bool {
     let mut hasher = BlockHasher::<F>::new_with_prefix(b"ab");
     let cloned: Result<_, _> = hasher.clone();
@@ -128,7 +127,7 @@ fn reset_by_trait(rt: HostRuntime) {
     assert!(rt; finishes::<Ripemd160>(hasher, OF_160.abc));
 }
 
-// Whether a core and a hasher have this size of the digest, and blocks of 64 bytes.
+// Whether core and hasher have digests of this size and blocks of 64 bytes.
 fn have_sizes<C, D>(size: usize) -> bool
 where
     C: BlockSizeUser + OutputSizeUser,

@@ -33,9 +33,8 @@ impl fmt::Write for Refusing {
     }
 }
 
-// Whether this is the name of a core's or hasher's hash function, as a constant and as it is written,
-// with an error where the writer takes nothing, and this the value's text for debugging. A width and
-// a precision change nothing.
+// Whether a core or hasher has this name, as a constant and as written, and this text for `Debug`.
+// Width and precision change nothing, and an error of the writer comes back.
 fn is_named<T>(alloc: Global, value: &T, name: &str, debug_text: &str) -> Result<bool, AllocError>
 where
     T: AlgorithmName + fmt::Debug,

@@ -1,4 +1,4 @@
-//! Lists of commands. Those whose allocations can fail are in `ripemd_allocations`.
+//! Lists of commands. `ripemd_allocations` has those whose allocations fail.
 
 mod errors;
 
@@ -22,7 +22,7 @@ fn gives(alloc: Global, commands: &[Command], wanted: &[&str]) -> bool {
     digests.len() == wanted.len()
 }
 
-// Hundreds of hashers, the last of which takes in "abc", and hundreds of saved states of that one.
+// Hundreds of hashers, and hundreds of saved states of the last, which took in "abc".
 fn many_commands(alloc: Global) -> Result<Vec<Command<'static>>, AllocError> {
     let mut commands = Vec::new(alloc);
     for _ in 0..300 {

@@ -10,7 +10,7 @@ use ripemd::digest::SerializableState;
 use ripemd::state::DeserializeStateError;
 use ripemd::{BlockHasher, Digest, ResumableFunction};
 
-// Bytes at the front of zero bytes.
+// The bytes, filled with zeros.
 fn tail_of(bytes: &[u8]) -> [u8; 63] {
     let mut tail = [0; 63];
     if bytes.len() <= 63 {
@@ -19,7 +19,7 @@ fn tail_of(bytes: &[u8]) -> [u8; 63] {
     tail
 }
 
-// What follows the words where a hasher is saved: its count, the length of its tail, and its tail.
+// A saved hasher after its words: count, length of the tail, tail.
 fn rest_of(count: u64, len: u8, tail: &[u8; 63]) -> [u8; 72] {
     let mut rest = [0; 72];
     rest[..8].copy_from_slice(&count.to_le_bytes());
@@ -28,8 +28,7 @@ fn rest_of(count: u64, len: u8, tail: &[u8; 63]) -> [u8; 72] {
     rest
 }
 
-// What a hasher of the start words is saved as that has this count, this length of its tail, and
-// this tail.
+// The saved hasher with the start words, this count, length and tail.
 fn saved_with<F: ResumableFunction>(
     count: u64,
     len: u8,
@@ -73,8 +72,7 @@ fn new_hashers(rt: HostRuntime) {
     assert!(rt; new_is_saved::<Ripemd320Function>(start));
 }
 
-// Whether a hasher of this count and this tail, which takes in these bytes, is saved with this count
-// and this tail.
+// Whether these bytes lead from the count and tail `before` to those `after`.
 fn goes_on<F: ResumableFunction>(before: (u64, &[u8]), bytes: &[u8], after: (u64, &[u8])) -> bool {
     let Some(mut hasher) = load_with::<F>(before.0, before.1) else {
         return false;
@@ -84,7 +82,7 @@ fn goes_on<F: ResumableFunction>(before: (u64, &[u8]), bytes: &[u8], after: (u64
     hasher.serialize().as_bytes().ends_with(&rest)
 }
 
-// A count at its end begins again, and a tail of 63 bytes with one byte more is a block.
+// The last count begins again, and a tail of 63 bytes with one more is a block.
 fn counts_and_tails<F: ResumableFunction>() -> bool {
     goes_on::<F>((0, b""), b"abc", (0, b"abc"))
         && goes_on::<F>((0, b""), &[b'a'; 64], (1, b""))
@@ -93,12 +91,12 @@ fn counts_and_tails<F: ResumableFunction>() -> bool {
         && goes_on::<F>((0, &[0xff; 63]), b"a", (1, b""))
 }
 
-// Whether a hasher that is loaded after "abc" has its digest.
+// Whether a hasher loaded after "abc" has its digest.
 fn loaded_finishes<F: ResumableFunction>(abc: &str) -> bool {
     load_with::<F>(0, b"abc").is_some_and(|hasher| finishes::<BlockHasher<F>>(hasher, abc))
 }
 
-// Whether bytes were taken: none if the hasher saves to others.
+// Whether bytes were taken; none if the hasher saves to others.
 fn was_taken<F: ResumableFunction>(
     loaded: Result<BlockHasher<F>, DeserializeStateError>,
     bytes: &[u8],
@@ -110,8 +108,8 @@ fn was_taken<F: ResumableFunction>(
     }
 }
 
-// Whether a hasher with this length of its tail, and with these bytes there, is taken or not, as is
-// wanted, both as an array and as a slice.
+// Whether a saved hasher with this length and tail is taken, just if `wanted`, as an array and as a
+// slice.
 fn is_taken_if<F: ResumableFunction>(wanted: bool, len: u8, tail: &[u8; 63]) -> bool {
     let Some(saved) = saved_with::<F>(0, len, tail) else {
         return false;
@@ -121,7 +119,7 @@ fn is_taken_if<F: ResumableFunction>(wanted: bool, len: u8, tail: &[u8; 63]) -> 
         && was_taken::<F>(BlockHasher::load_slice(bytes), bytes) == Some(wanted)
 }
 
-// Lengths below 64 are taken, of a tail of zero bytes, and no others.
+// Of a tail of zeros, only lengths below 64 are taken.
 fn lengths_below_64<F: ResumableFunction>() -> bool {
     for len in 0..=255_u8 {
         if !is_taken_if::<F>(len < 64, len, &[0; 63]) {
@@ -131,7 +129,7 @@ fn lengths_below_64<F: ResumableFunction>() -> bool {
     true
 }
 
-// Tails with one byte other than zero are taken just where that byte is of the tail.
+// A tail with one nonzero byte is taken only if its length reaches that byte.
 fn bytes_of_the_tail<F: ResumableFunction>() -> bool {
     for len in 0..63_u8 {
         for place in 0..63_u8 {
@@ -145,7 +143,7 @@ fn bytes_of_the_tail<F: ResumableFunction>() -> bool {
     true
 }
 
-// What is saved after "abc" is taken, and with another length where the tail takes in a zero byte.
+// What is saved after "abc" is taken, also with a length that takes in a zero byte.
 fn abc_alone<F: ResumableFunction>() -> bool {
     let tail = tail_of(b"abc");
     is_taken_if::<F>(true, 3, &tail)

@@ -8,7 +8,7 @@ use ripemd::block_api::BlockCore;
 use ripemd::witness::{BlockFunction, Collision, Meeting, check_collision, collision_witness};
 use toys::{Adding, Forgetting};
 
-// What is wanted of a collision: places, states, and the state to which both steps lead.
+// What a collision must have: places, states, and the state after both steps.
 #[derive(Clone, Copy)]
 struct Shape {
     places: (usize, usize),
@@ -51,7 +51,7 @@ fn collide<F: BlockFunction<State = u8>>(a: &[u8], b: &[u8], shape: Shape) -> bo
         && F::step(right.state, &right.block) == shape.step
 }
 
-// A message of 128 bytes: zeros, but for a byte in each block.
+// 128 bytes: zeros, but for a byte in each block.
 fn two_blocks(first: (usize, u8), second: (usize, u8)) -> [u8; 128]
     requires first_in { first.0 < 64 }
     requires second_in { second.0 < 64 }
@@ -85,7 +85,7 @@ fn finds_the_collision(rt: HostRuntime) {
     assert!(rt; collide::<Adding>(&first, &[], shape));
 }
 
-// It is the last place where the walks differ, in the block, in the state or in both.
+// The collision is the last place where the walks differ, in block, state or both.
 #[test]
 fn finds_the_last_difference(rt: HostRuntime) {
     let a = two_blocks((0, 1), (0, 2));
@@ -110,7 +110,6 @@ fn is_none<F: BlockFunction>(a: &[u8], b: &[u8]) -> bool
     collision_witness::<F>(a, b).is_none()
 }
 
-// Whether "abc" has none, with itself and with "abd".
 fn abc_has_none<F: ListBlockFunction>() -> bool {
     is_none::<BlockCore<F>>(b"abc", b"abc") && is_none::<BlockCore<F>>(b"abc", b"abd")
 }

@@ -1,4 +1,4 @@
-// The callers of ripemd_batch's README, as they stand there.
+// The callers of ripemd_batch's README.
 
 ghost use Rattle.std.specs.Prelude.{◌≡◌, ◌↔◌, length, map, IsTrue};
 ghost use Rattle.ripemd.specs.Standard.Compression.{ripemd160};

@@ -1,4 +1,4 @@
-// The example of ripemd_block's README, as it stands there.
+// The callers of ripemd_block's README.
 
 ghost use Rattle.std.specs.Prelude.{◌≡◌, ◌<◌, length};
 ghost use Rattle.ripemd_block.specs.Standard.Words.{block_size};
@@ -25,7 +25,7 @@ ghost use Rattle.ripemd_block.specs.States.{core_bytes};
 
 use ripemd_block::block_api::SerializableState;
 
-/// The core that is saved as these bytes. Any 28 bytes are those of one.
+/// The core that is saved as these bytes. Any 28 bytes are one.
 pub fn loaded_core(saved: &[u8; 28]) -> Ripemd160Core
     ensures { core_bytes result ≡ saved.now }
 {

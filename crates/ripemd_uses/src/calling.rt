@@ -1,4 +1,4 @@
-// The callers of ripemd's README and BLOCK_FUNCTIONS.md, as they stand there.
+// The callers of ripemd's README and BLOCK_FUNCTIONS.md.
 
 ghost use Rattle.std.specs.Prelude.{◌≡◌, ◌++◌};
 ghost use Rattle.ripemd.specs.Standard.Compression.{ripemd128, ripemd160, ripemd256, ripemd320};

@@ -1,4 +1,4 @@
-//! The example of `ripemd`'s README that runs a list of commands.
+//! The list of commands of `ripemd`'s README.
 
 ghost use Rattle.std.specs.Prelude.{◌≡◌, [], ◌∷◌, ◌++◌, IfOk, IfErr};
 ghost use Rattle.ripemd.specs.Standard.Compression.{ripemd160};

@@ -1,5 +1,5 @@
-//! The callers that the pages of `ripemd`, `ripemd_block`, `ripemd_mac` and `ripemd_batch` show, as
-//! they stand there.
+//! The callers that the pages of `ripemd`, `ripemd_block`, `ripemd_mac` and `ripemd_batch` show,
+//! word for word.
 #![tactic(auto)]
 
 pub mod batch;

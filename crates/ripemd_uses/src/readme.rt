@@ -1,4 +1,4 @@
-// The first example of ripemd's README, as it stands there.
+// The first caller of ripemd's README.
 
 ghost use Rattle.std.specs.Prelude.{◌≡◌, ◌++◌};
 ghost use Rattle.ripemd.specs.Standard.Compression.{ripemd160};

@@ -1,4 +1,4 @@
-//! Both lines of a block side by side: steps, rounds and exchanges, for any number of registers.
+//! Both lines side by side: steps, rounds and exchanges, for any number of registers.
 
 ghost use Rattle.std.specs.Prelude.{◌≡◌, ◌<◌, ◌≤◌, ◌+◌, ◌-◌, ℕ, List, Some};
 ghost use Rattle.ripemd_block.specs.Standard.Words.{◌⊞◌};
@@ -17,13 +17,13 @@ pub(crate) trait LineRegisters: Copy {
 
     ghost ROUNDS: { ℕ };
 
-    /// A step with Boolean function `k`, the message word with the constant added `x`, and the rotation by `s` bits.
+    /// A step: Boolean function `k`, rotation by `s` bits, and `x`, the message word plus the constant.
     fn step(self, k: usize, x: u32, s: u32) -> Self
         requires function { k < ROUNDS }
         requires amount { (0 < s) × (s < 32) }
         ensures { list result ≡ step (boolean_function k) x 0 s (list self) };
 
-    /// The registers of two lines with register `j` exchanged between them.
+    /// Two lines with register `j` exchanged.
     fn exchange(j: usize, left: Self, right: Self) -> (Self, Self)
         requires { j < ROUNDS }
         ensures { both_lines (list result.0) (list result.1)
@@ -70,8 +70,8 @@ impl LineRegisters for [u32; 5] {
     }
 }
 
-// The sum of `u` and Boolean function `k` of three words, modulo 2^32 (1996, Boolean functions). The two parts of
-// function 3 have no bit in common and are added one after the other, so that less waits for `x`, the newest word.
+// `u` plus Boolean function `k` (1996, Boolean functions). The two parts of function 3 have no bit in common and are
+// added one after the other, so that less waits for `x`, the newest word.
 #[inline(always)]
 #[tactic(auto, using(crate::proofs::Factoring::f3_in_parts))]
 fn sum(u: u32, k: usize, x: u32, y: u32, z: u32) -> u32
@@ -87,14 +87,14 @@ fn sum(u: u32, k: usize, x: u32, y: u32, z: u32) -> u32
     }
 }
 
-/// The message words of a block for both lines, with the constant of the round added: a row for each round.
+/// The message words plus the constant, for each line and round.
 #[derive(Drop)]
 pub(crate) struct Words<const N: usize> {
     left: [[u32; 16]; N],
     right: [[u32; 16]; N],
 }
 
-// The sixteen message words of a block, each with `k` added, modulo 2^32.
+// The message words of a block, each plus `k`.
 #[inline(always)]
 fn words_with(block: &[u8; 64], k: u32) -> [u32; 16]
     ensures { result ≡ words_with k block.now }
@@ -102,8 +102,8 @@ fn words_with(block: &[u8; 64], k: u32) -> [u32; 16]
     (message_words(block) + u32x16::splat(k)).to_array()
 }
 
-/// The words of lines of four rounds. Not inlined: inside the steps the compiler would add the constants last, where
-/// the next step waits for them.
+/// The words of four rounds. Not inlined: inside the steps the compiler would add the constants last, where the next
+/// step waits for them.
 #[inline(never)]
 #[tactic(auto, unfolding(crate::specs::Code::Lines::words_of_rounds))]
 pub(crate) fn words_of_four_rounds(block: &[u8; 64]) -> Words<4>
@@ -125,7 +125,7 @@ pub(crate) fn words_of_four_rounds(block: &[u8; 64]) -> Words<4>
     }
 }
 
-/// The words of lines of five rounds, not inlined for the same reason.
+/// The words of five rounds, not inlined either.
 #[inline(never)]
 #[tactic(auto, unfolding(crate::specs::Code::Lines::words_of_rounds))]
 pub(crate) fn words_of_five_rounds(block: &[u8; 64]) -> Words<5>
@@ -156,7 +156,7 @@ pub(crate) struct Lines<R: LineRegisters> {
     pub(crate) right: R,
 }
 
-// Step `i` of round `r` of both lines.
+// Step `i` of round `r`.
 #[inline(always)]
 fn step_at<R: LineRegisters, const N: usize>(
     r: usize,
@@ -186,7 +186,7 @@ fn step_at<R: LineRegisters, const N: usize>(
     }
 }
 
-// Four steps of round `r` of both lines, from step `from` on.
+// Steps `from` to `from + 3` of round `r`.
 #[inline(always)]
 fn four_steps<R: LineRegisters, const N: usize>(
     r: usize,
@@ -234,7 +234,7 @@ pub(crate) fn round<R: LineRegisters, const N: usize>(
     four_steps(r, 12, words, lines)
 }
 
-/// The lines with register `j` exchanged between them.
+/// The lines with register `j` exchanged.
 #[inline(always)]
 pub(crate) fn exchange<R: LineRegisters>(j: usize, lines: Lines<R>) -> Lines<R>
     requires { j < R.ROUNDS }

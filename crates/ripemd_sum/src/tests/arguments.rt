@@ -1,5 +1,5 @@
-//! What arguments ask for, keys in hexadecimal, and the texts of errors. More arguments, and the texts
-//! that `main` prints, are tried on the built program.
+//! What arguments ask for, keys in hexadecimal, and texts of errors. More arguments, and what `main` prints, are tried
+//! on the built program.
 
 use crate::arguments::{choose, choose_mac, parse_key};
 use crate::fault::{ReadFault, RunFault};
@@ -10,7 +10,7 @@ use std::io;
 use std::io::ErrorKind;
 use std::test::Fail;
 
-/// The variant of the digest that the arguments ask for, or that of the tag and the length of its key.
+/// The variant of the digest, and the variant and key length of the tag, that arguments ask for.
 type Asked = (Option<Variant>, Option<(Variant, usize)>);
 
 fn asked_by(alloc: Global, texts: &[&str]) -> Result<Asked, AllocError> {
@@ -46,7 +46,7 @@ fn arguments(rt: HostRuntime) -> Result<(), Fail> {
     Ok(())
 }
 
-/// Whether a text is read as this key, and as none where there is none.
+/// Whether a text is read as this key, or refused if there is none.
 fn is_read_as(text: &str, key: Option<&[u8]>) -> bool {
     let mut out = [0xee; 64];
     match (parse_key(text, &mut out), key) {

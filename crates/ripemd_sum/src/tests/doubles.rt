@@ -1,12 +1,12 @@
-//! A reader and a writer that give and take little at a call, and that fail when they are told to.
+//! A reader and a writer that give and take little at a call, and fail when told to.
 
 use std::io;
 use std::io::{ErrorKind, Read, Write};
 
-/// The text of the errors that a reader or a writer of this module makes.
+/// The text of the errors made here.
 pub const PLANNED: &str = "planned by the test";
 
-/// Which call of a reader or a writer fails, counted from 1, or 0 for none, and with which kind of error.
+/// Which call fails, counted from 1, or 0 for none, and with which kind of error.
 #[derive(Clone, Copy)]
 struct Failure {
     call: usize,
@@ -32,7 +32,7 @@ impl<'a> SliceReader<'a> {
         }
     }
 
-    /// The reader, but this call of it fails.
+    /// The reader, failing at this call.
     pub fn failing_at(self, call: usize, kind: ErrorKind) -> Self {
         SliceReader {
             failure: Some(Failure { call, kind }),
@@ -73,7 +73,7 @@ impl PageWriter {
         }
     }
 
-    /// The writer, but this call of it fails.
+    /// The writer, failing at this call.
     pub fn failing_at(self, call: usize, kind: ErrorKind) -> Self {
         PageWriter {
             failure: Some(Failure { call, kind }),
@@ -102,7 +102,7 @@ impl Write for PageWriter {
     }
 }
 
-// Counts a call, and fails if it is the one that is to fail.
+// Counts a call, and fails if it is to.
 fn begin_call(calls: &mut usize, failure: Option<Failure>) -> io::Result<()> {
     *calls = calls.saturating_add(1);
     match failure {

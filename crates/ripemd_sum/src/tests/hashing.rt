@@ -1,4 +1,4 @@
-//! What `hash_reader` reads, and the digest of it.
+//! What `hash_reader` reads, and its digest.
 
 use super::doubles::SliceReader;
 use super::{AMPLE, HELLO, HELLO_160, is_planned};
@@ -10,7 +10,6 @@ use std::alloc::{AllocError, Global};
 use std::io::ErrorKind;
 use std::test::Fail;
 
-/// What `hash_reader` answers of this reader.
 fn hash(reader: SliceReader, limit: u64) -> Result<[u8; 20], ReadFault> {
     let mut reader = Tracked::new(reader);
     let outcome = hash_reader::<Ripemd160, SliceReader>(&mut reader, limit);

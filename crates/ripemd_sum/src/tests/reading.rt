@@ -6,14 +6,14 @@ use crate::variant::Variant;
 use std::io::ErrorKind;
 use std::test::Fail;
 
-/// The run by a variant over "Hello world!", a byte a read.
+/// The run over "Hello world!", a byte a read.
 fn run_over_hello(variant: Variant, limit: u64) -> Finished<'static> {
     let reader = SliceReader::new(HELLO, 1);
     finish(variant, None, reader, PageWriter::new(100), limit)
 }
 
-// Each read is one call of the reader, and so is the one that finds the end. The line goes out by one
-// write. The limit is the greatest length that gives a line.
+// Each read, also the one that finds the end, is one call of the reader. The line goes out by one write. The limit is
+// the greatest length that gives a line.
 #[test]
 fn reads_to_the_end(rt: HostRuntime) {
     for (variant, digest) in DIGESTS {
@@ -39,8 +39,8 @@ fn run_failing_at(n: usize, kind: ErrorKind, limit: u64) -> Finished<'static> {
     finish(Variant::R160, None, reader, PageWriter::new(100), limit)
 }
 
-// Whichever read fails, also the last, which would have found the end, its error is the answer, and no
-// read follows: an interrupted one is not tried again.
+// Whichever read fails, also the one that would find the end, its error is the answer, and no read follows, not even
+// after an interruption.
 #[test]
 fn answers_a_read_that_fails(rt: HostRuntime) -> Result<(), Fail> {
     for kind in [ErrorKind::TimedOut, ErrorKind::Interrupted] {
@@ -53,7 +53,7 @@ fn answers_a_read_that_fails(rt: HostRuntime) -> Result<(), Fail> {
     Ok(())
 }
 
-// An error, and a byte past the limit: the first in the stream is the answer.
+// Of an error and a byte past the limit, the first in the stream is the answer.
 #[test]
 fn answers_what_comes_first(rt: HostRuntime) -> Result<(), Fail> {
     let kind = ErrorKind::ConnectionReset;
@@ -64,14 +64,14 @@ fn answers_what_comes_first(rt: HostRuntime) -> Result<(), Fail> {
     Ok(())
 }
 
-/// The run over "Hi There" under twenty bytes 0b (hexadecimal); this read fails.
+/// The run over "Hi There" under twenty bytes 0x0b; this read fails.
 fn run_under_a_key(failing: usize, limit: u64) -> Finished<'static> {
     let reader = SliceReader::new(b"Hi There", 3).failing_at(failing, ErrorKind::TimedOut);
     let writer = PageWriter::new(100);
     finish(Variant::R160, Some(&[0x0b; 20]), reader, writer, limit)
 }
 
-// The tag is that of RFC 2286, and the limit that of the message alone.
+// The tag is from RFC 2286. The limit is that of the message alone.
 #[test]
 fn reads_under_a_key(rt: HostRuntime) -> Result<(), Fail> {
     let done = run_under_a_key(0, 8);

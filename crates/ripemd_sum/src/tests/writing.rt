@@ -42,7 +42,7 @@ fn answers_a_write_that_fails(rt: HostRuntime) -> Result<(), Fail> {
     Ok(())
 }
 
-// A write that was interrupted is tried again, as the library's `write_all` does.
+// An interrupted write is tried again, as by the library's `write_all`.
 #[test]
 fn goes_on_after_an_interrupted_write(rt: HostRuntime) {
     for call in [1, 20, 41] {

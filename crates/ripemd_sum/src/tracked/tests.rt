@@ -4,7 +4,7 @@ use std::io::{ErrorKind, Read, Write};
 
 const HELLO: &[u8] = b"Hello world!";
 
-/// What a read of at most eight bytes answers, what has been given then, and whether a call has failed.
+/// A read of at most eight bytes: its answer, `taken()` and `failed()`.
 fn read_once<R: Read>(tracked: &mut Tracked<R>) -> (Result<usize, ErrorKind>, u128, bool) {
     let answer = match tracked.read(&mut [0; 8]) {
         Ok(count) => Ok(count),
@@ -13,8 +13,8 @@ fn read_once<R: Read>(tracked: &mut Tracked<R>) -> (Result<usize, ErrorKind>, u1
     (answer, tracked.taken(), tracked.failed())
 }
 
-// A read adds its count, and one that fails is marked and adds nothing. Each, also the one that
-// finds the end, is one call of the reader, with its answer.
+// A read adds its count; one that fails is marked and adds nothing. Each, also the one that finds the end, is one call
+// of the reader.
 #[test]
 fn tracks_reads(rt: HostRuntime) {
     let reader = SliceReader::new(HELLO, 5).failing_at(3, ErrorKind::TimedOut);
@@ -33,7 +33,7 @@ fn tracks_reads(rt: HostRuntime) {
     assert_eq!(rt; tracked.into_inner().calls, 5);
 }
 
-/// What a write answers, what has been given then, and whether a call has failed.
+/// A write: its error, `taken()` and `failed()`.
 fn write_once<W: Write>(tracked: &mut Tracked<W>, bytes: &[u8]) -> (Option<ErrorKind>, u128, bool) {
     let answer = match tracked.write_all(bytes) {
         Ok(()) => None,
@@ -42,8 +42,7 @@ fn write_once<W: Write>(tracked: &mut Tracked<W>, bytes: &[u8]) -> (Option<Error
     (answer, tracked.taken(), tracked.failed())
 }
 
-// A write adds nothing to what was given, and one that fails is marked. Each is one call of the
-// writer, with its answer.
+// A write adds nothing, and one that fails is marked. Each is one call of the writer.
 #[test]
 fn tracks_writes(rt: HostRuntime) {
     let writer = PageWriter::new(64).failing_at(2, ErrorKind::StorageFull);

@@ -11,7 +11,7 @@ use ripemd_block::block_api::{
 use ripemd_block::buffer::Buffer;
 use ripemd_block::padding::{block_count, pad_block};
 
-// Whether this is the digest that a core gives with this tail after its blocks.
+// Whether a core with this tail gives this digest.
 pub(crate) fn gives<F: ListBlockFunction>(
     core: &mut BlockCore<F>,
     tail: &[u8],
@@ -25,14 +25,13 @@ pub(crate) fn gives<F: ListBlockFunction>(
     is_written(out.as_bytes(), digits)
 }
 
-// A core is as it was after each digest, so it can be finished again.
+// A digest leaves the core as it was.
 fn finishes<F: ListBlockFunction>(empty: &str, abc: &str) -> bool {
     let mut core = BlockCore::<F>::default();
     gives(&mut core, b"", empty) && gives(&mut core, b"abc", abc) && gives(&mut core, b"", empty)
 }
 
-// Whether a walk through a message with its padding, in each of the ways, has this output, from
-// which the state can be told.
+// Whether each way to walk through a padded message has this output, which gives the state back.
 fn walks<F: ResumableFunction>(two_blocks: &str) -> bool {
     let mut state = BlockCore::<F>::start();
     for place in 0..block_count(TWO_BLOCKS) {
@@ -80,7 +79,7 @@ fn digests_of_others(rt: HostRuntime) {
     assert!(rt; gives(&mut Ripemd320Core::default(), b"Hello world!", HELLO_320));
 }
 
-// A type that has all traits of cores: this compiles with `Eager` alone.
+// A type with all traits of cores: this compiles only with `Eager`.
 fn is_core<C>() -> bool
 where
     C: FixedOutputCore<BufferKind = Eager>

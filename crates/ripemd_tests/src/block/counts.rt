@@ -1,4 +1,4 @@
-//! Counts of blocks whose messages are longer than 2^64 bits, which no message of today reaches.
+//! Counts of blocks from 2^55 - 1 on: no message of today is so long.
 
 use super::cores::gives;
 use crate::assert_each;
@@ -20,7 +20,7 @@ fn core_with<F: ResumableFunction>(count: u64) -> Option<BlockCore<F>> {
     BlockCore::deserialize(&saved).ok()
 }
 
-// Whether the core is saved as the words that this digest writes, and this count.
+// Whether the core is saved as these words and this count.
 fn is_saved_as<F: ResumableFunction>(core: &BlockCore<F>, words: &F::Digest, count: u64) -> bool {
     match core.serialize().as_bytes().split_last_chunk::<8>() {
         Some((saved, last)) => saved == words.as_bytes() && *last == count.to_le_bytes(),
@@ -28,8 +28,8 @@ fn is_saved_as<F: ResumableFunction>(core: &BlockCore<F>, words: &F::Digest, cou
     }
 }
 
-// Whether the core of this count has, after this tail, the digest that the words are after the start
-// words have taken in the padding of the tail with this length in bits. The core stays as it was.
+// Whether the core of this count finishes by one step from the start words, with the tail padded by
+// this length in bits. The core must stay as it was.
 fn digest_is<F: ResumableFunction>(count: u64, tail: &[u8], bit_len: u64) -> bool {
     let (Some(mut core), Some(mut buffer), Some(mut same)) = (
         core_with::<F>(count),
@@ -46,8 +46,7 @@ fn digest_is<F: ResumableFunction>(count: u64, tail: &[u8], bit_len: u64) -> boo
     is_saved_as(&last, &digest, 1) && is_saved_as(&core, &F::output(F::start()), count)
 }
 
-// Whether the length in bits is taken modulo 2^64: 512 * (2^55 - 1) is 2^64 - 512, and so for the
-// others.
+// Whether the length in bits is taken modulo 2^64: 512 times each count is 2^64 - 512.
 fn lengths_wrap<F: ResumableFunction>() -> bool {
     for count in [WRAPPING - 1, 2 * WRAPPING - 1, u64::MAX] {
         if !digest_is::<F>(count, b"", 0xffff_ffff_ffff_fe00)
@@ -64,8 +63,8 @@ fn large_counts_are_kept_whole(rt: HostRuntime) {
     assert_each!(rt; lengths_wrap());
 }
 
-// Whether the start words and 2^55 blocks have the digest of no bytes, `empty`; whether `last` is
-// the digest with the last count and the tail "a"; and whether the count begins again.
+// Whether 2^55 blocks have the digest `empty`, and the last count with the tail "a" the digest
+// `last`, and whether the count then begins again.
 fn counts_wrap<F: ResumableFunction>(empty: &str, last: &str) -> bool {
     let (Some(mut wrapping), Some(mut core)) = (core_with::<F>(WRAPPING), core_with::<F>(u64::MAX))
     else {
@@ -78,8 +77,8 @@ fn counts_wrap<F: ResumableFunction>(empty: &str, last: &str) -> bool {
     gives(&mut wrapping, b"", empty) && gives_last && is_saved_as(&core, &words, 0)
 }
 
-// The digests with the last count come from a slow textbook program in Python, which was written
-// apart from this code.
+// The digests with the last count come from a textbook program in Python, written apart from this
+// code.
 #[test]
 fn counts_begin_again(rt: HostRuntime) {
     let last = "e60fc1420090357f339f3caef66ec61a";

@@ -1,5 +1,5 @@
-//! The block functions against a plain one, which runs one line after the other, step by step. Its tables and its
-//! Boolean functions are as the paper of 1996 prints them.
+//! The block functions against a plain one, line by line, with the tables and Boolean functions that the paper of 1996
+//! prints.
 
 ghost use Rattle.std.specs.Prelude.{◌<◌, ◌≤◌};
 
@@ -9,7 +9,7 @@ use ripemd_block::block_api::{
     Ripemd320Function,
 };
 
-// The words that the steps of a line take, round by round.
+// The message word numbers of a line, round by round.
 static LEFT_NUMBERS: [[usize; 16]; 5] = [
     [0, 1, 2, 3, 4, 5, 6, 7, 8, 9, 10, 11, 12, 13, 14, 15],
     [7, 4, 13, 1, 10, 6, 15, 3, 12, 0, 9, 5, 2, 14, 11, 8],
@@ -43,7 +43,7 @@ static RIGHT_CONSTANTS: [[u32; 5]; 2] = [
     [0x50a2_8be6, 0x5c4d_d124, 0x6d70_3ef3, 0x7a6d_76e9, 0],
 ];
 
-// The words that the first half of a state begins with, and those of the second half.
+// The start words of the halves of a state.
 static FIRST_WORDS: [u32; 5] = [
     0x6745_2301,
     0xefcd_ab89,
@@ -60,7 +60,7 @@ static SECOND_WORDS: [u32; 5] = [
     0x3c2d_1e0f,
 ];
 
-// The registers of the two lines. Lines of four registers leave the fifth place alone.
+// The registers of both lines. Lines of four registers leave the fifth place alone.
 #[derive(Clone, Copy)]
 struct Lines {
     left: [u32; 5],
@@ -87,7 +87,7 @@ fn message_word(block: &[u8; 64], j: usize) -> u32
     word
 }
 
-// A step of a line of `size` registers, with function number `j`.
+// A step with `size` registers and function number `j`.
 fn step(size: usize, j: usize, x: u32, k: u32, amount: u32, registers: [u32; 5]) -> [u32; 5] {
     let [a, b, c, d, e] = registers;
     let sum = a
@@ -102,7 +102,7 @@ fn step(size: usize, j: usize, x: u32, k: u32, amount: u32, registers: [u32; 5])
     }
 }
 
-// The lines of `size` registers after as many rounds, with an exchange after each, if there is one.
+// The lines after `size` rounds, each with its exchange, if any.
 fn lines_after(size: usize, exchanges: &[usize], start: Lines, block: &[u8; 64]) -> Lines
     requires { size ≤ 5 }
 {
@@ -138,7 +138,7 @@ fn lines_after(size: usize, exchanges: &[usize], start: Lines, block: &[u8; 64])
     Lines { left, right }
 }
 
-// Whether the bytes are those of these words, little-endian.
+// Whether the bytes are these words, little-endian.
 fn are_words(bytes: &[u8], words: &[u32]) -> bool {
     let (chunks, rest) = bytes.as_chunks::<4>();
     if !rest.is_empty() || chunks.len() != words.len() {
@@ -152,7 +152,7 @@ fn are_words(bytes: &[u8], words: &[u32]) -> bool {
     true
 }
 
-// Whether the bytes are the state after this block, where both lines of `size` registers work on the whole state.
+// Whether the bytes are the state after this block, if both lines take the whole state.
 fn are_joint(size: usize, block: &[u8; 64], bytes: &[u8]) -> bool
     requires { size ≤ 5 }
 {
@@ -171,7 +171,7 @@ fn are_joint(size: usize, block: &[u8; 64], bytes: &[u8]) -> bool
     are_words(bytes, &words[..size])
 }
 
-// Whether the bytes are the state after this block, where each line of `size` registers works on a half.
+// Whether the bytes are the state after this block, if each line takes a half.
 fn are_double(size: usize, exchanges: &[usize], block: &[u8; 64], bytes: &[u8]) -> bool
     requires { size ≤ 5 }
 {
@@ -188,15 +188,14 @@ fn are_double(size: usize, exchanges: &[usize], block: &[u8; 64], bytes: &[u8]) 
     are_words(bytes, &words[..2 * size])
 }
 
-// Four blocks: zeros, ones, the bytes 0 to 63, and no bytes with their padding.
+// Zeros, ones, the bytes 0 to 63, and the padding of no bytes.
 fn four_blocks() -> [[u8; 64]; 4] {
     let mut padding = [0; 64];
     padding[0] = 0x80;
     [[0; 64], [0xff; 64], counted(0), padding]
 }
 
-// Whether a block function steps as the tables say: both lines work on one state, or each on a half
-// of it, where registers are exchanged.
+// Whether a block function steps as the tables say. With exchanges, each line takes a half of the state.
 fn steps<F: ListBlockFunction>(size: usize, exchanges: &[usize]) -> bool
     requires { size ≤ 5 }
 {

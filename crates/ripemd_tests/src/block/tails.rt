@@ -4,7 +4,7 @@ use ripemd_block::block_api::Ripemd160Core;
 use ripemd_block::buffer::Buffer;
 use ripemd_block::padding::{block_count, pad_block};
 
-// Whether a buffer holds so many bytes after it took in each of these numbers of zero bytes.
+// Whether a buffer of zeros holds so many bytes after each piece.
 fn holds_after(pieces: &[(usize, usize)]) -> bool {
     let zeros = [0; 200];
     let mut core = Ripemd160Core::default();
@@ -18,7 +18,7 @@ fn holds_after(pieces: &[(usize, usize)]) -> bool {
     true
 }
 
-// A buffer holds what is left after the whole blocks of all bytes so far.
+// A buffer holds the bytes after the last whole block.
 #[test]
 fn buffers(rt: HostRuntime) {
     assert!(rt; holds_after(&[(63, 63), (1, 0), (130, 2)]));
@@ -27,8 +27,7 @@ fn buffers(rt: HostRuntime) {
     assert!(rt; Buffer::try_new(&[7; 64]).is_none() && Buffer::try_new(&[7; 65]).is_none());
 }
 
-// Whether `len` bytes have `count` blocks with their padding, the last of which ends in this length in bits,
-// little-endian.
+// Whether `len` padded bytes are `count` blocks that end in this length in bits, little-endian.
 fn is_padded(len: usize, count: usize, bit_len: u64) -> bool {
     let bytes = [0x61; 120];
     let message = &bytes[..len.min(120)];

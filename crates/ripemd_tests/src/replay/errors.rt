@@ -46,7 +46,7 @@ fn bad_commands(rt: HostRuntime) {
     assert!(rt; stops(alloc, &NO_SECOND_SAVED, error));
 }
 
-// Whether the bytes are refused as a state handed in, by the first command and by the second.
+// Whether the bytes are a bad state, in the first and in the second command.
 fn is_bad_state(alloc: Global, bytes: &[u8]) -> bool {
     let commands = [Command::New, Command::Import { bytes }];
     stops(alloc, &commands[1..], ReplayError::BadState { at: 0 })

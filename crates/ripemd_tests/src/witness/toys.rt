@@ -41,7 +41,7 @@ impl BlockFunction for Adding {
     ghost same_state = { eqb-true };
 }
 
-// Its step gives the sum of the bytes of the block, and forgets the state.
+// Its step gives the sum of the bytes of the block, whatever the state.
 pub(super) enum Forgetting {}
 
 impl BlockFunction for Forgetting {
