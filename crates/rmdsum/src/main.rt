@@ -87,10 +87,7 @@ impl Worker for Host<'_> {
 
     fn show_help(&mut self) -> Result<(), Fault> {
         let program = arguments::program(self.rt, self.rt.alloc())?;
-        write_text(
-            self.rt,
-            &[b"Usage: ", program.as_slice(), HELP.as_bytes()],
-        )
+        write_text(self.rt, &[b"Usage: ", program.as_slice(), HELP.as_bytes()])
     }
 
     fn show_version(&mut self) -> Result<(), Fault> {
