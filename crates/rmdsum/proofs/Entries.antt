@@ -7,7 +7,6 @@ use Rattle.rmdsum.specs.Names.{MayHave, NextName, IsEntry, IsNamed, Stays, Follo
 use Rattle.std.specs.Prelude.{IfOk, OnOk, Result, Ok, Err, Vec}
 use Rattle.ripemd_files.specs.declared.fault.Fault.{Fault}
 use Rattle.std.proofs.lemmas.List.{length-append, map-append}
-use Rattle.rmdsum.specs.declared.names.Wrong.{Wrong}
 
 stays : (old : Option (List ℕ)) → Stays old old
 stays None = tt

@@ -1,4 +1,4 @@
-use Rattle.std.proofs.Common.{◌≡◌, Bool, true, false, List, [], ◌∷◌, codes, Ok, Err, refl, inl, inr}
+use Rattle.std.proofs.Common.{◌≡◌, Bool, false, [], ◌∷◌, codes, Ok, Err, refl, inl, inr}
 use Rattle.rmdsum.specs.declared.arguments.Next.TheVariants.{Any}
 use Rattle.rmdsum.specs.declared.refusals.Misuse.TheVariants.{ZeroWithCheck}
 use Rattle.rmdsum.specs.declared.request.Request.TheVariants.{Help, Version, Run}
