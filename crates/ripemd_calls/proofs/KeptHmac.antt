@@ -1,15 +1,14 @@
 -- The kept bytes of an HMAC state: two hash states.
-use Rattle.std.proofs.Common.{◌≡◌, ◌≢◌, ℕ, ◌+◌, List, ◌++◌, length, take, drop, sym, ap, ◌∙◌, arith}
+use Rattle.std.proofs.Common.{◌≡◌, ◌≢◌, ℕ, ◌+◌, List, ◌++◌, length, take, drop, sym, ap, ◌∙◌, arith, refl}
 use Rattle.std.proofs.Common.{Option, Some, None, IfNone}
-use Rattle.std.proofs.lemmas.List.{take_at, drop_at, length-take-le}
-use Rattle.ripemd.specs.States.{HashState, IsHashState, core_and_tail}
+use Rattle.std.proofs.lemmas.List.{take_at, drop_at, length-take}
+use Rattle.ripemd.specs.States.{core_and_tail}
 use Rattle.ripemd.specs.OverLists.{IsInjectiveOutput}
 use Rattle.ripemd_mac.specs.Hmac.{KeyedState}
 use Rattle.ripemd_mac.specs.Saved.{IsKeyedState, hmac_bytes}
-use Rattle.ripemd_mac.specs.Laws.{inner_part, outer_part}
 use Rattle.ripemd_calls.specs.KeptBytes.{cleared, cleared_hmac}
 use Rattle.ripemd.specs.SavedLaws.{length-core_and_tail}
-use Rattle.ripemd_calls.proofs.KeptBytes.{length-cleared, saved_is_clear}
+use Rattle.ripemd_calls.proofs.KeptBytes.{length-cleared, same_parts, saved_is_clear}
 
 -- what holds anyway holds of nothing
 pub of_none : {T Q : Type 0} (o : Option T) → Q → IfNone o Q
@@ -19,38 +18,26 @@ of_none None q = q
 -- put together of kept hash states
 pub cleared-both : (core : ℕ) (inner outer : List ℕ) → length inner ≡ core + 64
     → cleared_hmac core (inner ++ outer) ≡ cleared core inner ++ cleared core outer
-cleared-both core inner outer size =
-    ap (λ (front : List ℕ). cleared core front ++ cleared core (drop (core + 64) (inner ++ outer))) (take_at inner outer (core + 64) size)
-    ∙ ap (λ (back : List ℕ). cleared core inner ++ cleared core back) (drop_at inner outer (core + 64) size)
+cleared-both core inner outer size = rw (take_at inner outer (core + 64) size, drop_at inner outer (core + 64) size) refl
 
-module _ {are_words : List ℕ → Type 0} {output : List ℕ → List ℕ} {n : ℕ} (tells : IsInjectiveOutput are_words output n)
-    (core : ℕ) (core_size : core ≡ n + 8) (kept : List ℕ) (size : length kept ≡ (core + 64) + (core + 64)) where
-  front_size : length (cleared core (take (core + 64) kept)) ≡ n + 8 + 64
-  front_size =
-      length-cleared core (take (core + 64) kept) ∙ length-take-le (core + 64) kept (omega (arith, size)) ∙ ap (λ (k : ℕ). k + 64) core_size
-
-  -- no state is kept as these bytes if no inner hash state is as the first of them, or no outer one as the others
-  pub no_inner : (inner : List ℕ) → inner ≡ take (core + 64) kept
-      → ((h : HashState) → IsHashState are_words h → core_and_tail output h ≢ cleared core inner)
-      → (s : KeyedState) → IsKeyedState are_words s → hmac_bytes output s ≢ cleared_hmac core kept
-  no_inner inner is none s valid same = none s.inner valid.inner
-      (inner_part tells s valid (cleared_hmac core kept) same
-      ∙ take_at (cleared core (take (core + 64) kept)) (cleared core (drop (core + 64) kept)) (n + 8 + 64) front_size ∙ ap (cleared core) (sym is))
-
-  pub no_outer : (outer : List ℕ) → outer ≡ drop (core + 64) kept
-      → ((h : HashState) → IsHashState are_words h → core_and_tail output h ≢ cleared core outer)
-      → (s : KeyedState) → IsKeyedState are_words s → hmac_bytes output s ≢ cleared_hmac core kept
-  no_outer outer is none s valid same = none s.outer valid.outer
-      (outer_part tells s valid (cleared_hmac core kept) same
-      ∙ drop_at (cleared core (take (core + 64) kept)) (cleared core (drop (core + 64) kept)) (n + 8 + 64) front_size ∙ ap (cleared core) (sym is))
+-- the first of the bytes that an HMAC state is kept as keep its inner hash state, and the others its outer one
+pub halves : {are_words : List ℕ → Type 0} {output : List ℕ → List ℕ} {n core half : ℕ} {inner outer : List ℕ}
+    → IsInjectiveOutput are_words output n → core ≡ n + 8 → half ≡ core + 64 → (kept : List ℕ) → length kept ≡ half + half
+    → inner ≡ take half kept → outer ≡ drop half kept → (s : KeyedState) → IsKeyedState are_words s → hmac_bytes output s ≡ cleared_hmac core kept
+    → (core_and_tail output s.inner ≡ cleared core inner) × (core_and_tail output s.outer ≡ cleared core outer)
+halves {output = output} {core = core} {inner = inner} {outer = outer} tells core_size half_is kept size is_inner is_outer s valid same =
+    let in_is = rw half_is at is_inner in
+    let out_is = rw half_is at is_outer in
+    let held : length (core_and_tail output s.inner) ≡ length (cleared core inner) =
+    omega (arith, length-core_and_tail tells s.inner valid.inner, length-cleared core inner, ap length is_inner, length-take {A = ℕ}) in
+    same_parts (core_and_tail output s.inner) (cleared core inner) (core_and_tail output s.outer) (cleared core outer) held (rw (in_is, out_is) same)
 
 -- the saved bytes of an HMAC state have zeros after both tails
 pub saved_hmac_is_clear : {are_words : List ℕ → Type 0} {output : List ℕ → List ℕ} {n : ℕ} → IsInjectiveOutput are_words output n
     → (core : ℕ) → core ≡ n + 8 → (s : KeyedState) → IsKeyedState are_words s
     → hmac_bytes output s ≡ cleared_hmac core (hmac_bytes output s)
-saved_hmac_is_clear {output = output} tells core size s valid =
-    let inner : List ℕ = core_and_tail output s.inner in
-    let outer : List ℕ = core_and_tail output s.outer in
-    ap (λ (front : List ℕ). front ++ outer) (saved_is_clear tells core size s.inner valid.inner)
-    ∙ ap (λ (back : List ℕ). cleared core inner ++ back) (saved_is_clear tells core size s.outer valid.outer)
-    ∙ sym (cleared-both core inner outer (omega (arith, length-core_and_tail tells s.inner valid.inner, size)))
+saved_hmac_is_clear {output = output} tells core size s valid = cc (
+  cleared-both core (core_and_tail output s.inner) (core_and_tail output s.outer) (omega (arith, length-core_and_tail tells s.inner valid.inner, size)),
+  saved_is_clear tells core size s.inner valid.inner,
+  saved_is_clear tells core size s.outer valid.outer,
+)
