@@ -1,17 +1,11 @@
 -- The bytes that hash states are kept as, composed and taken apart.
-use Rattle.std.proofs.Common.{◌≡◌, ℕ, ◌+◌, ◌-◌, ◌<◌, suc, refl, sym, ap, ◌∙◌, arith, rules, Result, Ok, Err, IfOk}
+use Rattle.std.proofs.Common.{◌≡◌, ℕ, ◌+◌, ◌-◌, ◌<◌, suc, refl, sym, ap, ◌∙◌, arith, rules}
 use Rattle.std.proofs.Common.{List, [], ◌∷◌, ◌++◌, length, take, drop, get_or, replicate, length-append}
 use Rattle.std.proofs.lemmas.List.{length-take, length-drop, length-take-le, length-replicate, take_at, drop_at, take-append-drop}
 use Rattle.ripemd.specs.States.{HashState, IsHashState, IsWithoutTail, with_tail, output_and_count, tail_bytes, core_and_tail}
 use Rattle.ripemd.specs.OverLists.{IsInjectiveOutput}
-use Rattle.ripemd_block.specs.Laws.Saved.{length-output_and_count, core_and_tail-split}
+use Rattle.ripemd_block.specs.Laws.Saved.{length-output_and_count, length-core_and_tail, core_and_tail-split}
 use Rattle.ripemd_calls.specs.KeptBytes.{cleared, cleared_tail}
-
--- what follows for any loaded state
-pub of_ok : {T E Q : Type 0} {P V : T → Type 0} (loaded : Result T E) → IfOk loaded P → IfOk loaded V
-    → ((x : T) → P x → V x → Q) → IfOk loaded (λ _. Q)
-of_ok (Ok x) p v q = q x p v
-of_ok (Err e) p v q = tt
 
 -- lists that begin with as many elements have the same first ones and the same others
 pub same_parts : (a b x y : List ℕ) → length a ≡ length b → a ++ x ≡ b ++ y → (a ≡ b) × (x ≡ y)
@@ -38,13 +32,15 @@ both_kept output h tail n core rest behind core_size of_core of_rest size =
     ∙ rw (take_at core rest n core_size, drop_at core rest n core_size, of_rest, take_at tail behind (length tail) refl, left, of_core) refl
 
 -- what a hasher is saved as has zeros after the tail
-pub saved_is_clear : {are_words : List ℕ → Type 0} {output : List ℕ → List ℕ} {n : ℕ} → IsInjectiveOutput are_words output n
-    → (core : ℕ) → core ≡ n + 8 → (h : HashState) → IsHashState are_words h
-    → core_and_tail output h ≡ cleared core (core_and_tail output h)
-saved_is_clear {output = output} tells core size h valid =
-    both_kept output h h.tail core (output_and_count output h) (tail_bytes h.tail) _
-    (length-output_and_count tells h valid ∙ sym size) refl refl (length-replicate {A = ℕ} (63 - length h.tail) 0)
-    ∙ ap (cleared core) (sym (core_and_tail-split output h))
+pub saved_is_clear : {are_words : List ℕ → Type 0} {output : List ℕ → List ℕ} {n core : ℕ} → IsInjectiveOutput are_words output n
+    → core ≡ n + 8 → (h : HashState) (bytes : List ℕ) → IsHashState are_words h → core_and_tail output h ≡ bytes
+    → cleared core bytes ≡ bytes
+saved_is_clear {output = output} {core = core} tells size h bytes valid same =
+    ap (cleared core) (sym same ∙ core_and_tail-split output h)
+    ∙ sym (both_kept output h h.tail core (output_and_count output h) (tail_bytes h.tail) _
+    (length-output_and_count tells h valid ∙ sym size) refl refl (length-replicate {A = ℕ} (63 - length h.tail) 0)) ∙ same
+
+pub ruleset saving = (saved_is_clear, length-core_and_tail)
 
 -- the bytes that a tail is kept as begin with its length and the tail
 kept_tail : (tail kept : List ℕ) → length kept ≡ 64 → length tail < 64 → tail_bytes tail ≡ cleared_tail kept

@@ -1,19 +1,14 @@
 -- The kept bytes of an HMAC state: two hash states.
 use Rattle.std.proofs.Common.{◌≡◌, ◌≢◌, ℕ, ◌+◌, List, ◌++◌, length, take, drop, sym, ap, ◌∙◌, arith, refl}
-use Rattle.std.proofs.Common.{Option, Some, None, IfNone}
 use Rattle.std.proofs.lemmas.List.{take_at, drop_at, length-take}
 use Rattle.ripemd.specs.States.{core_and_tail}
 use Rattle.ripemd.specs.OverLists.{IsInjectiveOutput}
 use Rattle.ripemd_mac.specs.Hmac.{KeyedState}
 use Rattle.ripemd_mac.specs.Saved.{IsKeyedState, hmac_bytes}
+use Rattle.ripemd_mac.specs.Laws.{length-hmac_bytes}
 use Rattle.ripemd_calls.specs.KeptBytes.{cleared, cleared_hmac}
 use Rattle.ripemd.specs.SavedLaws.{length-core_and_tail}
 use Rattle.ripemd_calls.proofs.KeptBytes.{length-cleared, same_parts, saved_is_clear}
-
--- what holds anyway holds of nothing
-pub of_none : {T Q : Type 0} (o : Option T) → Q → IfNone o Q
-of_none (Some x) q = tt
-of_none None q = q
 
 -- put together of kept hash states
 pub cleared-both : (core : ℕ) (inner outer : List ℕ) → length inner ≡ core + 64
@@ -33,11 +28,13 @@ halves {output = output} {core = core} {inner = inner} {outer = outer} tells cor
     same_parts (core_and_tail output s.inner) (cleared core inner) (core_and_tail output s.outer) (cleared core outer) held (rw (in_is, out_is) same)
 
 -- the saved bytes of an HMAC state have zeros after both tails
-pub saved_hmac_is_clear : {are_words : List ℕ → Type 0} {output : List ℕ → List ℕ} {n : ℕ} → IsInjectiveOutput are_words output n
-    → (core : ℕ) → core ≡ n + 8 → (s : KeyedState) → IsKeyedState are_words s
-    → hmac_bytes output s ≡ cleared_hmac core (hmac_bytes output s)
-saved_hmac_is_clear {output = output} tells core size s valid = cc (
+pub saved_hmac_is_clear : {are_words : List ℕ → Type 0} {output : List ℕ → List ℕ} {n core : ℕ} → IsInjectiveOutput are_words output n
+    → core ≡ n + 8 → (s : KeyedState) (bytes : List ℕ) → IsKeyedState are_words s → hmac_bytes output s ≡ bytes
+    → cleared_hmac core bytes ≡ bytes
+saved_hmac_is_clear {output = output} {core = core} tells size s bytes valid same = cc (
   cleared-both core (core_and_tail output s.inner) (core_and_tail output s.outer) (omega (arith, length-core_and_tail tells s.inner valid.inner, size)),
-  saved_is_clear tells core size s.inner valid.inner,
-  saved_is_clear tells core size s.outer valid.outer,
+  saved_is_clear tells size s.inner _ valid.inner refl,
+  saved_is_clear tells size s.outer _ valid.outer refl,
 )
+
+pub ruleset saving_hmac = (saved_hmac_is_clear, length-hmac_bytes)

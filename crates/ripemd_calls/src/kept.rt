@@ -112,6 +112,7 @@ impl<F: ResumableFunction> Kept for BlockHasher<F> {
         <F::Digest as ByteArray>::LEN as u8
     }
 
+    #[tactic(auto, using(crate::proofs::KeptBytes::saving))]
     fn load_from(saved: &[u8]) -> Result<BlockHasher<F>, DeserializeStateError> {
         BlockHasher::load_slice(saved)
     }
@@ -258,6 +259,7 @@ impl<F: ResumableFunction> Kept for Hmac<BlockHasher<F>> {
         128u8.wrapping_add(<F::Digest as ByteArray>::LEN as u8)
     }
 
+    #[tactic(auto, using(crate::proofs::KeptHmac::saving_hmac))]
     fn load_from(saved: &[u8]) -> Result<Hmac<BlockHasher<F>>, DeserializeStateError> {
         Hmac::load_slice(saved)
     }

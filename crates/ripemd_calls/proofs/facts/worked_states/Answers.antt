@@ -44,9 +44,7 @@ not_state h is =
 no_zeros : (bytes : List ℕ) (place : ℕ) → get_or bytes place 0 ≡ 7 → get_or (cleared 28 bytes) place 0 ≡ 0
     → (h : HashState) → ¬ IsSavedState ripemd160 h bytes
 no_zeros bytes place seven zero h is =
-    let clear : bytes ≡ cleared 28 bytes =
-    sym is.saved ∙ saved_is_clear (word_bytes_output 5) 28 refl h is.valid ∙ ap (cleared 28) is.saved in
-    omega (arith, seven, zero, ap (λ (bs : List ℕ). get_or bs place 0) clear)
+    omega (arith, seven, zero, ap (λ (bs : List ℕ). get_or bs place 0) (saved_is_clear (word_bytes_output 5) refl h bytes is.valid is.saved))
 
 no_outer : (outer : List ℕ) → ((h : HashState) → ¬ IsSavedState ripemd160 h outer) → (s : KeyedState)
     → ¬ IsSavedHmac ripemd160 s (saved_inner ++ outer)
