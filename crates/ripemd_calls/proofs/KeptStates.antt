@@ -4,17 +4,6 @@ use Rattle.std.proofs.lemmas.List.{take_at, drop_at, drop-drop}
 use Rattle.ripemd_calls.specs.KeptBytes.{IsSaved, IsAppended}
 use Rattle.ripemd_calls.specs.KeptStates.{Updates, kept_in}
 
--- the kept bytes follow a mark, and others follow them
-module _ (mark kept behind : List ℕ) (size : ℕ) (one : length mark ≡ 1) (all : length kept ≡ size) where
-  pub kept_there : kept_in size (mark ++ (kept ++ behind)) ≡ kept
-  kept_there =
-      let left : 1 + size - 1 ≡ size = omega arith in
-      rw (left, drop_at mark (kept ++ behind) 1 one) (take_at kept behind size all)
-
-  pub behind_there : drop (1 + size) (mark ++ (kept ++ behind)) ≡ behind
-  behind_there =
-      sym (drop-drop size 1 (mark ++ (kept ++ behind))) ∙ ap (drop size) (drop_at mark (kept ++ behind) 1 one) ∙ drop_at kept behind size all
-
 -- the state after a piece, if the bytes were those of a saved state
 pub updated : {S : Type 0} {is_valid : S → Type 0} {state_bytes : S → List ℕ}
     (injective : (s t : S) → is_valid s → is_valid t → state_bytes s ≡ state_bytes t → s ≡ t)

@@ -57,15 +57,10 @@ exchanged s = record { inner = s.outer; outer = s.inner }
 
 exchanged_saved : (s : KeyedState) → IsSavedHmac ripemd160 s (saved_inner ++ saved_outer)
     → IsSavedHmac ripemd160 (exchanged s) (saved_outer ++ saved_inner)
-exchanged_saved s is =
-    let outer : core_and_tail word_bytes s.outer ≡ saved_outer =
-    outer_part (word_bytes_output 5) s is.valid (saved_inner ++ saved_outer) is.saved in
-    let inner : core_and_tail word_bytes s.inner ≡ saved_inner =
-    inner_part (word_bytes_output 5) s is.valid (saved_inner ++ saved_outer) is.saved in
-    record {
-      valid = record { inner = is.valid.outer; outer = is.valid.inner };
-      saved = ap (λ (bytes : List ℕ). bytes ++ core_and_tail word_bytes s.inner) outer ∙ ap (λ (bytes : List ℕ). saved_outer ++ bytes) inner;
-    }
+exchanged_saved s is = record {
+  valid = record { inner = is.valid.outer; outer = is.valid.inner };
+  saved = cc (outer_part (word_bytes_output 5) s is.valid _ is.saved, inner_part (word_bytes_output 5) s is.valid _ is.saved);
+}
 
 -- the HMAC state of the key
 abbrev start : KeyedState
