@@ -21,12 +21,9 @@ pieces : (bits : ℕ) (v : Parameters) {digest : List ℕ} (any first next : Lis
 pieces bits v any first next begun fed is eight computed init update =
     let inits = rw is at init in
     let call = rw (inits.marked, eight, is) at update in
-    let after = call.kept.message (new_state v) [] inits.kept in (
-      inits.yes,
-      after.0,
-      λ new done does. written (length-range_with_len 0 (digest_size v)) computed
-          ((rw (call.mark ∙ inits.marked, eight, is) at does).message tt abc after.1),
-    )
+    let all = call.kept.message (new_state v) [] inits.kept in
+    (inits.yes, all.0, λ new done does. written (length-range_with_len 0 (digest_size v)) computed
+        ((rw (call.mark ∙ inits.marked, eight, is) at does).message tt abc all.1))
 
 pub returns-clause-digests : goal.returns-clause-digests
 unfolding registers_after lines_after compress with_padding blocks hash
