@@ -1,6 +1,6 @@
 -- The bytes that hash states are kept as, composed and taken apart.
 use Rattle.std.proofs.Common.{◌≡◌, ℕ, ◌+◌, ◌-◌, ◌<◌, suc, refl, sym, ap, ◌∙◌, arith, rules}
-use Rattle.std.proofs.Common.{List, [], ◌∷◌, ◌++◌, length, take, drop, get_or, replicate, length-append}
+use Rattle.std.proofs.Common.{List, All, [], ◌∷◌, ◌++◌, length, take, drop, get_or, replicate, length-append}
 use Rattle.std.proofs.lemmas.List.{length-take, length-drop, length-take-le, length-replicate, take_at, drop_at, take-append-drop}
 use Rattle.ripemd.specs.States.{HashState, IsHashState, IsWithoutTail, with_tail, output_and_count, tail_bytes, core_and_tail}
 use Rattle.ripemd.specs.OverLists.{IsInjectiveOutput}
@@ -68,12 +68,13 @@ kept_parts {output = output} {n = n} {h = h} {front = front} {back = back} told 
     (sym (core_and_tail-split output h) ∙ rw (front_is, back_is) same) in
     (λ tail. parts.0, kept_tail h.tail back (omega (arith, ap length back_is, length-drop n kept)) valid.tail.short parts.1)
 
--- a core alone
+-- a core with another tail, and with none
+pub with_valid : {are_words : List ℕ → Type 0} {h : HashState} {tail : List ℕ} → IsHashState are_words h → length tail < 64
+    → All (λ b. b < 256) tail → IsHashState are_words (with_tail h tail)
+with_valid valid short bytes = record { words = valid.words; count = valid.count; tail = record { short = short; bytes = bytes } }
+
 pub own_core : {are_words : List ℕ → Type 0} {h : HashState} → IsHashState are_words h → IsWithoutTail are_words (with_tail h [])
-own_core valid = record {
-  state = record { words = valid.words; count = valid.count; tail = record { short = omega arith; bytes = search rules } };
-  no_tail = refl;
-}
+own_core valid = record { state = with_valid valid (omega arith) (search rules); no_tail = refl }
 
 pub cleared_front : (kept : List ℕ) → length kept ≡ 64 → get_or kept 0 0 < 64
     → tail_bytes (take (get_or kept 0 0) (drop 1 kept)) ≡ cleared_tail kept

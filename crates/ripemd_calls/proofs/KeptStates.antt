@@ -12,18 +12,16 @@ pub updated : {S : Type 0} {is_valid : S → Type 0} {state_bytes : S → List �
     → (IsTrue done → IsAppended is_valid state_bytes fed (cleared old) piece (cleared new))
     → (IsFalse done → (s : S) → is_valid s → ¬ (state_bytes s ≡ cleared old))
     → Updates (λ s kept. IsSaved is_valid state_bytes s (cleared kept)) fed old piece new done
-updated {S} {is_valid} {state_bytes} injective {fed} twice cleared {old} {piece} {new} true appended refused =
+updated injective {fed = fed} twice cleared {piece = piece} true appended refused =
     let added = appended (search rules) in
-    let of_state : (s : S) → IsSaved is_valid state_bytes s (cleared old) → IsSaved is_valid state_bytes (fed s piece) (cleared new) =
-    λ s is. subst (λ (t : S). IsSaved is_valid state_bytes (fed t piece) (cleared new))
-    (injective added.state s added.before.valid is.valid (added.before.saved ∙ sym is.saved)) added.after in
+    let before = added.before in
     record {
-      state = λ s is. (search rules, of_state s is);
+      state = λ s is. (search rules, rw (injective s added.state is.valid before.valid (is.saved ∙ sym before.saved)) added.after);
       message = λ start message is. (
         search rules,
-        subst (λ (t : S). IsSaved is_valid state_bytes t (cleared new)) (twice start message piece) (of_state (fed start message) is),
+        rw (← twice start message piece, injective (fed start message) added.state is.valid before.valid (is.saved ∙ sym before.saved)) added.after,
       );
-      refused = (λ no. absurd (search (rules, no)), λ none. absurd (none added.state added.before));
+      refused = (λ no. absurd (search (rules, no)), λ none. absurd (none added.state before));
     }
 updated injective twice cleared false appended refused =
     let none = refused (search rules) in

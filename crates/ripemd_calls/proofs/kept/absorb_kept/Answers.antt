@@ -4,7 +4,7 @@ use Rattle.ripemd_block.specs.Standard.Hashing.{blocks, partial_block}
 use Rattle.ripemd_block.specs.States.{HashState, IsHashState, after_blocks, fed, output_and_count, with_tail}
 use Rattle.ripemd_block.specs.Laws.Saved.{length-output_and_count}
 use Rattle.ripemd_block.specs.Laws.Walking.{after_joined_blocks}
-use Rattle.ripemd_calls.proofs.KeptBytes.{both_kept, kept_parts}
+use Rattle.ripemd_calls.proofs.KeptBytes.{both_kept, kept_parts, with_valid}
 use Rattle.ripemd_calls.proofs.kept.absorb_kept.Goals as goal
 use Rattle.ripemd_calls.proofs.kept.absorb_kept.Goals.{then-len-gt0, else-len-gt0}
 
@@ -39,34 +39,29 @@ returns g c =
       | then-len-gt0 w ↦
           let one = w.from_ref.result.now in
           let held = rw (w.split_at.ensures.back, ← s.tail, of_tail) at w.fill_block-rest.ensures in
-          let joined : one ++ whole ≡ blocks all =
-          rw (w.from_ref.ensures.value, c.whole_blocks.ensures.whole, w.rest-is) held.filled in
-          let mid_is : output_and_count f.output (after_blocks f.step h one) ≡ c.if-len-gt0.core =
-          w.update_saved.ensures.saved h valid (is.0 h.tail) ∙ sym w.core-is in
-          let mid_valid = w.update_saved.ensures.valid h valid (is.0 h.tail) in
-          (subst Taken (after_joined_blocks f.step h one whole ∙ ap (after_blocks f.step h) joined)
-          (last.ensures.valid _ mid_valid mid_is, last.ensures.saved _ mid_valid mid_is), rw (c.whole_blocks.ensures.tail, w.rest-is) held.rest)
+          let joined : one ++ whole ≡ blocks all = rw (w.from_ref.ensures.value, c.whole_blocks.ensures.whole, w.rest-is) held.filled in
+          let mid = w.update_saved.ensures.valid h valid (is.0 h.tail) in
+          let mid_is = w.update_saved.ensures.saved h valid (is.0 h.tail) ∙ sym w.core-is in
+          let taken : Taken core =
+          rw (← joined, ← after_joined_blocks f.step h one whole) (last.ensures.valid _ mid mid_is, last.ensures.saved _ mid mid_is) in
+          (taken, rw (c.whole_blocks.ensures.tail, w.rest-is) held.rest)
       | else-len-gt0 w ↦
           let empty : h.tail ≡ [] = nil_from_length h.tail (omega arith) in
           let joined : whole ≡ blocks all = rw (c.whole_blocks.ensures.whole, w.rest-is, empty) refl in
-          let same : output_and_count f.output h ≡ c.if-len-gt0.core = is.0 h.tail ∙ sym w.core-is in
-          (subst Taken (ap (after_blocks f.step h) joined) (last.ensures.valid h valid same, last.ensures.saved h valid same),
-          rw (c.whole_blocks.ensures.tail, w.rest-is, empty) refl)
+          let same = is.0 h.tail ∙ sym w.core-is in
+          let taken : Taken core = rw (← joined) (last.ensures.valid h valid same, last.ensures.saved h valid same) in
+          (taken, rw (c.whole_blocks.ensures.tail, w.rest-is, empty) refl)
     ] in
     let room : length (drop (1 + length tail) back) ≡ 63 - length tail = omega (arith, length-drop (1 + length tail) back, halves.ensures.front_len) in
-    let now = walked.0.0 in
     let same : fed f.step h c.args.bytes.now ≡ with_tail core tail = ap (with_tail core) (sym walked.1) in
+    let core_is = walked.0.1 in
     record {
       state = h;
       before = s.saved;
       after = rw same (record {
-        valid = record {
-          words = now.words;
-          count = now.count;
-          tail = record { short = omega (arith, c.whole_blocks.ensures.tail_len); bytes = c.bytes_in_range.ensures };
-        };
+        valid = with_valid walked.0.0 (omega (arith, c.whole_blocks.ensures.tail_len)) c.bytes_in_range.ensures;
         saved = both_kept f.output core tail n last.new.saved (c.put_tail.new.place ++ halves.result.1.now) (drop (1 + length tail) back)
-            (ap length (sym walked.0.1) ∙ length-output_and_count r.injective_output core now ∙ sym r.saved_core_size) walked.0.1
+            (ap length (sym core_is) ∙ length-output_and_count r.injective_output core walked.0.0 ∙ sym r.saved_core_size) core_is
             (rw (none, append-nil c.put_tail.new.place) c.put_tail.ensures) room;
       });
     }

@@ -2,7 +2,7 @@ use Rattle.std.proofs.Common.{◌≡◌, ◌+◌, ◌-◌, ◌<◌, ◌∙◌, �
 use Rattle.std.proofs.lemmas.List.Elements.{All-append}
 use Rattle.std.proofs.lemmas.List.{append_assoc, length-drop, take_at}
 use Rattle.ripemd_block.specs.Laws.Pieces.{fed_short}
-use Rattle.ripemd_calls.proofs.KeptBytes.{both_kept, kept_parts}
+use Rattle.ripemd_calls.proofs.KeptBytes.{both_kept, kept_parts, with_valid}
 use Rattle.ripemd_calls.proofs.kept.append_kept.Goals as goal
 
 pub returns : goal.returns
@@ -21,18 +21,14 @@ returns g c =
     let fits : length (h.tail ++ bytes) < 64 = omega (arith, length-append h.tail bytes, s.tail, c.requires.short) in
     let front_is : held.result.0.now ≡ length h.tail ∷ h.tail =
     held.ensures.front ∙ ap (take (1 + c.args.len)) is.1 ∙ take_at (length h.tail ∷ h.tail) _ (1 + c.args.len) (omega (arith, s.tail)) in
+    let size : length parts.result.1.now ≡ 64 = omega (arith, parts.ensures.back_len, c.requires.size, c.LEN.ensures, r.saved_hasher_size) in
     let left : length (drop (length bytes) room) ≡ 63 - length (h.tail ++ bytes) =
-    omega (arith, length-drop (length bytes) room, held.ensures.back_len, length-append h.tail bytes, s.tail, parts.ensures.back_len,
-    c.requires.size, c.LEN.ensures, r.saved_hasher_size) in
+    omega (arith, length-drop (length bytes) room, held.ensures.back_len, length-append h.tail bytes, s.tail, size) in
     record {
       state = h;
       before = s.saved;
       after = rw (fed_short g.F.ListBlockFunction.step h bytes valid.count fits) (record {
-        valid = record {
-          words = valid.words;
-          count = valid.count;
-          tail = record { short = fits; bytes = All-append (λ b. b < 256) h.tail bytes valid.tail.bytes c.bytes_in_range.ensures };
-        };
+        valid = with_valid valid fits (All-append (λ b. b < 256) h.tail bytes valid.tail.bytes c.bytes_in_range.ensures);
         saved = both_kept g.F.ListBlockFunction.output h (h.tail ++ bytes) g.F.SavedCore.ByteArray.LEN parts.result.0.now _ (drop (length bytes) room)
             (parts.ensures.front_len ∙ c.LEN.ensures) (is.0 h.tail)
             (rw (c.write_short.ensures, front_is, append_assoc h.tail bytes (drop (length bytes) room), length-append h.tail bytes, s.tail) refl) left;

@@ -2,7 +2,7 @@ use Rattle.std.proofs.Common.{◌≡◌, ◌+◌, ◌-◌, ◌∙◌, [], refl, 
 use Rattle.std.proofs.lemmas.List.{length-drop, length-take-le}
 use Rattle.ripemd.specs.States.{with_tail, output_and_count}
 use Rattle.ripemd_block.specs.Laws.Saved.{core_and_tail-split}
-use Rattle.ripemd_calls.proofs.KeptBytes.{cleared_front, kept_parts, own_core}
+use Rattle.ripemd_calls.proofs.KeptBytes.{cleared_front, kept_parts, own_core, with_valid}
 use Rattle.ripemd_calls.proofs.kept.tail_len.Goals as goal
 
 -- the first bytes of a hasher are its core's
@@ -29,7 +29,6 @@ returns-clause-some g c =
     let back = c.split_at.result.1.now in
     let len = get_or back 0 0 in
     let tail = take len (drop 1 back) in
-    let valid = c.in-Ok.ensures.valid.state in
     let size : length back ≡ 64 = omega (arith, c.split_at.ensures.back_len, c.requires, c.LEN.ensures, r.saved_hasher_size) in
     let held : length tail ≡ len = length-take-le len (drop 1 back) (omega (arith, length-drop 1 back, size, c.if-len-ge64.false)) in
     let left : 1 + len - 1 ≡ len = omega arith in
@@ -39,11 +38,7 @@ returns-clause-some g c =
     record {
       state = with_tail c.in-Ok._core tail;
       saved = record {
-        valid = record {
-          words = valid.words;
-          count = valid.count;
-          tail = record { short = omega (arith, held, c.if-len-ge64.false); bytes = rw left at c.bytes_in_range.ensures };
-        };
+        valid = with_valid c.in-Ok.ensures.valid.state (omega (arith, held, c.if-len-ge64.false)) (rw left at c.bytes_in_range.ensures);
         saved = core_and_tail-split g.F.ListBlockFunction.output (with_tail c.in-Ok._core tail) ∙ rw (c.in-Ok.ensures.ok, is, front_is, back_is) refl;
       };
       tail = held;
