@@ -128,6 +128,7 @@ impl<F: ResumableFunction> Kept for BlockHasher<F> {
     }
 
     #[inline(always)]
+    #[tactic(auto, using(crate::proofs::KeptBytes::cleared_front, ripemd_block::proofs::Absorbing::slice_from), unfolding(ripemd_block::specs::States::output_and_count, ripemd_block::specs::States::core_and_tail))]
     fn load_kept(kept: &[u8]) -> Option<BlockHasher<F>> {
         let (core, tail) = kept.split_at(<F::SavedCore as ByteArray>::LEN);
         let Ok(core) = BlockCore::<F>::load_slice(core) else {

@@ -28,17 +28,3 @@ returns-in_default-try_front-clause-none g c h valid same =
     omega (arith, length-drop 1 back, c.split_at.ensures.back_len, c.requires, c.LEN.ensures, r.saved_hasher_size) in
     rw (slice_from 1 back) at c.in_default-try_front.ensures.value
     (omega (arith, len, valid.tail.short), omega (arith, len, valid.tail.short, left), omega (arith, left))
-
-pub returns-clause-some : goal.returns-clause-some
-unfolding output_and_count
-returns-clause-some g c =
-    let r = g.met.F.ResumableFunction in
-    let back = c.split_at.result.1.now in
-    let front_is = rw c.LEN.ensures at c.split_at.ensures.front in
-    let back_is = rw c.LEN.ensures at c.split_at.ensures.back in
-    let size : length back ≡ 64 =
-    omega (arith, c.split_at.ensures.back_len, c.requires, c.LEN.ensures, r.saved_hasher_size) in
-    let held = rw (slice_from 1 back) at c.in-Some.ensures.value in
-    let is : tail_bytes c.in-Some.buffer ≡ cleared_tail back = rw held.1 (cleared_front back size held.0.0) in
-    core_and_tail-split g.F.ListBlockFunction.output c.from_parts.result
-    ∙ rw (c.from_parts.ensures, c.in-Ok.ensures.ok, is, front_is, back_is) refl
