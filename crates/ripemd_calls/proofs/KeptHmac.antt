@@ -16,16 +16,21 @@ pub cleared-both : (core : ℕ) (inner outer : List ℕ) → length inner ≡ co
 cleared-both core inner outer size = rw (take_at inner outer (core + 64) size, drop_at inner outer (core + 64) size) refl
 
 -- the first of the bytes that an HMAC state is kept as keep its inner hash state, and the others its outer one
-pub halves : {are_words : List ℕ → Type 0} {output : List ℕ → List ℕ} {n core half : ℕ} {inner outer : List ℕ}
-    → IsInjectiveOutput are_words output n → core ≡ n + 8 → half ≡ core + 64 → (kept : List ℕ) → length kept ≡ half + half
-    → inner ≡ take half kept → outer ≡ drop half kept → (s : KeyedState) → IsKeyedState are_words s → hmac_bytes output s ≡ cleared_hmac core kept
-    → (core_and_tail output s.inner ≡ cleared core inner) × (core_and_tail output s.outer ≡ cleared core outer)
-halves {output = output} {core = core} {inner = inner} {outer = outer} tells core_size half_is kept size is_inner is_outer s valid same =
-    let in_is = rw half_is at is_inner in
-    let out_is = rw half_is at is_outer in
-    let held : length (core_and_tail output s.inner) ≡ length (cleared core inner) =
-    omega (arith, length-core_and_tail tells s.inner valid.inner, length-cleared core inner, ap length is_inner, length-take {A = ℕ}) in
-    same_parts (core_and_tail output s.inner) (cleared core inner) (core_and_tail output s.outer) (cleared core outer) held (rw (in_is, out_is) same)
+module _ {are_words : List ℕ → Type 0} {output : List ℕ → List ℕ} {n core half : ℕ} (tells : IsInjectiveOutput are_words output n)
+    (core_size : core ≡ n + 8) (half_is : half ≡ core + 64) (kept : List ℕ) (size : length kept ≡ half + half)
+    (s : KeyedState) (valid : IsKeyedState are_words s) (same : hmac_bytes output s ≡ cleared_hmac core kept) where
+  halves : (core_and_tail output s.inner ≡ cleared core (take half kept)) × (core_and_tail output s.outer ≡ cleared core (drop half kept))
+  halves =
+      let inner : List ℕ = take half kept in
+      let held : length (core_and_tail output s.inner) ≡ length (cleared core inner) =
+      omega (arith, length-core_and_tail tells s.inner valid.inner, length-cleared core inner, length-take half kept) in
+      same_parts (core_and_tail output s.inner) (cleared core inner) (core_and_tail output s.outer) _ held (rw half_is same)
+
+  pub inner_half : {inner : List ℕ} → inner ≡ take half kept → core_and_tail output s.inner ≡ cleared core inner
+  inner_half is = halves.0 ∙ ap (cleared core) (sym is)
+
+  pub outer_half : {outer : List ℕ} → outer ≡ drop half kept → core_and_tail output s.outer ≡ cleared core outer
+  outer_half is = halves.1 ∙ ap (cleared core) (sym is)
 
 -- the saved bytes of an HMAC state have zeros after both tails
 pub saved_hmac_is_clear : {are_words : List ℕ → Type 0} {output : List ℕ → List ℕ} {n core : ℕ} → IsInjectiveOutput are_words output n

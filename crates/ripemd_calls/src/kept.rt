@@ -274,6 +274,7 @@ impl<F: ResumableFunction> Kept for Hmac<BlockHasher<F>> {
     }
 
     #[inline(always)]
+    #[tactic(auto, using(crate::proofs::KeptHmac::inner_half, crate::proofs::KeptHmac::outer_half))]
     fn load_kept(kept: &[u8]) -> Option<Hmac<BlockHasher<F>>> {
         let (inner, outer) = kept.split_at(<F::SavedHasher as ByteArray>::LEN);
         Some(Hmac::from_hashers(
@@ -288,6 +289,7 @@ impl<F: ResumableFunction> Kept for Hmac<BlockHasher<F>> {
         BlockHasher::<F>::clear(outer);
     }
 
+    #[tactic(auto, using(crate::proofs::KeptHmac::inner_half, crate::proofs::KeptHmac::outer_half))]
     fn update_kept(kept: &mut [u8], bytes: &[u8]) -> bool {
         let (inner, outer) = kept.split_at_mut(<F::SavedHasher as ByteArray>::LEN);
         match tail_len::<F>(outer) {
