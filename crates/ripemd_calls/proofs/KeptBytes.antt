@@ -51,30 +51,37 @@ kept_tail tail (n ∷ behind) size short is =
     let held : length tail ≡ length (take n behind) = omega (arith, length-take-le n behind (omega arith)) in
     cc (first, (same_parts tail (take n behind) _ _ held (ap (drop 1) is)).0, take-append-drop n behind)
 
--- the bytes that a hasher is kept as are those of its core, whatever the tail, and those of its tail
-pub kept_parts : {are_words : List ℕ → Type 0} {output : List ℕ → List ℕ} {size n mid : ℕ} {h : HashState} {front back : List ℕ}
-    → IsInjectiveOutput are_words output size → n ≡ size + 8 → IsHashState are_words h
-    → (kept : List ℕ) → length kept ≡ n + 64 → core_and_tail output h ≡ cleared n kept
-    → mid ≡ n → front ≡ take mid kept → back ≡ drop mid kept
-    → ((tail : List ℕ) → output_and_count output (with_tail h tail) ≡ front) × (back ≡ length h.tail ∷ h.tail ++ drop (suc (length h.tail)) back)
-unfolding output_and_count
-kept_parts {output = output} {n = n} {h = h} {front = front} {back = back} told core_size valid kept size same is_mid is_front is_back =
-    let front_is = rw is_mid at is_front in
-    let back_is = rw is_mid at is_back in
-    let held : length (output_and_count output h) ≡ length front =
-    omega (arith, length-output_and_count told h valid, ap length front_is, length-take n kept) in
-    let parts =
-    same_parts (output_and_count output h) front (tail_bytes h.tail) (cleared_tail back) held
-    (sym (core_and_tail-split output h) ∙ rw (front_is, back_is) same) in
-    (λ tail. parts.0, kept_tail h.tail back (omega (arith, ap length back_is, length-drop n kept)) valid.tail.short parts.1)
-
--- a core with another tail, and with none
+-- a core with another tail
 pub with_valid : {are_words : List ℕ → Type 0} {h : HashState} {tail : List ℕ} → IsHashState are_words h → length tail < 64
     → All (λ b. b < 256) tail → IsHashState are_words (with_tail h tail)
 with_valid valid short bytes = record { words = valid.words; count = valid.count; tail = record { short = short; bytes = bytes } }
 
-pub own_core : {are_words : List ℕ → Type 0} {h : HashState} → IsHashState are_words h → IsWithoutTail are_words (with_tail h [])
-own_core valid = record { state = with_valid valid (omega arith) (search rules); no_tail = refl }
+-- the bytes that a hasher is kept as are those of its core, whatever the tail, and those of its tail
+module _ {are_words : List ℕ → Type 0} {output : List ℕ → List ℕ} {size n mid : ℕ} {h : HashState}
+    (told : IsInjectiveOutput are_words output size) (core_size : n ≡ size + 8) (valid : IsHashState are_words h)
+    (kept : List ℕ) (kept_size : length kept ≡ n + 64) (same : core_and_tail output h ≡ cleared n kept) (is_mid : mid ≡ n) where
+  pub kept_parts : {front back : List ℕ} → front ≡ take mid kept → back ≡ drop mid kept
+      → ((tail : List ℕ) → output_and_count output (with_tail h tail) ≡ front)
+      × (back ≡ length h.tail ∷ h.tail ++ drop (suc (length h.tail)) back)
+  unfolding output_and_count
+  kept_parts {front} {back} is_front is_back =
+      let front_is = rw is_mid at is_front in
+      let back_is = rw is_mid at is_back in
+      let held : length (output_and_count output h) ≡ length front =
+      omega (arith, length-output_and_count told h valid, ap length front_is, length-take n kept) in
+      let parts =
+      same_parts (output_and_count output h) front (tail_bytes h.tail) (cleared_tail back) held
+      (sym (core_and_tail-split output h) ∙ rw (front_is, back_is) same) in
+      (λ tail. parts.0, kept_tail h.tail back (omega (arith, ap length back_is, length-drop n kept)) valid.tail.short parts.1)
+
+  pub kept_core : {front : List ℕ} → front ≡ take mid kept
+      → IsWithoutTail are_words (with_tail h []) × (output_and_count output (with_tail h []) ≡ front)
+  kept_core is = (record { state = with_valid valid (omega arith) (search rules); no_tail = refl }, (kept_parts is refl).0 [])
+
+  -- a search finds this by the saved bytes
+  pub kept_length : {back : List ℕ} → back ≡ drop mid kept
+      → (core_and_tail output h ≡ core_and_tail output h) × (get_or back 0 0 ≡ length h.tail)
+  kept_length is = (refl, ap (λ (bs : List ℕ). get_or bs 0 0) (kept_parts refl is).1)
 
 pub cleared_front : (kept : List ℕ) → length kept ≡ 64 → get_or kept 0 0 < 64
     → tail_bytes (take (get_or kept 0 0) (drop 1 kept)) ≡ cleared_tail kept

@@ -128,7 +128,7 @@ impl<F: ResumableFunction> Kept for BlockHasher<F> {
     }
 
     #[inline(always)]
-    #[tactic(auto, using(crate::proofs::KeptBytes::cleared_front, ripemd_block::proofs::Absorbing::slice_from), unfolding(ripemd_block::specs::States::output_and_count, ripemd_block::specs::States::core_and_tail))]
+    #[tactic(auto, using(crate::proofs::KeptBytes::kept_length, crate::proofs::KeptBytes::cleared_front, ripemd_block::proofs::Absorbing::slice_from), unfolding(ripemd_block::specs::States::output_and_count, ripemd_block::specs::States::core_and_tail))]
     fn load_kept(kept: &[u8]) -> Option<BlockHasher<F>> {
         let (core, tail) = kept.split_at(<F::SavedCore as ByteArray>::LEN);
         let Ok(core) = BlockCore::<F>::load_slice(core) else {
@@ -172,6 +172,7 @@ impl<F: ResumableFunction> Kept for BlockHasher<F> {
 
 // The length of the tail of the hasher that is kept as these bytes; `None` exactly if there is none.
 #[inline(always)]
+#[tactic(auto, using(crate::proofs::KeptBytes::kept_length))]
 fn tail_len<F: ResumableFunction>(kept: &[u8]) -> Option<usize>
     requires { length kept.now ≡ F.SavedHasher.LEN }
     ensures some { IfSome result (λ len. HasTail (IsHashState F.are_words) (core_and_tail F.output)

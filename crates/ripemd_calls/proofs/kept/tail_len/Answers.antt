@@ -2,25 +2,17 @@ use Rattle.std.proofs.Common.{◌≡◌, ◌+◌, ◌-◌, ◌∙◌, [], refl, 
 use Rattle.std.proofs.lemmas.List.{length-drop, length-take-le}
 use Rattle.ripemd.specs.States.{with_tail, output_and_count}
 use Rattle.ripemd_block.specs.Laws.Saved.{core_and_tail-split}
-use Rattle.ripemd_calls.proofs.KeptBytes.{cleared_front, kept_parts, own_core, with_valid}
+use Rattle.ripemd_calls.proofs.KeptBytes.{cleared_front, kept_core, with_valid}
 use Rattle.ripemd_calls.proofs.kept.tail_len.Goals as goal
 
 -- the first bytes of a hasher are its core's
 pub returns-in_default-clause-none : goal.returns-in_default-clause-none
 returns-in_default-clause-none g c h valid same =
     let r = g.met.F.ResumableFunction in
-    c.in_default.ensures.err (with_tail h []) (own_core valid)
-    ((kept_parts r.injective_output r.saved_core_size valid c.args.kept.now (c.requires ∙ r.saved_hasher_size) same c.LEN.ensures
-    c.split_at.ensures.front c.split_at.ensures.back).0 [])
-
--- and then comes the length of its tail
-pub returns-then-len-ge64-clause-none : goal.returns-then-len-ge64-clause-none
-returns-then-len-ge64-clause-none g c h valid same =
-    let r = g.met.F.ResumableFunction in
-    let parts =
-    kept_parts r.injective_output r.saved_core_size valid c.args.kept.now (c.requires ∙ r.saved_hasher_size) same c.LEN.ensures
-    c.split_at.ensures.front c.split_at.ensures.back in
-    omega (arith, c.if-len-ge64.true, ap (λ bs. get_or bs 0 0) parts.1, valid.tail.short)
+    let core =
+    kept_core r.injective_output r.saved_core_size valid c.args.kept.now (c.requires ∙ r.saved_hasher_size) same c.LEN.ensures
+    c.split_at.ensures.front in
+    c.in_default.ensures.err (with_tail h []) core.0 core.1
 
 pub returns-clause-some : goal.returns-clause-some
 unfolding output_and_count
