@@ -1,8 +1,7 @@
 -- Kept bytes tell their state, so that what follows of it is kept again.
-use Rattle.std.proofs.Common.{◌≡◌, ℕ, ◌+◌, ◌-◌, List, ◌++◌, length, drop, IsTrue, IsFalse, Bool, true, false, rules, sym, ap, subst, ◌∙◌, arith}
-use Rattle.std.proofs.lemmas.List.{take_at, drop_at, drop-drop}
+use Rattle.std.proofs.Common.{◌≡◌, ℕ, List, ◌++◌, IsTrue, IsFalse, Bool, true, false, rules, sym, ◌∙◌}
 use Rattle.ripemd_calls.specs.KeptBytes.{IsSaved, IsAppended}
-use Rattle.ripemd_calls.specs.KeptStates.{Updates, kept_in}
+use Rattle.ripemd_calls.specs.KeptStates.{Updates}
 
 -- the state after a piece, if the bytes were those of a saved state
 pub updated : {S : Type 0} {is_valid : S → Type 0} {state_bytes : S → List ℕ}

@@ -1,4 +1,4 @@
-use Rattle.std.proofs.Common.{◌≡◌, ◌+◌, ◌∙◌, length, refl, sym, arith}
+use Rattle.std.proofs.Common.{◌≡◌, ◌+◌, ◌∙◌, length, refl, sym}
 use Rattle.ripemd_calls.proofs.KeptHmac.{cleared-both}
 use Rattle.ripemd_calls.proofs.kept.HmacBlockHasherKept.update_kept.Goals as goal
 
