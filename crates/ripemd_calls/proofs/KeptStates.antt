@@ -1,19 +1,7 @@
 -- Kept bytes tell their state, so that what follows of it is kept again.
-use Rattle.std.proofs.Common.{◌≡◌, ℕ, ◌+◌, ◌-◌, List, ◌++◌, length, drop, IsTrue, IsFalse, Bool, true, false, rules, sym, ap, subst, ◌∙◌, arith}
-use Rattle.std.proofs.lemmas.List.{take_at, drop_at, drop-drop}
+use Rattle.std.proofs.Common.{◌≡◌, ℕ, List, ◌++◌, IsTrue, IsFalse, Bool, true, false, rules, sym, ◌∙◌}
 use Rattle.ripemd_calls.specs.KeptBytes.{IsSaved, IsAppended}
-use Rattle.ripemd_calls.specs.KeptStates.{Updates, kept_in}
-
--- the kept bytes follow a mark, and others follow them
-module _ (mark kept behind : List ℕ) (size : ℕ) (one : length mark ≡ 1) (all : length kept ≡ size) where
-  pub kept_there : kept_in size (mark ++ (kept ++ behind)) ≡ kept
-  kept_there =
-      let left : 1 + size - 1 ≡ size = omega arith in
-      rw (left, drop_at mark (kept ++ behind) 1 one) (take_at kept behind size all)
-
-  pub behind_there : drop (1 + size) (mark ++ (kept ++ behind)) ≡ behind
-  behind_there =
-      sym (drop-drop size 1 (mark ++ (kept ++ behind))) ∙ ap (drop size) (drop_at mark (kept ++ behind) 1 one) ∙ drop_at kept behind size all
+use Rattle.ripemd_calls.specs.KeptStates.{Updates}
 
 -- the state after a piece, if the bytes were those of a saved state
 pub updated : {S : Type 0} {is_valid : S → Type 0} {state_bytes : S → List ℕ}
@@ -23,18 +11,16 @@ pub updated : {S : Type 0} {is_valid : S → Type 0} {state_bytes : S → List �
     → (IsTrue done → IsAppended is_valid state_bytes fed (cleared old) piece (cleared new))
     → (IsFalse done → (s : S) → is_valid s → ¬ (state_bytes s ≡ cleared old))
     → Updates (λ s kept. IsSaved is_valid state_bytes s (cleared kept)) fed old piece new done
-updated {S} {is_valid} {state_bytes} injective {fed} twice cleared {old} {piece} {new} true appended refused =
+updated injective {fed = fed} twice cleared {piece = piece} true appended refused =
     let added = appended (search rules) in
-    let of_state : (s : S) → IsSaved is_valid state_bytes s (cleared old) → IsSaved is_valid state_bytes (fed s piece) (cleared new) =
-    λ s is. subst (λ (t : S). IsSaved is_valid state_bytes (fed t piece) (cleared new))
-    (injective added.state s added.before.valid is.valid (added.before.saved ∙ sym is.saved)) added.after in
+    let before = added.before in
     record {
-      state = λ s is. (search rules, of_state s is);
+      state = λ s is. (search rules, rw (injective s added.state is.valid before.valid (is.saved ∙ sym before.saved)) added.after);
       message = λ start message is. (
         search rules,
-        subst (λ (t : S). IsSaved is_valid state_bytes t (cleared new)) (twice start message piece) (of_state (fed start message) is),
+        rw (← twice start message piece, injective (fed start message) added.state is.valid before.valid (is.saved ∙ sym before.saved)) added.after,
       );
-      refused = (λ no. absurd (search (rules, no)), λ none. absurd (none added.state added.before));
+      refused = (λ no. absurd (search (rules, no)), λ none. absurd (none added.state before));
     }
 updated injective twice cleared false appended refused =
     let none = refused (search rules) in

@@ -111,6 +111,7 @@ impl<F: ResumableFunction> Kept for BlockHasher<F> {
         <F::Digest as ByteArray>::LEN as u8
     }
 
+    #[tactic(auto, using(crate::proofs::KeptBytes::saving))]
     fn load_from(saved: &[u8]) -> Result<BlockHasher<F>, DeserializeStateError> {
         BlockHasher::load_slice(saved)
     }
@@ -126,6 +127,7 @@ impl<F: ResumableFunction> Kept for BlockHasher<F> {
     }
 
     #[inline(always)]
+    #[tactic(auto, using(crate::proofs::KeptBytes::kept_length, crate::proofs::KeptBytes::cleared_front, ripemd_block::proofs::Absorbing::slice_from), unfolding(ripemd_block::specs::States::output_and_count, ripemd_block::specs::States::core_and_tail))]
     fn load_kept(kept: &[u8]) -> Option<BlockHasher<F>> {
         let (core, tail) = kept.split_at(<F::SavedCore as ByteArray>::LEN);
         let Ok(core) = BlockCore::<F>::load_slice(core) else {
@@ -169,6 +171,7 @@ impl<F: ResumableFunction> Kept for BlockHasher<F> {
 
 // The length of the tail of a kept hasher; `None` exactly if there is none.
 #[inline(always)]
+#[tactic(auto, using(crate::proofs::KeptBytes::kept_length))]
 fn tail_len<F: ResumableFunction>(kept: &[u8]) -> Option<usize>
     requires { length kept.now ≡ F.SavedHasher.LEN }
     ensures some { IfSome result (λ len. HasTail (IsHashState F.are_words) (core_and_tail F.output)
@@ -257,6 +260,7 @@ impl<F: ResumableFunction> Kept for Hmac<BlockHasher<F>> {
         128u8.wrapping_add(<F::Digest as ByteArray>::LEN as u8)
     }
 
+    #[tactic(auto, using(crate::proofs::KeptHmac::saving_hmac))]
     fn load_from(saved: &[u8]) -> Result<Hmac<BlockHasher<F>>, DeserializeStateError> {
         Hmac::load_slice(saved)
     }
@@ -270,6 +274,7 @@ impl<F: ResumableFunction> Kept for Hmac<BlockHasher<F>> {
     }
 
     #[inline(always)]
+    #[tactic(auto, using(crate::proofs::KeptHmac::inner_half, crate::proofs::KeptHmac::outer_half))]
     fn load_kept(kept: &[u8]) -> Option<Hmac<BlockHasher<F>>> {
         let (inner, outer) = kept.split_at(<F::SavedHasher as ByteArray>::LEN);
         Some(Hmac::from_hashers(
@@ -284,6 +289,7 @@ impl<F: ResumableFunction> Kept for Hmac<BlockHasher<F>> {
         BlockHasher::<F>::clear(outer);
     }
 
+    #[tactic(auto, using(crate::proofs::KeptHmac::inner_half, crate::proofs::KeptHmac::outer_half))]
     fn update_kept(kept: &mut [u8], bytes: &[u8]) -> bool {
         let (inner, outer) = kept.split_at_mut(<F::SavedHasher as ByteArray>::LEN);
         match tail_len::<F>(outer) {

@@ -18,15 +18,13 @@ pieces : (bits : ℕ) (v : Parameters) {digest : List ℕ} (any first next : Lis
     → 8 * digest_size v ≡ bits → hexadecimal (ripemd v abc) ≡ digest
     → InitsState bits any first begun → UpdatesState first abc next fed
     → IsTrue begun × IsTrue fed × Gives (FinalizesState next) (digest_size v) digest
-pieces bits v any first next begun fed is eight computed init update =
+pieces bits v {digest} any first next begun fed is eight computed init update =
     let inits = rw is at init in
     let call = rw (inits.marked, eight, is) at update in
-    let after = call.kept.message (new_state v) [] inits.kept in (
-      inits.yes,
-      after.0,
-      λ new done does. written (length-range_with_len 0 (digest_size v)) computed
-          ((rw (call.mark ∙ inits.marked, eight, is) at does).message tt abc after.1),
-    )
+    let all = call.kept.message (new_state v) [] inits.kept in
+    let gives : Gives (FinalizesState next) (digest_size v) digest = λ new done does.
+    written (length-range_with_len 0 (digest_size v)) computed ((rw (call.mark ∙ inits.marked, eight, is) at does).message tt abc all.1) in
+    (inits.yes, all.0, gives)
 
 pub returns-clause-digests : goal.returns-clause-digests
 unfolding registers_after lines_after compress with_padding blocks hash

@@ -1,42 +1,13 @@
-use Rattle.std.proofs.Common.{◌≡◌, ◌∙◌, refl, length, drop, arith}
-use Rattle.std.proofs.lemmas.List.{length-drop}
-use Rattle.ripemd.specs.States.{output_and_count, tail_bytes}
-use Rattle.ripemd_block.specs.Laws.Saved.{core_and_tail-split}
-use Rattle.ripemd_block.proofs.Absorbing.{slice_from}
-use Rattle.ripemd_calls.specs.KeptBytes.{cleared_tail}
-use Rattle.ripemd_calls.proofs.KeptBytes.{back_size, cleared_front, kept_length, no_core}
+use Rattle.std.proofs.Common.{◌∙◌, []}
+use Rattle.ripemd.specs.States.{with_tail}
+use Rattle.ripemd_calls.proofs.KeptBytes.{kept_core}
 use Rattle.ripemd_calls.proofs.kept.BlockHasherKept.load_kept.Goals as goal
 
--- a hasher's first bytes are its core's
+-- the first bytes of a hasher are its core's
 pub returns-in_default-clause-none : goal.returns-in_default-clause-none
 returns-in_default-clause-none g c h valid same =
     let r = g.met.F.ResumableFunction in
-    no_core r.injective_output h valid g.F.SavedCore.ByteArray.LEN r.saved_core_size c.args.kept.now same c.split_at.result.0.now
-    (rw c.LEN.ensures at c.split_at.ensures.front) c.in_default.ensures.err
-
--- the others are its tail's
-pub returns-in_default-try_front-clause-none : goal.returns-in_default-try_front-clause-none
-returns-in_default-try_front-clause-none g c h valid same =
-    let r = g.met.F.ResumableFunction in
-    let n = g.F.SavedCore.ByteArray.LEN in
-    let back = c.split_at.result.1.now in
-    let back_is = rw c.LEN.ensures at c.split_at.ensures.back in
-    let len = kept_length r.injective_output h valid n r.saved_core_size c.args.kept.now same back back_is in
-    let size = back_size r.injective_output h valid n r.saved_core_size c.args.kept.now same back back_is in
-    let left : length (drop 1 back) ≡ 63 = omega (arith, length-drop 1 back, size) in
-    rw (slice_from 1 back) at c.in_default-try_front.ensures.value
-    (omega (arith, len, valid.tail.short), omega (arith, len, valid.tail.short, left), omega (arith, left))
-
-pub returns-clause-some : goal.returns-clause-some
-unfolding output_and_count
-returns-clause-some g c =
-    let r = g.met.F.ResumableFunction in
-    let back = c.split_at.result.1.now in
-    let front_is = rw c.LEN.ensures at c.split_at.ensures.front in
-    let back_is = rw c.LEN.ensures at c.split_at.ensures.back in
-    let size : length back ≡ 64 =
-    omega (arith, c.split_at.ensures.back_len, c.requires, c.LEN.ensures, r.saved_hasher_size) in
-    let held = rw (slice_from 1 back) at c.in-Some.ensures.value in
-    let is : tail_bytes c.in-Some.buffer ≡ cleared_tail back = rw held.1 (cleared_front back size held.0.0) in
-    core_and_tail-split g.F.ListBlockFunction.output c.from_parts.result
-    ∙ rw (c.from_parts.ensures, c.in-Ok.ensures.ok, is, front_is, back_is) refl
+    let core =
+    kept_core r.injective_output r.saved_core_size valid c.args.kept.now (c.requires ∙ r.saved_hasher_size) same c.LEN.ensures
+    c.split_at.ensures.front in
+    c.in_default.ensures.err (with_tail h []) core.0 core.1

@@ -1,5 +1,5 @@
-use Rattle.std.proofs.Common.{◌≡◌, ◌+◌, ◌∙◌, length, refl, sym, arith}
-use Rattle.ripemd_calls.proofs.KeptHmac.{cleared-both, no_inner, no_outer}
+use Rattle.std.proofs.Common.{◌≡◌, ◌+◌, ◌∙◌, length, refl, sym}
+use Rattle.ripemd_calls.proofs.KeptHmac.{cleared-both}
 use Rattle.ripemd_calls.proofs.kept.HmacBlockHasherKept.update_kept.Goals as goal
 
 -- the inner state takes the piece in, and the outer one stays
@@ -24,19 +24,3 @@ returns-in-Some-clause-appended g c done =
         saved = rw (added.after.saved, outer.saved.saved) (sym (cleared-both n c.update_kept.new.kept c.split_at_mut-inner.result.1.now size));
       };
     }
-
--- the first bytes of a state keep its inner hash state
-pub returns-in-Some-clause-refused : goal.returns-in-Some-clause-refused
-returns-in-Some-clause-refused g c end =
-    let r = g.met.F.ResumableFunction in
-    no_inner r.injective_output g.F.SavedCore.ByteArray.LEN r.saved_core_size c.args.kept.now
-    (omega (arith, c.requires, r.saved_hmac_size, r.saved_hasher_size)) c.split_at_mut-inner.result.0.now
-    (rw (c.LEN.ensures ∙ r.saved_hasher_size) at c.split_at_mut-inner.ensures.front) (c.update_kept.ensures.refused end)
-
--- and the others its outer one
-pub returns-in-None-clause-refused : goal.returns-in-None-clause-refused
-returns-in-None-clause-refused g c end =
-    let r = g.met.F.ResumableFunction in
-    no_outer r.injective_output g.F.SavedCore.ByteArray.LEN r.saved_core_size c.args.kept.now
-    (omega (arith, c.requires, r.saved_hmac_size, r.saved_hasher_size)) c.split_at_mut-inner.result.1.now
-    (rw (c.LEN.ensures ∙ r.saved_hasher_size) at c.split_at_mut-inner.ensures.back) c.in-None.ensures.none
