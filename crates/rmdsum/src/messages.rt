@@ -1,6 +1,7 @@
 //! What the program says on standard error.
 
-ghost use Rattle.std.specs.Prelude.{◌≡◌, IfErr, None, OnOk, Some, ⊤};
+ghost use Rattle.std.specs.Prelude.{◌≡◌, IfErr, List, None, OnOk, Option, Some, ℕ, ⊤};
+ghost use Rattle.ripemd_files.specs.Said.{Adds};
 
 use crate::arguments::program;
 use crate::quoting::{Charset, quoteaf, quotef};
@@ -230,14 +231,18 @@ impl Log for Console<'_> {
 
 // A buffered stream.
 trait Output {
-    // Whether the buffer is empty.
+    // The bytes that were put, where that is known, and whether the buffer is empty.
+    ghost sent: { Self → Option (List ℕ) } = { λ output. None };
+
     ghost is_flushed: { Self → Type 0 } = { λ output. ⊤ };
 
     // Writes bytes, perhaps only to the buffer.
-    fn put(&mut self, bytes: &[u8]) -> io::Result<()>;
+    fn put(&mut self, bytes: &[u8]) -> io::Result<()>
+        ensures { OnOk result (Adds (sent self.old) (sent self.new) bytes.now) };
 
     fn flush(&mut self) -> io::Result<()>
-        ensures { OnOk result (is_flushed self.new) };
+        ensures sent { OnOk result (sent self.new ≡ sent self.old) }
+        ensures flushed { OnOk result (is_flushed self.new) };
 }
 
 impl Output for Stdout {
@@ -251,7 +256,8 @@ impl Output for Stdout {
 }
 
 fn write_lines<O: Output>(out: &mut O, lines: &[u8]) -> io::Result<()>
-    ensures { OnOk result (O.is_flushed out.new) }
+    ensures sent { OnOk result (Adds (O.sent out.old) (O.sent out.new) lines.now) }
+    ensures flushed { OnOk result (O.is_flushed out.new) }
 {
     out.put(lines)?;
     out.flush()
