@@ -10,11 +10,12 @@
 
 #include "nattizhu.h"
 
-/* ---- Digests. A context is a nattizhu_state, whose first byte is the size of its digests. Before
- * init it is zeros, which are no state. */
+/* ---- Digests. A context is a nattizhu_state, whose first byte is the size of its digests; how many
+ * bytes wait for a block stands behind its chaining value and count. Before init it is zeros, which
+ * are no state. */
 
-/* The answer of a call on a message, after what it left of that is wiped: in an HMAC by OpenSSL it
- * is of the key. */
+/* The answer of a call that hashed a block, after what it left of the message is wiped: in an HMAC by
+ * OpenSSL it is of the key. */
 static int wiped(int answer) {
   nattizhu_wipe(NULL, 0);
   return answer;
@@ -34,7 +35,10 @@ static void *copy_context(void *context) { return OPENSSL_memdup(context, sizeof
 
 static OSSL_FUNC_digest_update_fn update;
 static int update(void *context, const unsigned char *bytes, size_t length) {
-  return wiped(nattizhu_update(context, bytes, length));
+  const nattizhu_state *state = context;
+  const size_t waiting = state->bytes[1 + state->bytes[0] + 8];
+  const int answer = nattizhu_update(context, bytes, length);
+  return length < NATTIZHU_BLOCK_SIZE - waiting ? answer : wiped(answer);
 }
 
 static OSSL_FUNC_digest_final_fn final;

@@ -57,10 +57,10 @@ bool nattizhu_pbkdf2_list_nonnull(nattizhu_variant, const nattizhu_message *, si
                                   const nattizhu_message *, size_t, uint32_t, size_t, uint8_t *,
                                   size_t);
 
-/* How many bytes of the stack below its caller a call uses at most, in any build: one that copies a
- * state, appends to one, ends one, makes a tag, or works on many or makes a key.
- * tests/secrets/left.c measures them. */
-enum { COPY = 256, APPEND = 1280, END = 1664, TAG = 2176, MANY = 8192 };
+/* How many bytes of the stack below its caller a call uses at most, as tests/machine shows of each
+ * build, in multiples of 64: one that copies a state, appends to one, ends one, hashes a message,
+ * makes a tag, works on many, or makes keys. */
+enum { COPY = 64, APPEND = 1024, END = 1472, HASH = 1280, TAG = 2048, MANY = 5120, KEYS = 7424 };
 
 /* Overwrites so many bytes with zeros. The compiler can't leave that out: it may not know that the
  * function is still memset. */
@@ -70,10 +70,8 @@ static void wipe(void *pointer, size_t size) {
     set(pointer, 0, size);
 }
 
-#ifdef __x86_64__
-/* Whether there are the registers of AVX-512, by which the C library copies. */
-static bool has_avx512;
-#endif
+/* The registers for vectors that there are: the C library copies by all of them. */
+static enum { SSE, AVX, AVX512 } vectors;
 
 /* Runs when the program starts. The loader finds here the functions of the C library that calls
  * use: where it does so at their first use, it stores registers on the stack, deeper than calls
@@ -85,67 +83,106 @@ __attribute__((constructor)) static void prepare(void) {
   memmove(bytes, bytes + 1, none);
   memset(bytes, 0, none);
 #ifdef __x86_64__
-  unsigned int eax, ebx, ecx, edx;
-  if (__get_cpuid(1, &eax, &ebx, &ecx, &edx) && (ecx & bit_OSXSAVE)) {
-    __asm__("xgetbv" : "=a"(eax), "=d"(edx) : "c"(0));
-    has_avx512 = (eax & 0xe0) == 0xe0 && __get_cpuid_count(7, 0, &eax, &ebx, &ecx, &edx) &&
-                 (ebx & bit_AVX512VL);
-  }
-#endif
-}
-
-/* Clears the registers that a call may change. Of AVX-512 an instruction of 128 bits clears all
- * 512; after one of 512 the processor is slower for a while. */
-static inline void clear_registers(void) {
-#ifdef __x86_64__
-  if (has_avx512)
-    __asm__ volatile(".irp n,16,17,18,19,20,21,22,23,24,25,26,27,28,29,30,31\n\t"
-                     "vpxorq %xmm\\n, %xmm\\n, %xmm\\n\n\t"
-                     ".endr");
-#ifdef __AVX__
-  __asm__ volatile("vzeroall"
-#else
-  __asm__ volatile(".irp n,0,1,2,3,4,5,6,7,8,9,10,11,12,13,14,15\n\t"
-                   "pxor %%xmm\\n, %%xmm\\n\n\t"
-                   ".endr"
-#endif
-                   :
-                   :
-                   : "xmm0", "xmm1", "xmm2", "xmm3", "xmm4", "xmm5", "xmm6", "xmm7", "xmm8", "xmm9",
-                     "xmm10", "xmm11", "xmm12", "xmm13", "xmm14", "xmm15");
-  __asm__ volatile(".irp n,eax,ecx,edx,esi,edi,r8d,r9d,r10d,r11d\n\t"
-                   "xor %%\\n, %%\\n\n\t"
-                   ".endr"
-                   :
-                   :
-                   : "rax", "rcx", "rdx", "rsi", "rdi", "r8", "r9", "r10", "r11", "cc");
-#else
-  __asm__ volatile(".irp n,0,1,2,3,4,5,6,7,16,17,18,19,20,21,22,23,24,25,26,27,28,29,30,31\n\t"
-                   "movi v\\n\\().2d, #0\n\t"
-                   ".endr\n\t"
-                   ".irp n,8,9,10,11,12,13,14,15\n\t" /* of which a call keeps the other half */
-                   "mov v\\n\\().d[1], xzr\n\t"
-                   ".endr\n\t"
-                   ".irp n,0,1,2,3,4,5,6,7,8,9,10,11,12,13,14,15,16,17\n\t"
-                   "mov x\\n, xzr\n\t"
-                   ".endr"
-                   :
-                   :
-                   : "v0", "v1", "v2", "v3", "v4", "v5", "v6", "v7", "v16", "v17", "v18", "v19",
-                     "v20", "v21", "v22", "v23", "v24", "v25", "v26", "v27", "v28", "v29", "v30",
-                     "v31", "x0", "x1", "x2", "x3", "x4", "x5", "x6", "x7", "x8", "x9", "x10",
-                     "x11", "x12", "x13", "x14", "x15", "x16", "x17");
+  unsigned int eax, ebx, ecx, edx, enabled = 0;
+  if (__get_cpuid(1, &eax, &ebx, &ecx, &edx) && (ecx & bit_OSXSAVE) && (ecx & bit_AVX))
+    __asm__("xgetbv" : "=a"(enabled), "=d"(edx) : "c"(0));
+  if ((enabled & 6) == 6)
+    vectors = AVX;
+  if ((enabled & 0xe6) == 0xe6 && __get_cpuid_count(7, 0, &eax, &ebx, &ecx, &edx) &&
+      (ebx & bit_AVX512VL))
+    vectors = AVX512;
 #endif
 }
 
 /* Returns this answer of a call, after it has cleared what the call left in so many bytes below its
- * caller and in registers. */
-__attribute__((noinline)) static bool wiped(size_t depth, bool answer) {
-  uint8_t dead[MANY];
-  clear_registers();
-  wipe(dead + MANY - depth, depth);
-  return answer;
-}
+ * caller and in the registers that a call may change. It is in assembly, since a compiler may leave a
+ * gap between what a function has on the stack and its caller. Of AVX-512 an instruction of 128 bits
+ * clears all 512 of a register; after one of 512 the processor is slower for a while. */
+__attribute__((visibility("hidden"))) bool nattizhu_wiped(size_t depth, bool answer, int vectors);
+#ifdef __x86_64__
+__asm__(".text\n"
+        ".globl nattizhu_wiped\n"
+        ".hidden nattizhu_wiped\n"
+        ".type nattizhu_wiped, @function\n"
+        "nattizhu_wiped:\n"
+        "  .cfi_startproc\n"
+        "  movzbl %sil, %eax\n"
+        "  mov %rsp, %rcx\n"
+        "  .cfi_def_cfa_register %rcx\n"
+        "  sub %rdi, %rsp\n"
+        "  mov %rsp, %rsi\n"
+        "  test %edx, %edx\n"
+        "  jnz 2f\n"
+        "  .irp n,0,1,2,3,4,5,6,7,8,9,10,11,12,13,14,15\n"
+        "  pxor %xmm\\n, %xmm\\n\n"
+        "  .endr\n"
+        "1:\n"
+        "  .irp n,0,16,32,48\n"
+        "  movups %xmm0, \\n(%rsi)\n"
+        "  .endr\n"
+        "  add $64, %rsi\n"
+        "  cmp %rcx, %rsi\n"
+        "  jne 1b\n"
+        "  jmp 4f\n"
+        "2:\n"
+        "  .irp n,0,1,2,3,4,5,6,7,8,9,10,11,12,13,14,15\n"
+        "  vpxor %xmm\\n, %xmm\\n, %xmm\\n\n"
+        "  .endr\n"
+        "3:\n"
+        "  vmovups %ymm0, (%rsi)\n"
+        "  vmovups %ymm0, 32(%rsi)\n"
+        "  add $64, %rsi\n"
+        "  cmp %rcx, %rsi\n"
+        "  jne 3b\n"
+        "  vzeroupper\n"
+        "  cmp $2, %edx\n"
+        "  jne 4f\n"
+        "  .irp n,16,17,18,19,20,21,22,23,24,25,26,27,28,29,30,31\n"
+        "  vpxorq %xmm\\n, %xmm\\n, %xmm\\n\n"
+        "  .endr\n"
+        "4:\n"
+        "  mov %rcx, %rsp\n"
+        "  .cfi_def_cfa_register %rsp\n"
+        "  .irp n,ecx,edx,esi,edi,r8d,r9d,r10d,r11d\n"
+        "  xor %\\n, %\\n\n"
+        "  .endr\n"
+        "  ret\n"
+        "  .cfi_endproc\n"
+        ".size nattizhu_wiped, . - nattizhu_wiped\n");
+#else
+__asm__(".text\n"
+        ".globl nattizhu_wiped\n"
+        ".hidden nattizhu_wiped\n"
+        ".type nattizhu_wiped, %function\n"
+        "nattizhu_wiped:\n"
+        "  .cfi_startproc\n"
+        "  hint #34\n" /* where a jump may lead, if the processor checks that */
+        "  mov x2, sp\n"
+        "  .cfi_def_cfa_register x2\n"
+        "  sub x3, x2, x0\n"
+        "  mov sp, x3\n"
+        "  .irp n,0,1,2,3,4,5,6,7,16,17,18,19,20,21,22,23,24,25,26,27,28,29,30,31\n"
+        "  movi v\\n\\().2d, #0\n"
+        "  .endr\n"
+        "  .irp n,8,9,10,11,12,13,14,15\n"
+        "  mov v\\n\\().d[1], xzr\n" /* a call keeps the other half */
+        "  .endr\n"
+        "1:\n"
+        "  stp q0, q0, [x3], #32\n"
+        "  cmp x3, x2\n"
+        "  b.ne 1b\n"
+        "  mov sp, x2\n"
+        "  .cfi_def_cfa_register sp\n"
+        "  and w0, w1, #255\n"
+        "  .irp n,1,2,3,4,5,6,7,8,9,10,11,12,13,14,15,16,17,18\n"
+        "  mov x\\n, xzr\n"
+        "  .endr\n"
+        "  ret\n"
+        "  .cfi_endproc\n"
+        ".size nattizhu_wiped, . - nattizhu_wiped\n");
+#endif
+
+static bool wiped(size_t depth, bool answer) { return nattizhu_wiped(depth, answer, vectors); }
 
 /* Whether so many bytes may be read. A null pointer that leads to nothing is replaced. */
 static bool readable(const uint8_t **bytes, size_t length) {
@@ -207,7 +244,7 @@ size_t nattizhu_hmac_state_size(void) { return sizeof(nattizhu_hmac_state); }
 
 void nattizhu_wipe(void *pointer, size_t size) {
   wipe(pointer, size);
-  wiped(TAG, true);
+  wiped(HASH, true);
 }
 
 bool nattizhu_digest(nattizhu_variant variant, const uint8_t *message, size_t length,
@@ -231,8 +268,9 @@ static bool put_list(nattizhu_variant variant, const uint8_t *key, size_t key_le
              : nattizhu_list_nonnull(variant, WORDS, messages, count, outputs, outputs_length);
 }
 
-/* The same in groups, of messages whose pointers may be null where they lead to nothing. */
-static bool put_groups(nattizhu_variant variant, const uint8_t *key, size_t key_length,
+/* The same in groups, of messages whose pointers may be null where they lead to nothing. In a frame
+ * of its own, since `wiped` clears the stack below that of its caller. */
+__attribute__((noinline)) static bool put_groups(nattizhu_variant variant, const uint8_t *key, size_t key_length,
                        const nattizhu_message *messages, size_t count, uint8_t *outputs,
                        size_t outputs_length) {
   const size_t size = nattizhu_digest_size(variant);
@@ -317,9 +355,13 @@ bool nattizhu_hmac_init(nattizhu_variant variant, nattizhu_hmac_state *state, co
          wiped(TAG, nattizhu_hmac_init_nonnull(variant, state, key, key_length));
 }
 
+/* Bytes that only wait for a block leave little. How many wait stands in the inner saved state, behind
+ * its chaining value and count. */
 bool nattizhu_hmac_update(nattizhu_hmac_state *state, const uint8_t *bytes, size_t length) {
+  const size_t waiting = state->bytes[1 + (state->bytes[0] & 127) + 8];
   return readable(&bytes, length) &&
-         wiped(APPEND, nattizhu_hmac_update_nonnull(state, bytes, length));
+         wiped(length < NATTIZHU_BLOCK_SIZE - waiting ? COPY : APPEND,
+               nattizhu_hmac_update_nonnull(state, bytes, length));
 }
 
 bool nattizhu_hmac_final(const nattizhu_hmac_state *state, uint8_t *tag, size_t tag_length) {
@@ -348,28 +390,36 @@ bool nattizhu_pbkdf2(nattizhu_variant variant, const uint8_t *password, size_t p
                      size_t key_length) {
   return readable(&password, password_length) && readable(&salt, salt_length) &&
          writable(&key, key_length) &&
-         wiped(MANY, nattizhu_pbkdf2_nonnull(variant, password, password_length, salt, salt_length,
+         wiped(KEYS, nattizhu_pbkdf2_nonnull(variant, password, password_length, salt, salt_length,
                                              rounds, key, key_length));
+}
+
+/* Keys from lists in groups, as put_groups makes digests. The first group says whether it is
+ * allowed. */
+__attribute__((noinline)) static bool derive_groups(nattizhu_variant variant,
+                                                    const nattizhu_message *passwords,
+                                                    const nattizhu_message *salts, size_t count,
+                                                    uint32_t rounds, size_t size, uint8_t *keys) {
+  nattizhu_message password_group[GROUP], salt_group[GROUP];
+  for (size_t at = 0, n; at < count; at += n) {
+    n = next_group(password_group, passwords, at, count);
+    next_group(salt_group, salts, at, count);
+    if (!wiped(KEYS, nattizhu_pbkdf2_list_nonnull(variant, password_group, n, salt_group, n, rounds,
+                                                  size, keys + at * size, n * size)))
+      return false;
+  }
+  return true;
 }
 
 bool nattizhu_pbkdf2_list(nattizhu_variant variant, const nattizhu_message *passwords, size_t count,
                           const nattizhu_message *salts, size_t salt_count, uint32_t rounds,
                           size_t size, uint8_t *keys, size_t keys_length) {
-  nattizhu_message password_group[GROUP], salt_group[GROUP];
   bool nulls = false;
   if (salt_count != count || !is_product(keys_length, count, size) ||
       !writable(&keys, keys_length) || !readable_list(&passwords, count, &nulls) ||
       !readable_list(&salts, count, &nulls))
     return false;
-  if (!nulls)
-    return wiped(MANY, nattizhu_pbkdf2_list_nonnull(variant, passwords, count, salts, count, rounds,
-                                                    size, keys, keys_length));
-  for (size_t at = 0, n; at < count; at += n) { /* the first group says whether it is allowed */
-    n = next_group(password_group, passwords, at, count);
-    next_group(salt_group, salts, at, count);
-    if (!wiped(MANY, nattizhu_pbkdf2_list_nonnull(variant, password_group, n, salt_group, n, rounds,
-                                                  size, keys + at * size, n * size)))
-      return false;
-  }
-  return true;
+  return nulls ? derive_groups(variant, passwords, salts, count, rounds, size, keys)
+               : wiped(KEYS, nattizhu_pbkdf2_list_nonnull(variant, passwords, count, salts, count,
+                                                          rounds, size, keys, keys_length));
 }

@@ -121,16 +121,19 @@ pub fn hmac_list<D: Ripemd>(
 ) -> Result<(), InvalidLength> {
     fits(texts.len() == tags.len())?;
     // A long key is replaced by its digest first, so that no group hashes it again.
-    let digest;
-    let key = if key.len() > 64 {
-        digest = D::digest(key);
+    let mut digest = Output::<D>::default();
+    let short = if key.len() > 64 {
+        sys::digest::<D::Variant>(key, &mut digest);
         &digest
     } else {
         key
     };
     for (texts, tags) in texts.chunks(GROUP).zip(tags.chunks_mut(GROUP)) {
         let group = &group(texts)[..texts.len()];
-        taken(sys::hmac_list::<D::Variant>(key, group, tags));
+        taken(sys::hmac_list::<D::Variant>(short, group, tags));
+    }
+    if key.len() > 64 {
+        sys::wipe(&mut digest);
     }
     Ok(())
 }

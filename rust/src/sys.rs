@@ -91,8 +91,9 @@ pub fn bytes_of(blocks: &[Block]) -> &[u8] {
     unsafe { slice::from_raw_parts(blocks.as_ptr().cast(), size_of_val(blocks)) }
 }
 
-/// Overwrites bytes with zeros, which the compiler may not leave out.
-fn wipe(bytes: &mut [u8]) {
+/// Overwrites bytes with zeros, which the compiler may not leave out, and clears what calls for one
+/// message left on the stack and in registers.
+pub fn wipe(bytes: &mut [u8]) {
     extern "C" {
         fn nattizhu_wipe(_: *mut u8, _: usize);
     }
