@@ -12,7 +12,6 @@ static uint8_t stack[STACK] __attribute__((aligned(64)));
 // earlier, and afterwards it writes to a place those that a call may change.
 void call_on(uint8_t *top, void (*function)(void), uint8_t *place);
 
-#ifdef __x86_64__
 // Those of addresses and numbers, and what XSAVE writes, up to AVX-512.
 enum { GENERAL = 128, REGISTERS = GENERAL + 2688 };
 uint8_t cleared[2688] __attribute__((aligned(64))) = {[24] = 0x80, [25] = 0x1f};
@@ -50,41 +49,6 @@ __asm__(".text\n"
         "  pop %\\n\n"
         "  .endr\n"
         "  ret\n");
-#else
-enum { GENERAL = 256, REGISTERS = GENERAL + 32 * 16 };
-__asm__(".text\n"
-        "call_on:\n"
-        "  stp x29, x30, [sp, -96]!\n"
-        "  .irp n, 19,20,21,22,23,24,25,26,27,28\n"
-        "  str x\\n, [sp, 8 * (\\n - 17)]\n"
-        "  .endr\n"
-        "  .irp n, 21,22,23,24,25,26,27,28\n"
-        "  mov x\\n, xzr\n"
-        "  .endr\n"
-        "  mov x19, sp\n"
-        "  mov x20, x2\n"
-        "  mov sp, x0\n"
-        "  .irp n, 0,1,2,3,4,5,6,7,16,17,18,19,20,21,22,23,24,25,26,27,28,29,30,31\n"
-        "  movi v\\n\\().2d, #0\n"
-        "  .endr\n"
-        "  .irp n, 8,9,10,11,12,13,14,15\n"
-        "  mov v\\n\\().d[1], xzr\n"
-        "  .endr\n"
-        "  blr x1\n"
-        "  .irp n, 0,1,2,3,4,5,6,7,8,9,10,11,12,13,14,15,16,17\n"
-        "  str x\\n, [x20, 8 * \\n]\n"
-        "  .endr\n"
-        "  .irp n, "
-        "0,1,2,3,4,5,6,7,8,9,10,11,12,13,14,15,16,17,18,19,20,21,22,23,24,25,26,27,28,29,30,31\n"
-        "  str q\\n, [x20, 256 + 16 * \\n]\n"
-        "  .endr\n"
-        "  mov sp, x19\n"
-        "  .irp n, 28,27,26,25,24,23,22,21,20,19\n"
-        "  ldr x\\n, [sp, 8 * (\\n - 17)]\n"
-        "  .endr\n"
-        "  ldp x29, x30, [sp], 96\n"
-        "  ret\n");
-#endif
 
 // ---- What is left
 

@@ -1,5 +1,6 @@
 //! Calls of the crate for Rust on secrets, to be run under memcheck.
 //!   secrets [jump]        with `jump`, one depends on a digest
+//!   secrets left          without memcheck: what `hmac_list` leaves of a long key on the stack
 
 use nattizhu::{
     digest_each, digest_list, hmac_each, hmac_list, pbkdf2_hmac, pbkdf2_hmac_list, Digest, Hmac,
@@ -70,7 +71,39 @@ where
     }
 }
 
+/// Makes a call, and returns what then stands on the stack below.
+#[inline(never)]
+fn stack_after(call: impl FnOnce()) -> [u8; 16384] {
+    let mut found = [0; 16384];
+    call();
+    let end = core::ptr::addr_of!(found) as *const u8;
+    for (i, byte) in found.iter_mut().enumerate() {
+        *byte = unsafe { end.wrapping_sub(i + 1).read_volatile() };
+    }
+    found.reverse();
+    found
+}
+
+/// How often words of some bytes stand in others.
+fn words_in(stack: &[u8], bytes: &[u8]) -> usize {
+    let is_word = |four: &[u8]| bytes.chunks_exact(4).any(|word| word == four);
+    stack.windows(4).filter(|four| is_word(four)).count()
+}
+
+fn leave() {
+    let key: Vec<u8> = (0..100).map(|i| i * 7 + 3).collect();
+    let mut tags = [Default::default(); 3];
+    let after = stack_after(|| hmac_list::<Ripemd160>(&key, &[&b"abc"[..]; 3], &mut tags).unwrap());
+    let control = stack_after(|| assert_ne!(Ripemd160::digest(&key)[0], tags[0][0]));
+    let digest = Ripemd160::digest(&key);
+    assert_eq!(words_in(&after, &key) + words_in(&after, &digest), 0);
+    assert!(words_in(&control, &key) > 0);
+}
+
 fn main() {
+    if std::env::args().nth(1).as_deref() == Some("left") {
+        return leave();
+    }
     try_all::<Ripemd128>();
     try_all::<Ripemd160>();
     try_all::<Ripemd256>();
