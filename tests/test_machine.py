@@ -57,7 +57,7 @@ def fixture_modules(javascript, tmp_path_factory):
     need("wasm-dis", "binaryen")
     folder = tmp_path_factory.mktemp("modules")
     with tarfile.open(next(javascript.glob("nattizhu-*.tgz"))) as package:
-        package.extractall(folder, filter="data")
+        package.extractall(folder)
     return [folder / "package" / name for name in ("nattizhu.wasm", "ripemd160.wasm")]
 
 
