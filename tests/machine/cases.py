@@ -145,7 +145,7 @@ def records(caller, variant, name, *key_lengths):
     """Calls for records of one length."""
     size = size_of(variant)
     for count in caller.counts():
-        for length in [20] if count > 9 else caller.some([0, 1, 55, 64, 70], [55]):
+        for length in [20] if count > 9 else caller.some([0, 55, 64], [55]):
             with caller.trying(count, "records of", length, "bytes"):
                 key, one = made(caller, variant, key_lengths[count % len(key_lengths)])
                 every, out = caller.given("records", count * length), caller.place(count * size)
@@ -166,7 +166,7 @@ def lists_of(caller, variant, name, *key_lengths):
     """Calls for messages of lengths around a block, of which those of no bytes have null pointers, or none is null."""
     size = size_of(variant)
     for count in caller.counts():
-        for nulls in (False, True):
+        for nulls in [False, True] if count > 9 else [count % 4 in (1, 2)]:
             with caller.trying(count, "messages"):
                 key, one = made(caller, variant, key_lengths[nulls % len(key_lengths)])
                 lengths = [(0, 64, 3, 55, 56, 70, 1, 130, 20)[(7 * i + count) % 9] for i in range(count)]
@@ -216,7 +216,7 @@ def streams(caller, variant):
     """init, update, final and save."""
     size = size_of(variant)
     for first in caller.some(AROUND[:-1], [0, 20, 63]):
-        for second in caller.some([0, 1, 8, 60, 64, 65, 130], [0, 8, 65]):
+        for second in caller.some([0, 8, 64, 130], [0, 8, 65]):
             with caller.trying(first, "and", second, "bytes"):
                 message, state, out = caller.given("message", first + second), caller.place(STATE), caller.place(size)
                 caller.call("init", variant, state.at)
@@ -235,7 +235,7 @@ def load(caller, variant):
     """load, update, save and final of any state."""
     size = size_of(variant)
     for count, tail in tails(caller):
-        for more in caller.some([0, 1, 8, 63, 64, 71, 130], [0, 8, 71]):
+        for more in caller.some([0, 8, 64, 130], [0, 8, 71]):
             with caller.trying("a state of", count, "blocks and", tail, "bytes, and", more):
                 some, value, held = saved_state(caller, variant, count, tail, "the state")
                 before, state, message = caller.known(some), caller.place(STATE), caller.given("message", more)
@@ -329,8 +329,8 @@ def tags_of_lists(caller, variant):
 def tags_in_pieces(caller, variant):
     """hmac_init, hmac_update, hmac_final, hmac_verify and hmac_save."""
     size = size_of(variant)
-    for key_length in caller.some([0, 20, 64, 65, 200], [20, 65]):
-        for first in caller.some([0, 1, 20, 55, 63, 64, 65], [1, 63]):
+    for key_length in caller.some([0, 64, 65], [20, 65]):
+        for first in caller.some([0, 1, 55, 63, 64], [1, 63]):
             with caller.trying("a key of", key_length, "bytes, and", first, "and 70"):
                 key, text = caller.given("key", key_length, secret=True), caller.given("text", first + 70)
                 state, out, kept = caller.place(HMAC_STATE), caller.place(size), caller.place(2 * (size + 72))
@@ -352,7 +352,7 @@ def loaded_tags(caller, variant):
     """hmac_load, hmac_update, hmac_final, hmac_verify and hmac_save of any state."""
     size = size_of(variant)
     for count, tail in tails(caller):
-        for more in caller.some([0, 1, 64, 71], [1, 71]):
+        for more in (1, 71):
             with caller.trying("a state of", count, "blocks and", tail, "bytes, and", more):
                 inner, value, held = saved_state(caller, variant, count, tail, "the inner hasher")
                 outer, second, end = saved_state(caller, variant, count, tail // 2, "the outer hasher")
@@ -422,20 +422,21 @@ def lists_of_keys(caller, variant):
     """pbkdf2_list."""
     size = size_of(variant)
     for count in caller.counts():
-        for nulls, rounds, length in caller.some([(False, 2, size + 4), (True, 1, 16)], [(True, 2, 16)]):
-            with caller.trying(count, "passwords,", rounds, "rounds,", length, "bytes"):
-                if count > 100 and not (nulls and variant == 160):
-                    continue  # a group of 128 is the same of each variant
-                lengths = [(8, 100, 0, 64, 65)[i % 5] if count < 100 else 8 * (i % 40 > 0) for i in range(count)]
-                passwords = [NOWHERE if n == 0 and nulls else caller.given(f"password {i}", n, secret=True)
-                             for i, n in enumerate(lengths)]
-                salts = [NOWHERE if i % 7 == 3 and nulls else caller.given(f"salt {i}", 8 * (i % 3) + 1)
-                         for i in range(count)]
-                out = caller.place(count * length)
-                caller.call("pbkdf2_list", variant, *caller.messages(passwords), *caller.messages(salts), rounds, length,
-                            *out, clears=True)
-                caller.holds(out, [byte for password, salt in zip(passwords, salts)
-                                   for byte in pbkdf2(variant, password.bytes, salt.bytes, rounds, length)])
+        nulls = count % 4 in (1, 2)
+        rounds, length = (1, 16) if nulls else (2, size + 4)
+        if count > 100 and variant != 160:
+            continue  # a group of 128 is the same of each variant
+        with caller.trying(count, "passwords,", rounds, "rounds,", length, "bytes"):
+            lengths = [(8, 100, 0, 64, 65)[i % 5] if count < 100 else 8 * (i % 40 > 0) for i in range(count)]
+            passwords = [NOWHERE if n == 0 and nulls else caller.given(f"password {i}", n, secret=True)
+                         for i, n in enumerate(lengths)]
+            salts = [NOWHERE if i % 7 == 3 and nulls else caller.given(f"salt {i}", 8 * (i % 3) + 1)
+                     for i in range(count)]
+            out = caller.place(count * length)
+            caller.call("pbkdf2_list", variant, *caller.messages(passwords), *caller.messages(salts), rounds, length,
+                        *out, clears=True)
+            caller.holds(out, [byte for password, salt in zip(passwords, salts)
+                               for byte in pbkdf2(variant, password.bytes, salt.bytes, rounds, length)])
     with caller.trying("refusals"):
         one, bad = caller.given("password", 8), caller.messages([Piece(0, [], 3)])
         table, out = caller.messages([one]), caller.place(20)
