@@ -60,7 +60,7 @@ bool nattizhu_pbkdf2_list_nonnull(nattizhu_variant, const nattizhu_message *, si
 /* How many bytes of the stack below its caller a call uses at most, as tests/machine shows of each
  * build, in multiples of 64: one that copies a state, appends to one, ends one, hashes a message,
  * makes a tag, works on many, or makes keys. */
-enum { COPY = 64, APPEND = 1024, END = 1472, HASH = 1280, TAG = 2048, MANY = 5120, KEYS = 7424 };
+enum { COPY = 64, APPEND = 1024, END = 1472, HASH = 1280, TAG = 2048, MANY = 5248, KEYS = 7424 };
 
 /* Overwrites so many bytes with zeros. The compiler can't leave that out: it may not know that the
  * function is still memset. */
