@@ -62,6 +62,9 @@ bool nattizhu_pbkdf2_list_nonnull(nattizhu_variant, const nattizhu_message *, si
  * makes a tag, works on many, or makes keys. */
 enum { COPY = 64, APPEND = 1024, END = 1472, HASH = 1280, TAG = 2048, MANY = 5248, KEYS = 7424 };
 
+/* Records are halved until there are 32 or fewer: how many bytes more each time, in multiples of 64. */
+enum { HALVING = 320 };
+
 /* Overwrites so many bytes with zeros. The compiler can't leave that out: it may not know that the
  * function is still memset. */
 static void wipe(void *pointer, size_t size) {
@@ -270,9 +273,10 @@ static bool put_list(nattizhu_variant variant, const uint8_t *key, size_t key_le
 
 /* The same in groups, of messages whose pointers may be null where they lead to nothing. In a frame
  * of its own, since `wiped` clears the stack below that of its caller. */
-__attribute__((noinline)) static bool put_groups(nattizhu_variant variant, const uint8_t *key, size_t key_length,
-                       const nattizhu_message *messages, size_t count, uint8_t *outputs,
-                       size_t outputs_length) {
+__attribute__((noinline)) static bool put_groups(nattizhu_variant variant, const uint8_t *key,
+                                                 size_t key_length,
+                                                 const nattizhu_message *messages, size_t count,
+                                                 uint8_t *outputs, size_t outputs_length) {
   const size_t size = nattizhu_digest_size(variant);
   nattizhu_message group[GROUP];
   if (size == 0 || !is_product(outputs_length, count, size))
@@ -334,12 +338,21 @@ bool nattizhu_hmac_verify_text(nattizhu_variant variant, const uint8_t *key, siz
                                                       tag, tag_length));
 }
 
+/* How often the records are halved at most whose outputs, of 16 bytes or more, have this length. */
+static size_t halvings(size_t outputs_length) {
+  size_t n = 0;
+  for (size_t groups = outputs_length / (16 * 32); groups != 0; groups /= 2)
+    n++;
+  return n;
+}
+
 bool nattizhu_hmac_each(nattizhu_variant variant, const uint8_t *key, size_t key_length,
                         const uint8_t *records, size_t length, size_t size, uint8_t *tags,
                         size_t tags_length) {
   return readable(&key, key_length) && readable(&records, length) && writable(&tags, tags_length) &&
-         wiped(MANY, nattizhu_hmac_each_nonnull(variant, WORDS, key, key_length, records, length,
-                                                size, tags, tags_length));
+         wiped(MANY + HALVING * halvings(tags_length),
+               nattizhu_hmac_each_nonnull(variant, WORDS, key, key_length, records, length, size,
+                                          tags, tags_length));
 }
 
 bool nattizhu_hmac_list(nattizhu_variant variant, const uint8_t *key, size_t key_length,
