@@ -10,12 +10,12 @@
 
 #include "nattizhu.h"
 
-/* ---- Digests. A context is a nattizhu_state, whose first byte is the size of its digests; how many
- * bytes wait for a block stands behind its chaining value and count. Before init it is zeros, which
- * are no state. */
+/* ---- Digests. A context is a nattizhu_state, whose first byte is the size of its digests. How
+ * many bytes wait for a block stands behind its chaining value and count. Before init it is zeros,
+ * which are no state. */
 
-/* The answer of a call that hashed a block, after what it left of the message is wiped: in an HMAC by
- * OpenSSL it is of the key. */
+/* The answer of a call that hashed a block, after what it left of the message is wiped: in an HMAC
+ * by OpenSSL it is of the key. */
 static int wiped(int answer) {
   nattizhu_wipe(NULL, 0);
   return answer;

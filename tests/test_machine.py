@@ -1,5 +1,5 @@
-"""Shows the machine code of the libraries right for every input of many sizes (tests/machine): of those for C, and of the
-modules for JavaScript. And that what is wrong is noticed: in the C code, in the compiled code, and in single bits of it."""
+"""Shows the machine code of the libraries for C and of the modules for JavaScript right for every input of many sizes
+(tests/machine). And that what is wrong is noticed: in the C code, in the compiled code, and in single bits of it."""
 import json
 import random
 import re
@@ -17,6 +17,7 @@ sys.path.insert(0, str(ROOT / "tests/machine"))
 import cases  # noqa: E402
 import machine  # noqa: E402
 import textbook  # noqa: E402
+from depth import Depths  # noqa: E402
 from x86 import X86  # noqa: E402
 
 CRATE = ROOT / "crates/ripemd_c"
@@ -74,6 +75,27 @@ def test_every_size(library, modules):
     passes(*objects(library), *modules)
 
 
+# What nattizhu.c clears after each call. The last two are called by functions of it that have less than 128 bytes.
+DEPTHS = {"hmac_save": "COPY", "hmac_load": "COPY", "hmac_update": "APPEND", "hmac_final": "END", "hmac_verify": "END",
+          "digest": "HASH", "update": "HASH", "final": "HASH", "hmac": "TAG", "hmac_verify_text": "TAG",
+          "hmac_init": "TAG", "hmac_each": "MANY", "pbkdf2": "KEYS", "hmac_list_nonnull": "MANY",
+          "pbkdf2_list_nonnull": "KEYS"}
+
+
+def test_calls_reach_no_deeper_than_is_cleared(library):
+    """For every size: frames are added along calls. Records are halved by a function that calls itself."""
+    source = (CRATE / "nattizhu.c").read_text("utf-8")
+    cleared = {name: int(size) for name, size in re.findall(r"\b([A-Z]+) = (\d+)\b", source)}
+    for path in objects(library):
+        image = machine.Image(path)
+        depths = Depths(image)
+        for call, name in DEPTHS.items():
+            more = 128 if call.endswith("_nonnull") else 0
+            assert depths.of(image.functions[f"nattizhu_{call}"]) + more <= cleared[name], (path, call)
+        assert all("write_records" in image.place(at) for at in depths.again)
+        assert 0 < max(depths.again.values()) <= cleared["HALVING"]
+
+
 DIGEST = ("bool nattizhu_digest(nattizhu_variant variant, const uint8_t *message, size_t length,\n"
           "                     uint8_t *digest, size_t digest_length) {\n")
 # Errors of nattizhu.c: what stands there, what instead, the case that notices it, and what that says.
@@ -92,7 +114,8 @@ ERRORS = {
         "  if (saved)\n    *saved = 1;\n  return writable(&saved, saved_length) && nattizhu_save_nonnull(", "load",
         r"refusals: [1-9]\d* of \d+ bytes are wrong, the first at 0"),
     "clears too little": (
-        "END = 1472,", "END = 128,", "tags_in_pieces", r"hmac_final leaves key in the stack, \d+ bytes below its caller"),
+        "END = 1472,", "END = 128,", "tags_in_pieces",
+        r"hmac_final leaves key in the stack, \d+ bytes below its caller"),
     "leaves registers": (
         '        "  pxor %xmm\\\\n, %xmm\\\\n\\n"\n', '        "  pxor %xmm0, %xmm0\\n"\n', "tags",
         r"hmac leaves .*key.* in xmm\d"),

@@ -62,7 +62,7 @@ bool nattizhu_pbkdf2_list_nonnull(nattizhu_variant, const nattizhu_message *, si
  * makes a tag, works on many, or makes keys. */
 enum { COPY = 64, APPEND = 1024, END = 1472, HASH = 1280, TAG = 2048, MANY = 5248, KEYS = 7424 };
 
-/* Records are halved until there are 32 or fewer: how many bytes more each time, in multiples of 64. */
+/* How many more, in multiples of 64, each time that records are halved, until there are 32. */
 enum { HALVING = 320 };
 
 /* Overwrites so many bytes with zeros. The compiler can't leave that out: it may not know that the
@@ -98,17 +98,17 @@ __attribute__((constructor)) static void prepare(void) {
 }
 
 /* Returns this answer of a call, after it has cleared what the call left in so many bytes below its
- * caller and in the registers that a call may change. It is in assembly, since a compiler may leave a
- * gap between what a function has on the stack and its caller. Of AVX-512 an instruction of 128 bits
- * clears all 512 of a register; after one of 512 the processor is slower for a while. */
+ * caller and in the registers that a call may change. It is in assembly, since a compiler may leave
+ * a gap between its caller and what a function has on the stack. Of AVX-512 an instruction of 128
+ * bits clears all 512 of a register; after one of 512 the processor is slower for a while. */
 __attribute__((visibility("hidden"))) bool nattizhu_wiped(size_t depth, bool answer, int vectors);
-#ifdef __x86_64__
 __asm__(".text\n"
         ".globl nattizhu_wiped\n"
         ".hidden nattizhu_wiped\n"
-        ".type nattizhu_wiped, @function\n"
+        ".type nattizhu_wiped, STT_FUNC\n"
         "nattizhu_wiped:\n"
         "  .cfi_startproc\n"
+#ifdef __x86_64__
         "  movzbl %sil, %eax\n"
         "  mov %rsp, %rcx\n"
         "  .cfi_def_cfa_register %rcx\n"
@@ -149,16 +149,7 @@ __asm__(".text\n"
         "  .irp n,ecx,edx,esi,edi,r8d,r9d,r10d,r11d\n"
         "  xor %\\n, %\\n\n"
         "  .endr\n"
-        "  ret\n"
-        "  .cfi_endproc\n"
-        ".size nattizhu_wiped, . - nattizhu_wiped\n");
 #else
-__asm__(".text\n"
-        ".globl nattizhu_wiped\n"
-        ".hidden nattizhu_wiped\n"
-        ".type nattizhu_wiped, %function\n"
-        "nattizhu_wiped:\n"
-        "  .cfi_startproc\n"
         "  hint #34\n" /* where a jump may lead, if the processor checks that */
         "  mov x2, sp\n"
         "  .cfi_def_cfa_register x2\n"
@@ -180,10 +171,10 @@ __asm__(".text\n"
         "  .irp n,1,2,3,4,5,6,7,8,9,10,11,12,13,14,15,16,17,18\n"
         "  mov x\\n, xzr\n"
         "  .endr\n"
+#endif
         "  ret\n"
         "  .cfi_endproc\n"
         ".size nattizhu_wiped, . - nattizhu_wiped\n");
-#endif
 
 static bool wiped(size_t depth, bool answer) { return nattizhu_wiped(depth, answer, vectors); }
 
@@ -368,8 +359,8 @@ bool nattizhu_hmac_init(nattizhu_variant variant, nattizhu_hmac_state *state, co
          wiped(TAG, nattizhu_hmac_init_nonnull(variant, state, key, key_length));
 }
 
-/* Bytes that only wait for a block leave little. How many wait stands in the inner saved state, behind
- * its chaining value and count. */
+/* Bytes that only wait for a block leave little. How many wait stands in the inner saved state,
+ * behind its chaining value and count. */
 bool nattizhu_hmac_update(nattizhu_hmac_state *state, const uint8_t *bytes, size_t length) {
   const size_t waiting = state->bytes[1 + (state->bytes[0] & 127) + 8];
   return readable(&bytes, length) &&

@@ -133,8 +133,8 @@ def digest(caller, variant):
 
 
 def made(caller, variant, key_length):
-    """The arguments that are a key, and the function that gives the tag of a message under it; without one, none, and the
-    digest."""
+    """The arguments that are a key, and the function that gives the tag of a message under it. Without a key there are
+    none, and it gives the digest."""
     if key_length is None:
         return (), partial(ripemd, variant)
     key = caller.given("key", key_length, secret=True)
@@ -406,8 +406,8 @@ def keys(caller, variant):
         with caller.trying("a password of", password, "and a salt of", salt, "bytes,", rounds, "rounds,", length):
             secret, more = caller.given("password", password, secret=True), caller.given("salt", salt)
             out = caller.place(length)
-            caller.call("pbkdf2", variant, *(secret if password else NOWHERE), *(more if salt else NOWHERE), rounds, *out,
-                        clears=True)
+            given = *(secret if password else NOWHERE), *(more if salt else NOWHERE)
+            caller.call("pbkdf2", variant, *given, rounds, *out, clears=True)
             caller.holds(out, pbkdf2(variant, secret.bytes, more.bytes, rounds, length))
     with caller.trying("refusals"):
         secret, more, out = caller.given("password", 8), caller.given("salt", 4), caller.place(20)

@@ -1,7 +1,7 @@
 """What the processors have in common: a shared object in memory, and calls of its functions on terms.
 
-A number of at most 64 bits is an int, which is known, or a pair of words, the low one first. Each piece of memory that a
-call is given stands by itself: what reads or writes outside of it, or writes what is only to be read, ends the run.
+A number of at most 64 bits is an int, which is known, or a pair of words, the low one first. Each piece of memory that
+a call is given stands by itself: what reads or writes outside of it, or writes what is only to be read, ends the run.
 """
 from elftools.elf.elffile import ELFFile
 
@@ -121,6 +121,8 @@ class Image:
                 symbols = elf.get_section(section["sh_link"])
                 for relocation in section.iter_relocations():
                     self._relocate(relocation, symbols)
+            self.plt = [(BASE + section["sh_addr"], BASE + section["sh_addr"] + section["sh_size"])
+                        for section in elf.iter_sections() if section.name.startswith(".plt")]
             for section in elf.iter_sections("SHT_INIT_ARRAY"):
                 at = BASE + section["sh_addr"]
                 self.constructors += [int.from_bytes(self.code(i, 8), "little")

@@ -104,10 +104,14 @@ def byte_of(word, i):
         return word.args[i]
     if word.form == "rotated" and word.args[1] % 8 == 0:
         return byte_of(word.args[0], (i - word.args[1] // 8) % 4)
-    if word.form == "zero" and i > 0 or word.form == "bits" and not any(mask >> 8 * i & 0xFF for _, mask in word.args[0]):
+    if word.form == "zero" and i > 0:
         return 0
-    if word.form == "bits" and all(not product or mask == MASK and len(product) == 1 for product, mask in word.args[0]):
-        return _xor_bytes(mask >> 8 * i & 0xFF if not product else byte_of(*product, i) for product, mask in word.args[0])
+    if word.form == "bits":
+        bits = word.args[0]
+        if not any(mask >> 8 * i & 0xFF for _, mask in bits):
+            return 0
+        if all(not product or mask == MASK and len(product) == 1 for product, mask in bits):
+            return _xor_bytes(byte_of(*product, i) if product else mask >> 8 * i & 0xFF for product, mask in bits)
     return make("part", word, i)
 
 

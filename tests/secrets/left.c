@@ -1,6 +1,6 @@
-// What the first call of a program with a key leaves on the stack below its caller, where the loader
-// has still to find the functions of the C library that it calls: prints how often words of the key
-// stand there, and of the key with either mask.
+// What the first call of a program with a key leaves on the stack below its caller, where the
+// loader has still to find the functions of the C library that it calls: prints how often words of
+// the key stand there, and of the key with either mask.
 //   left NUMBER        which call is the first
 #include <stdio.h>
 #include <stdlib.h>
