@@ -9,7 +9,7 @@ ghost use Rattle.ripemd_block.specs.Code.Lines.{both_lines, message_words};
 ghost use Rattle.ripemd_block.specs.Code.Lanes.{line_of_lane, lane};
 
 use crate::message::message_words;
-use crate::textbook::{amounts, left_constant, left_number, right_constant, right_number};
+use crate::textbook::{left_constant, left_number, right_constant, right_number, rotation};
 use std::simd::prelude::*;
 
 /// The registers of both lines: as many vectors as a line has rounds.
@@ -237,8 +237,8 @@ fn round<R: Registers>(r: usize, words: &[u32; 16], start: R) -> R
         let left = left_number(r, i);
         let right = right_number(r, i);
         let x = u32x2::from_array([words[left], words[right]]);
-        let s = amounts(r, i);
-        let next = registers.step(r, x, k, u32x2::from_array(s));
+        let s = u32x2::from_array([rotation(r, left), rotation(r, right)]);
+        let next = registers.step(r, x, k, s);
         registers = next;
     }
     registers
