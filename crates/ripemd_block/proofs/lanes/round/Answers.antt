@@ -1,4 +1,4 @@
-use Rattle.std.proofs.Common.{◌<◌, refl, arith}
+use Rattle.std.proofs.Common.{◌≡◌, ◌<◌, refl, arith, rules}
 use Rattle.ripemd_block.specs.Standard.Schedule.{left_line, right_line}
 use Rattle.ripemd_block.specs.Standard.Compression.{registers_after}
 use Rattle.ripemd_block.proofs.Stepping.{word_of_step, one_more_step}
@@ -23,8 +23,11 @@ loop-i-preserved g c block words =
     let in_right : 1 < 2 = omega arith in
     each_lane _
     (one_more_step left_line block r i _ _ _ _ _ _ _ left.value (word_of_step block _ _ _ words left.small refl)
-    (c.constants-k.ensures 0 in_left) c.rotation.ensures.value (c.loop-i.invariant block words 0 in_left)
+    c.left_constant.ensures c.rotation.ensures.value (c.loop-i.invariant block words 0 in_left)
     (c.step-next.ensures 0 in_left))
     (one_more_step (right_line rounds) block r i _ _ _ _ _ _ _ (right.value rounds) (word_of_step block _ _ _ words right.small refl)
-    (c.constants-k.ensures 1 in_right) c.rotation-in-loop-i.ensures.value (c.loop-i.invariant block words 1 in_right)
+    (search (rules, c.right_constant.ensures)) c.rotation-in-loop-i.ensures.value (c.loop-i.invariant block words 1 in_right)
     (c.step-next.ensures 1 in_right))
+
+pub returns : goal.returns
+returns g c = let ended : c.loop-i.i ≡ 16 = omega arith in rw ended at c.loop-i.invariant
