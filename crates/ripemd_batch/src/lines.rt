@@ -34,10 +34,8 @@ pub(crate) trait LineRegisters: Copy {
 
     ghost ROUNDS: { ℕ };
 
-    /// The constant of round `r` of a line.
-    fn constant(side: Side, r: usize) -> u32
-        requires { r < ROUNDS }
-        ensures { result ≡ (line_of ROUNDS side).constant r };
+    /// How many rounds a line runs.
+    const ROUNDS: usize;
 
     /// A step of a line in round `r`, with message words `x`, constant `k` and rotation by `s` bits.
     fn step(self, side: Side, r: usize, x: Self::Vector, k: u32, s: u32) -> Self
@@ -61,13 +59,7 @@ impl<V: Lanes> LineRegisters for [V; 4] {
 
     ghost ROUNDS = { 4 };
 
-    #[inline(always)]
-    fn constant(side: Side, r: usize) -> u32 {
-        match side {
-            Side::Left => left_constant(r),
-            Side::Right => right_constant(4, r),
-        }
-    }
+    const ROUNDS: usize = 4;
 
     #[inline(always)]
     fn step(self, side: Side, r: usize, x: V, k: u32, s: u32) -> [V; 4] {
@@ -91,13 +83,7 @@ impl<V: Lanes> LineRegisters for [V; 5] {
 
     ghost ROUNDS = { 5 };
 
-    #[inline(always)]
-    fn constant(side: Side, r: usize) -> u32 {
-        match side {
-            Side::Left => left_constant(r),
-            Side::Right => right_constant(5, r),
-        }
-    }
+    const ROUNDS: usize = 5;
 
     #[tactic(auto, using(crate::proofs::OneLane::word_in))]
     #[inline(always)]
@@ -149,6 +135,19 @@ fn boolean_function<V: Lanes>(k: usize, x: V, y: V, z: V) -> V
     }
 }
 
+// The constant of round `r` of a line.
+#[inline(always)]
+fn constant(side: Side, rounds: usize, r: usize) -> u32
+    requires round { r < rounds }
+    requires most { rounds ≤ 5 }
+    ensures { result ≡ (line_of rounds side).constant r }
+{
+    match side {
+        Side::Left => left_constant(r),
+        Side::Right => right_constant(rounds, r),
+    }
+}
+
 // The number of the message word that step `i` of round `r` of a line takes.
 #[inline(always)]
 fn word_number(side: Side, r: usize, i: usize) -> usize
@@ -182,7 +181,7 @@ fn step_at<R: LineRegisters>(
         → R.lane j result ≡ registers_after (line_of R.ROUNDS side) block r (i + 1) first }
 {
     let number = word_number(side, r, i);
-    let k = R::constant(side, r);
+    let k = constant(side, R::ROUNDS, r);
     let s = rotation(r, number);
     registers.step(side, r, words[number], k, s)
 }

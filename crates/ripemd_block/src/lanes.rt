@@ -9,7 +9,7 @@ ghost use Rattle.ripemd_block.specs.Code.Lines.{both_lines, message_words};
 ghost use Rattle.ripemd_block.specs.Code.Lanes.{line_of_lane, lane};
 
 use crate::message::message_words;
-use crate::textbook::{amounts, left_constant, left_number, right_constant, right_number};
+use crate::textbook::{left_constant, left_number, right_constant, right_number, rotation};
 use std::simd::prelude::*;
 
 /// The registers of both lines: as many vectors as a line has rounds.
@@ -21,11 +21,6 @@ pub(crate) trait Registers: Copy {
 
     /// How many rounds a line runs.
     const ROUNDS: usize;
-
-    fn constants(r: usize) -> u32x2
-        requires { r < ROUNDS }
-        ensures { (j : ℕ) → j < 2
-            → slice_index result j ≡ (line_of_lane ROUNDS j).constant r };
 
     /// A step of both lines in round `r`: message words `x`, constants `k`, rotations by `s` bits.
     fn step(self, r: usize, x: u32x2, k: u32x2, s: u32x2) -> Self
@@ -106,11 +101,6 @@ impl Registers for [u32x2; 4] {
     const ROUNDS: usize = 4;
 
     #[inline(always)]
-    fn constants(r: usize) -> u32x2 {
-        u32x2::from_array([left_constant(r), right_constant(4, r)])
-    }
-
-    #[inline(always)]
     fn step(self, r: usize, x: u32x2, k: u32x2, s: u32x2) -> [u32x2; 4] {
         let [a, b, c, d] = self;
         let t = rotate(sum(sum(sum(a, functions(r, 3 - r, b, c, d)), x), k), s);
@@ -136,11 +126,6 @@ impl Registers for [u32x2; 5] {
     ghost ROUNDS = { 5 };
 
     const ROUNDS: usize = 5;
-
-    #[inline(always)]
-    fn constants(r: usize) -> u32x2 {
-        u32x2::from_array([left_constant(r), right_constant(5, r)])
-    }
 
     #[inline(always)]
     fn step(self, r: usize, x: u32x2, k: u32x2, s: u32x2) -> [u32x2; 5] {
@@ -231,14 +216,14 @@ fn round<R: Registers>(r: usize, words: &[u32; 16], start: R) -> R
     ensures { (block : List ℕ) → words.now ≡ message_words block → (j : ℕ) → j < 2
         → R.lane result j ≡ round (line_of_lane R.ROUNDS j) block r (R.lane start j) }
 {
-    let k = R::constants(r);
+    let k = u32x2::from_array([left_constant(r), right_constant(R::ROUNDS, r)]);
     let mut registers = start;
     for i in 0..16 {
         let left = left_number(r, i);
         let right = right_number(r, i);
         let x = u32x2::from_array([words[left], words[right]]);
-        let s = amounts(r, i);
-        let next = registers.step(r, x, k, u32x2::from_array(s));
+        let s = u32x2::from_array([rotation(r, left), rotation(r, right)]);
+        let next = registers.step(r, x, k, s);
         registers = next;
     }
     registers

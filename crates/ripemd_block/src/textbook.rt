@@ -1,6 +1,6 @@
 //! The tables of 1996 as code, each entry equal to its definition in `specs/Standard/`.
 
-ghost use Rattle.std.specs.Prelude.{◌≡◌, ◌<◌, ◌≤◌, ℕ, slice_index};
+ghost use Rattle.std.specs.Prelude.{◌≡◌, ◌<◌, ◌≤◌, ℕ};
 ghost use Rattle.ripemd_block.specs.Standard.Schedule.{left_line, right_line, rotation};
 
 // Message words of the left line, by round and step (1996, ordering of the message words).
@@ -28,30 +28,6 @@ static ROTATIONS: [[u32; 16]; 5] = [
     [13, 15, 14, 11, 7, 7, 6, 8, 13, 14, 13, 12, 5, 5, 6, 9],
     [14, 11, 12, 14, 8, 6, 5, 5, 15, 12, 15, 14, 9, 9, 8, 6],
     [15, 12, 13, 13, 9, 5, 8, 6, 14, 11, 12, 11, 8, 6, 5, 5],
-];
-
-// Rotations, by round, line and step (1996, pseudo-code).
-static AMOUNTS: [[[u32; 16]; 2]; 5] = [
-    [
-        [11, 14, 15, 12, 5, 8, 7, 9, 11, 13, 14, 15, 6, 7, 9, 8],
-        [8, 9, 9, 11, 13, 15, 15, 5, 7, 7, 8, 11, 14, 14, 12, 6],
-    ],
-    [
-        [7, 6, 8, 13, 11, 9, 7, 15, 7, 12, 15, 9, 11, 7, 13, 12],
-        [9, 13, 15, 7, 12, 8, 9, 11, 7, 7, 12, 7, 6, 15, 13, 11],
-    ],
-    [
-        [11, 13, 6, 7, 14, 9, 13, 15, 14, 8, 13, 6, 5, 12, 7, 5],
-        [9, 7, 15, 11, 8, 6, 6, 14, 12, 13, 5, 14, 13, 13, 7, 5],
-    ],
-    [
-        [11, 12, 14, 15, 14, 15, 9, 8, 9, 14, 5, 6, 8, 6, 5, 12],
-        [15, 5, 8, 11, 14, 14, 6, 14, 6, 9, 12, 9, 12, 5, 15, 8],
-    ],
-    [
-        [9, 15, 5, 11, 6, 8, 13, 12, 5, 12, 13, 14, 11, 8, 5, 6],
-        [8, 5, 12, 9, 12, 5, 14, 6, 8, 13, 6, 5, 15, 13, 11, 11],
-    ],
 ];
 
 // The constants of the left line's rounds (1996, constants).
@@ -91,20 +67,6 @@ pub fn rotation(r: usize, j: usize) -> u32
     ensures range { (0 < result) × (result < 32) }
 {
     ROTATIONS[r][j]
-}
-
-/// By how many bits step `i` of round `r` rotates the left and the right line.
-#[inline(always)]
-pub(crate) fn amounts(r: usize, i: usize) -> [u32; 2]
-    requires round { r < 5 }
-    requires step { i < 16 }
-    ensures left { slice_index result 0 ≡ rotation r (left_line.word_number r i) }
-    ensures right { (rounds : ℕ)
-        → slice_index result 1 ≡ rotation r ((right_line rounds).word_number r i) }
-    ensures left_range { (0 < slice_index result 0) × (slice_index result 0 < 32) }
-    ensures right_range { (0 < slice_index result 1) × (slice_index result 1 < 32) }
-{
-    [AMOUNTS[r][0][i], AMOUNTS[r][1][i]]
 }
 
 /// The constant of round `r` of the left line.

@@ -81,11 +81,7 @@ fn write_digest<D: Digest>(message: &[u8], digest: &mut [u8]) -> bool
     ensures { Writes (length digest.old ≡ D.OUTPUT_SIZE) (hash D.start D.step D.output message.now)
         digest.old digest.new result }
 {
-    if digest.len() != D::OUTPUT_SIZE {
-        return false;
-    }
-    digest.copy_from_slice(D::output_bytes(&D::digest(message)));
-    true
+    write(D::output_bytes(&D::digest(message)), digest)
 }
 
 // Writes an output to its place, if that has its size.

@@ -7,7 +7,7 @@ ghost use Rattle.ripemd_block.specs.Standard.Compression.{step, registers_after,
 ghost use Rattle.ripemd_block.specs.Code.Lines.{both_lines, words_with, HasWords};
 
 use crate::message::message_words;
-use crate::textbook::{amounts, left_constant, left_number, right_constant, right_number};
+use crate::textbook::{left_constant, left_number, right_constant, right_number, rotation};
 use std::mem::swap;
 use std::simd::prelude::*;
 
@@ -177,7 +177,8 @@ fn step_at<R: LineRegisters, const N: usize>(
 {
     let left = left_number(r, i);
     let right = right_number(r, i);
-    let [left_amount, right_amount] = amounts(r, i);
+    let left_amount = rotation(r, left);
+    let right_amount = rotation(r, right);
     Lines {
         left: lines.left.step(r, words.left[r][left], left_amount),
         right: lines

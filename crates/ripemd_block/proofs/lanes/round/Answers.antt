@@ -1,4 +1,4 @@
-use Rattle.std.proofs.Common.{◌<◌, refl, arith}
+use Rattle.std.proofs.Common.{◌≡◌, ◌<◌, refl, arith, rules}
 use Rattle.ripemd_block.specs.Standard.Schedule.{left_line, right_line}
 use Rattle.ripemd_block.specs.Standard.Compression.{registers_after}
 use Rattle.ripemd_block.proofs.Stepping.{word_of_step, one_more_step}
@@ -6,7 +6,7 @@ use Rattle.ripemd_block.proofs.TwoLanes.{each_lane}
 use Rattle.ripemd_block.proofs.lanes.round.Goals as goal
 
 pub step-next-requires-clause-amounts : goal.step-next-requires-clause-amounts
-step-next-requires-clause-amounts g c = each_lane _ c.amounts-s.ensures.left_range c.amounts-s.ensures.right_range
+step-next-requires-clause-amounts g c = each_lane _ c.rotation.ensures.range c.rotation-in-loop-i.ensures.range
 
 pub loop-i-init : goal.loop-i-init
 unfolding registers_after
@@ -22,9 +22,12 @@ loop-i-preserved g c block words =
     let in_left : 0 < 2 = omega arith in
     let in_right : 1 < 2 = omega arith in
     each_lane _
-    (one_more_step left_line block r i _ _ _ _ _ _ _ refl (word_of_step block _ _ _ words left.small left.value)
-    (c.constants-k.ensures 0 in_left) c.amounts-s.ensures.left (c.loop-i.invariant block words 0 in_left)
+    (one_more_step left_line block r i _ _ _ _ _ _ _ left.value (word_of_step block _ _ _ words left.small refl)
+    c.left_constant.ensures c.rotation.ensures.value (c.loop-i.invariant block words 0 in_left)
     (c.step-next.ensures 0 in_left))
-    (one_more_step (right_line rounds) block r i _ _ _ _ _ _ _ refl (word_of_step block _ _ _ words right.small (right.value rounds))
-    (c.constants-k.ensures 1 in_right) (c.amounts-s.ensures.right rounds) (c.loop-i.invariant block words 1 in_right)
+    (one_more_step (right_line rounds) block r i _ _ _ _ _ _ _ (right.value rounds) (word_of_step block _ _ _ words right.small refl)
+    (search (rules, c.right_constant.ensures)) c.rotation-in-loop-i.ensures.value (c.loop-i.invariant block words 1 in_right)
     (c.step-next.ensures 1 in_right))
+
+pub returns : goal.returns
+returns g c = let ended : c.loop-i.i ≡ 16 = omega arith in rw ended at c.loop-i.invariant
