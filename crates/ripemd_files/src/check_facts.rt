@@ -8,12 +8,13 @@ ghost use Rattle.ripemd_files.specs.declared.line.Layout.{Layout};
 ghost use Rattle.ripemd_files.specs.declared.list.Rules.{Rules};
 ghost use Rattle.ripemd_files.specs.declared.printing.Style.{Style};
 ghost use Rattle.ripemd_files.specs.declared.verdict.Options.{Options};
+ghost use Rattle.ripemd_files.specs.declared.verdict.Tally.{Tally};
 ghost use Rattle.ripemd_files.specs.Determined.{EarlyEnd, EarlyPrint, IsFront, IsKnown, Print, Report, Start};
 ghost use Rattle.ripemd_files.specs.Lists.{ended, failed};
 ghost use Rattle.ripemd_files.specs.Said.{Item};
 ghost use Rattle.ripemd_files.specs.Contents.{IsDigest};
 ghost use Rattle.ripemd_files.specs.Checking.{Event};
-ghost use Rattle.ripemd_files.specs.WorkedChecks.{DigestVerdicts, ErrorVerdicts, ItemsOfEvents, LinesOfEvents, RemarksOnEvents, Tallies, OtherTallies, LongCounts, ClosingRemarks, Answers, PassedOver, Bodies, NextLayouts, Wanted, PrintedLines, PrintedErrors, KnownFolders};
+ghost use Rattle.ripemd_files.specs.WorkedChecks.{DigestVerdicts, ErrorVerdicts, ItemsOfEvents, LinesOfEvents, RemarksOnEvents, Tallies, OtherTallies, LongCounts, ClosingRemarks, Answers, OptionLaws, PassedOver, Bodies, NextLayouts, Wanted, PrintedLines, PrintedErrors, KnownFolders};
 
 use crate::folder::Folder;
 
@@ -65,6 +66,11 @@ pub fn worked_counts()
     ensures long { (events : List Event) → LongCounts events }
     ensures remarks { ClosingRemarks }
     ensures answers { Answers }
+{}
+
+/// What each option of a check does.
+pub fn option_laws()
+    ensures { (options : Options) (event : Event) (counts : Tally) → OptionLaws options event counts }
 {}
 
 /// Which lines are passed over, what others say, and the layout of lists.

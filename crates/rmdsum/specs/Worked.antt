@@ -89,7 +89,7 @@ pub record WorkedConflicts : Type 0 where
   pub print : conflict (Sets Tag ∷ Sets Text ∷ Sets Zero ∷ Sets Progress ∷ []) ≡ None
   pub check : conflict (Sets Check ∷ Sets IgnoreMissing ∷ Sets Strict ∷ Sets Warn ∷ []) ≡ None
   pub text : conflict (Sets Text ∷ Sets Tag ∷ Sets Check ∷ []) ≡ Some TextWithTag
-  pub text_first : conflict (Sets Strict ∷ Sets Text ∷ Sets Tag ∷ []) ≡ Some TextWithTag
+  pub text_first : conflict (Sets Strict ∷ Sets Zero ∷ Sets Text ∷ Sets Tag ∷ []) ≡ Some TextWithTag
   pub zero : conflict (Sets Zero ∷ Sets Tag ∷ Sets Check ∷ []) ≡ Some ZeroWithCheck
   pub zero_first : conflict (Sets Text ∷ Sets Zero ∷ Sets Check ∷ []) ≡ Some ZeroWithCheck
   pub tag : conflict (Sets Check ∷ Sets Tag ∷ []) ≡ Some TagWithCheck
