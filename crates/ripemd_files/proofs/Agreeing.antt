@@ -44,7 +44,7 @@ module _ (kinds : Rules) (layout : Option Layout) (form : Form) (variant : Varia
   abbrev digest : List ℕ
   digest = ripemd (parameters_of variant) message
 
-  pub round_trips : RoundTrips (unwrap_or layout Standard) form variant digest name
+  round_trips : RoundTrips (unwrap_or layout Standard) form variant digest name
   round_trips = record {
     size = length-ripemd variant message;
     bytes = bytes-ripemd variant message;
@@ -53,10 +53,10 @@ module _ (kinds : Rules) (layout : Option Layout) (form : Form) (variant : Varia
   }
 
   -- the line has no end in it
-  pub whole : body_of_line line ≡ line
+  whole : body_of_line line ≡ line
   whole = whole_line line (no_end (unwrap_or layout Standard) form variant digest name round_trips)
 
-  pub is_line : IsLine (unwrap_or layout Standard) line variant digest name
+  is_line : IsLine (unwrap_or layout Standard) line variant digest name
   is_line = IsLine-line_of (unwrap_or layout Standard) Newline form variant digest name round_trips
 
   -- the line counts
@@ -70,15 +70,15 @@ module _ (kinds : Rules) (layout : Option Layout) (form : Form) (variant : Varia
   module _ {File : Type 0} (place : Place File) (ignore_missing : Bool) (number : ℕ) (found : List ℕ) (verdict : Verdict)
       (event : IsEventOn place ignore_missing kinds layout number line (checked found verdict)) where
     -- it is what the event is about
-    pub same_line : (event.0 ≡ variant) × (event.1 ≡ digest) × (found ≡ name)
+    same_line : (event.0 ≡ variant) × (event.1 ≡ digest) × (found ≡ name)
     same_line =
         one_line (unwrap_or layout Standard) (body_of_line line) event.0 variant event.1 digest found name event.3.is_line printed_is_taken.is_line
 
     -- reading its file came to this
-    pub came_to : ComesTo place (ripemd (parameters_of variant)) name event.2
+    came_to : ComesTo place (ripemd (parameters_of variant)) name event.2
     came_to = rw (same_line.2, same_line.0) at event.4
 
-    pub is_verdict : verdict ≡ verdict_of ignore_missing digest event.2
+    is_verdict : verdict ≡ verdict_of ignore_missing digest event.2
     is_verdict = rw same_line.1 at event.5
 
     pub no_difference : ((given : List ℕ) → Gives (place.opens name) place.left given → given ≡ message) → (found ≡ name) × (verdict ≢ Differs)

@@ -1,25 +1,23 @@
 -- Where all is known of a folder, one thing is right.
-use Rattle.std.proofs.Common.{◌≡◌, ◌≢◌, ◌⊎◌, ℕ, ◌+◌, ◌<◌, ◌++◌, List, [], ◌∷◌, length, take, map, flat_map, Option, Some, None, Bool, true, false, All, refl, sym, ap, subst, ◌∙◌, arith, inl, inr, append_assoc, drop}
+use Rattle.std.proofs.Common.{◌≡◌, ◌≢◌, ◌⊎◌, ℕ, ◌+◌, ◌<◌, ◌++◌, List, [], ◌∷◌, length, take, map, flat_map, Option, Some, Bool, true, false, All, refl, sym, ap, subst, ◌∙◌, arith, inl, inr, append_assoc}
 use Rattle.ripemd_files.specs.Lines.{line_of, end_of}
 use Rattle.std.specs.Prelude.{Result, Ok, MatchBool, unwrap_or, Err}
 use Rattle.std.specs.List.{list_all}
 use Rattle.std.specs.Io.KnownBytes.{Consumes, IsAtEnd}
 use Rattle.std.specs.declared.io.Error.{Error}
-use Rattle.std.proofs.lemmas.List.{append-nil, length-append, take-append-drop}
+use Rattle.std.proofs.lemmas.List.{append-nil, length-append}
 use Rattle.std.proofs.lemmas.List.Elements.{All-tail, All-head}
-use Rattle.std.proofs.lemmas.Grind.{flat_map-append}
 use Rattle.std.proofs.Math.Seq.{take-append_seam}
 use Rattle.ripemd.specs.Standard.Hashing.{ripemd}
 use Rattle.ripemd_files.proofs.Types.{Layout, Standard, Rules, Outcome, Digest, Refused, Broken, Style, Options, Tally, Verdict}
-use Rattle.ripemd_files.specs.Checking.{Event, IsTally, checked, items_of_event, misformatted, verdict_of, verdict_of_digest}
-use Rattle.ripemd_files.specs.Determined.{EarlyEnd, EarlyPrint, IsFront, IsKnown, Print, Report, Start, list_before}
-use Rattle.ripemd_files.specs.Lists.{IsEventOn, IsReport, Reports, Stage, WasRead, among, body_of_line, ended, failed, is_passed_over, last_remarks, layout_after}
+use Rattle.ripemd_files.specs.Checking.{Event, IsTally, checked, misformatted, verdict_of, verdict_of_digest}
+use Rattle.ripemd_files.specs.Determined.{IsKnown, Print, Report, Start, list_before}
+use Rattle.ripemd_files.specs.Lists.{IsEventOn, IsReport, Reports, Stage, WasRead, among, body_of_line, ended, is_passed_over, layout_after}
 use Rattle.ripemd_files.specs.Printing.{Reading, items_on, was_read, Prints}
 use Rattle.ripemd_files.specs.Files.{Breaks, ComesTo, Gives, Place, parameters_of}
-use Rattle.ripemd_files.specs.Said.{Adds, Item, AddsFirst, unreadable, written}
+use Rattle.ripemd_files.specs.Said.{Adds, Item, unreadable, written}
 use Rattle.ripemd_files.specs.Splitting.{ListState, lines_of}
 use Rattle.ripemd_files.specs.WorkedChecks.{tally}
-use Rattle.ripemd_files.proofs.Cutting.{cut}
 use Rattle.ripemd_files.proofs.Sayings.{one_line}
 
 -- ---- files
@@ -47,19 +45,19 @@ is_given (Ok given) = true
 is_given (Err error) = false
 
 module _ {File : Type 0} (place : Place File) (contents : List ℕ → Result (List ℕ) Error) (known : IsKnown place contents) where
-  pub given_all : (name message : List ℕ) → Gives (place.opens name) place.left message → contents name ≡ Ok message
+  given_all : (name message : List ℕ) → Gives (place.opens name) place.left message → contents name ≡ Ok message
   given_all name message gives =
       let (bytes, named, left, short) = known.opened name gives.gave.opened gives.gave.is_opened in
       let taken : Consumes (Some bytes) (place.left gives.ended) message = rw left at gives.gave.given in
       named ∙ ap (λ (b : List ℕ). Ok b) (taken_all bytes message (place.left gives.ended) taken gives.at_end)
 
-  pub not_broken : (name : List ℕ) (error : Error) → ¬ Breaks (place.opens name) place.left place.may_fail error
+  not_broken : (name : List ℕ) (error : Error) → ¬ Breaks (place.opens name) place.left place.may_fail error
   not_broken name error breaks =
       let (bytes, named, left, short) = known.opened name breaks.gave.opened breaks.gave.is_opened in
       let taken : Consumes (Some bytes) (place.left breaks.now) breaks.bytes = rw left at breaks.gave.given in
       grind (arith, known.sound breaks.now error, breaks.fails, short, taken_some bytes breaks.bytes (place.left breaks.now) taken)
 
-  pub verdict_at : (ignore_missing : Bool) (hash : List ℕ → List ℕ) (name wanted : List ℕ) (outcome : Outcome) → ComesTo place hash name outcome
+  verdict_at : (ignore_missing : Bool) (hash : List ℕ → List ℕ) (name wanted : List ℕ) (outcome : Outcome) → ComesTo place hash name outcome
       → verdict_of ignore_missing wanted outcome ≡ verdict_by ignore_missing hash wanted (contents name)
   verdict_at ignore_missing hash name wanted (Digest d) (m, gives, is) =
       rw (given_all name m gives) (ap (λ bytes. verdict_of_digest bytes wanted) is)
@@ -113,51 +111,21 @@ one_tally events t u a b =
     let same : tally t.misformatted t.differing t.unreadable t.matched t.checked ≡ tally u.misformatted u.differing u.unreadable u.matched u.checked = cc in
     same
 
-pub grown : (old more : List Item) (new : Option (List Item)) → Adds (Some old) new more → new ≡ Some (old ++ more)
+grown : (old more : List Item) (new : Option (List Item)) → Adds (Some old) new more → new ≡ Some (old ++ more)
 grown old more new a = grind (arith, a)
-
--- of more items the first of some were told
-front_told : (before items more all : List Item) (early late : Option (List Item)) → AddsFirst (Some before) early items → Adds (Some before) late all
-    → all ≡ items ++ more → IsFront before early late
-front_told before items more all early late told adds is = record {
-  first = told.first;
-  rest = told.rest ++ more;
-  is_early = grown before told.first early told.adds;
-  is_late = rw (is, told.split, append_assoc) at (grown before all late adds);
-}
 
 -- ---- lists
 
--- some of a list stands after what was read of it
-behind_front : (list bytes rest : List ℕ) (left : Option (List ℕ)) → Consumes (Some list) left (bytes ++ rest) → (more : List ℕ) × (list ≡ bytes ++ more)
-behind_front list bytes rest None read = absurd read
-behind_front list bytes rest (Some more) read = (rest ++ more, read ∙ append_assoc bytes rest more)
-
--- which is its front
+-- what was read of a list is its front
 front : (list bytes rest : List ℕ) (left : Option (List ℕ)) → Consumes (Some list) left (bytes ++ rest) → bytes ≡ take (length bytes) list
 front list bytes rest left read = grind (arith, take-append_seam, append_assoc, read)
 
--- all of it was read
-pub all_read : (list bytes rest : List ℕ) (left : Option (List ℕ)) → Consumes (Some list) left (bytes ++ rest) → rest ≡ [] → IsAtEnd left → list ≡ bytes
-all_read list bytes rest left read none end = taken_all list bytes left (rw (none, append-nil) at read) end
-
--- some of the lines of a list were read
-first_lines : (stage : Stage) (start : Start) (left : ListState) (lines : List (List ℕ)) → WasRead stage (list_before start) left lines
-    → (more : List (List ℕ)) × (lines_of start.list ≡ lines ++ more)
-first_lines stage start left lines read = elim read.cut [
-  | inl whole ↦
-      let (more, is) = behind_front start.list read.bytes read.rest left.left read.consumed in
-      (read.behind ++ lines_of more, ap lines_of is ∙ cut read.bytes more whole ∙ ap (λ l. l ++ lines_of more) read.split ∙ append_assoc lines read.behind (lines_of more))
-  | inr (none, end) ↦
-      (read.behind, ap lines_of (all_read start.list read.bytes read.rest left.left read.consumed none end) ∙ read.split)
-]
-
--- or all that were read
+-- all lines that were read
 module _ (start : Start) {stage : Stage} {left : ListState} {lines : List (List ℕ)} (read : WasRead stage (list_before start) left lines) where
   all_of : stage ≢ among → lines_of read.bytes ≡ lines
   all_of over = grind (arith, append-nil, over, read.split, read.reached)
 
-  pub lines_to_end : stage ≡ ended → lines_of start.list ≡ lines
+  lines_to_end : stage ≡ ended → lines_of start.list ≡ lines
   lines_to_end is = grind (arith, append-nil, is, read.split, read.reached, read.consumed)
 
 -- which are the same if all of the list was read, or as much of it
@@ -189,45 +157,13 @@ module _ {File : Type 0} (place : Place File) (contents : List ℕ → Result (L
       let said = same_lines a.report b.report same (same_far start a.report.read b.report.read same a.is_over b.is_over far) in
       (said.0, cc (grown _ _ _ a.tells.adds, grown _ _ _ b.tells.adds, said.2), cc (a.answer, b.answer, same, said.1))
 
-  -- what comes of the front of some lines
-  reports_front : (layout : Option Layout) (number : ℕ) (lines more : List (List ℕ)) (events : List Event) (last : Option Layout)
-      → Reports place options.ignore_missing rules layout number (lines ++ more) events last
-      → (es : List Event) × (fs : List Event) × (mid : Option Layout) × (events ≡ es ++ fs) × Reports place options.ignore_missing rules layout number lines es mid
-  reports_front layout number [] more events last reports = ([], events, layout, refl, (refl, refl))
-  reports_front layout number (text ∷ rest) more events last (here, others, are, on, later) =
-      let (es, fs, mid, is, front) = reports_front (layout_after rules layout text) (number + 1) rest more others last later in
-      (here ++ es, fs, mid, are ∙ ap (λ l. here ++ l) is ∙ sym (append_assoc here es fs), (here, es, refl, on, front))
-
-  -- what was told of lines among those of a list, or of all, is the front of what is told of the list
-  more_said : {left right : ListState} {last other_last : Option Layout} {xs ys : List Item} {t u : Tally} (stage : Stage)
-      → IsReport place options rules first last (list_before start) left ended xs t
-      → IsReport place options rules first other_last (list_before start) right stage ys u → stage ≢ failed → (more : List Item) × (xs ≡ ys ++ more)
-  more_said {left = left} {last = last} {other_last = other_last} {t = t} among a b works =
-      let (more, lines) = first_lines among start _ b.lines b.read in
-      let reports : Reports place options.ignore_missing rules first 1 (b.lines ++ more) a.events last =
-      rw (← lines, lines_to_end start a.read refl) a.reports in
-      let (es, fs, mid, split, come) = reports_front first 1 b.lines more a.events last reports in
-      let same = (one_list place contents known options.ignore_missing rules first 1 b.lines es b.events mid other_last come b.reports).0 in
-      let rest = flat_map (items_of_event options) fs ++ last_remarks ended options t in
-      (rest, grind (arith, flat_map-append, append-nil, append_assoc, a.said, b.said, split, same))
-  more_said {ys = ys} ended a b works =
-      let said = same_lines a b refl (sym (lines_to_end start a.read refl) ∙ lines_to_end start b.read refl) in
-      ([], said.2 ∙ sym (append-nil ys))
-  more_said failed a b works = absurd (works refl)
-
-  pub early_end : (one : Report place options rules first start) → one.checks.stage ≡ ended → (end : EarlyEnd place options rules first start)
-      → end.stops.stage ≢ failed → IsFront start.items end.told.items one.told.items
-  early_end one whole end works =
-      let (more, is) = more_said end.stops.stage (rw whole at one.checks.report) end.stops.report works in
-      front_told start.items end.stops.items more one.checks.items end.told.items one.told.items end.stops.stops.told one.checks.tells.adds is
-
 -- ---- files that are printed
 
 module _ (contents : List ℕ → Result (List ℕ) Error) (style : Style) where
-  abbrev pub items : List (List ℕ) → List Item
+  abbrev items : List (List ℕ) → List Item
   items = flat_map (λ (name : List ℕ). items_by style name (contents name))
 
-  abbrev pub are_given : List (List ℕ) → Bool
+  abbrev are_given : List (List ℕ) → Bool
   are_given = list_all (λ (name : List ℕ). is_given (contents name))
 
 module _ {File : Type 0} (place : Place File) (contents : List ℕ → Result (List ℕ) Error) (style : Style) (known : IsKnown place contents) where
@@ -244,7 +180,7 @@ module _ {File : Type 0} (place : Place File) (contents : List ℕ → Result (L
       (rw (here.0, more.0) refl, rw (here.1, more.1) refl)
 
   -- what is printed of files is by what their names give
-  pub prints_by : (names : List (List ℕ)) (told : List Item) (all : Bool) → Prints place style names told all
+  prints_by : (names : List (List ℕ)) (told : List Item) (all : Bool) → Prints place style names told all
       → (told ≡ items contents style names) × (all ≡ are_given contents style names)
   prints_by names told all prints = rw prints.named at (rw (← prints.said, ← prints.answer) at (of_readings prints.readings prints.each))
 
@@ -259,13 +195,3 @@ module _ {File : Type 0} (place : Place File) (contents : List ℕ → Result (L
   one_print other =
       let by_other = prints_by place contents style known files other.prints.items other.all other.prints.prints in
       (cc (by_one.0, by_other.0, grown _ _ _ one.prints.tells.adds, grown _ _ _ other.prints.tells.adds), by_one.1 ∙ sym by_other.1)
-
-  pub early_print : (end : EarlyPrint place style files (record { items = Some before; failure = failure }))
-      → IsFront before end.told.items one.told.items
-  early_print end =
-      let b = end.prints in
-      let back = items contents style (drop b.count files) in
-      let all : items contents style files ≡ b.items ++ back =
-      rw (take-append-drop, ← (prints_by place contents style known (take b.count files) b.items b.all b.prints).0) at
-      (flat_map-append (λ (name : List ℕ). items_by style name (contents name)) (take b.count files) (drop b.count files)) in
-      front_told before b.items back one.prints.items end.told.items one.told.items b.stops.told one.prints.tells.adds (by_one.0 ∙ all)

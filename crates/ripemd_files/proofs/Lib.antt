@@ -17,4 +17,3 @@ pub mod Grouped
 pub mod Sizes
 pub mod Agreeing
 pub mod Determined
-pub mod PrintedLists

@@ -1,13 +1,12 @@
 -- What is right where all is known of a folder.
-use Rattle.std.specs.Prelude.{◌≡◌, ℕ, ◌^◌, ◌<◌, List, ◌++◌, length, Option, Some, Result, Ok, Err, Bool}
+use Rattle.std.specs.Prelude.{◌≡◌, ℕ, ◌^◌, ◌<◌, List, length, Option, Some, Result, Ok, Err, Bool}
 use Rattle.std.specs.declared.io.Error.{Error}
 use Rattle.ripemd_files.specs.declared.line.Layout.{Layout}
 use Rattle.ripemd_files.specs.declared.list.Rules.{Rules}
 use Rattle.ripemd_files.specs.declared.printing.Style.{Style}
 use Rattle.ripemd_files.specs.declared.verdict.Options.{Options}
-use Rattle.ripemd_files.specs.declared.fault.Fault.{Fault}
-use Rattle.ripemd_files.specs.Lists.{ChecksList, StopsList}
-use Rattle.ripemd_files.specs.Printing.{PrintsAll, PrintsFirst}
+use Rattle.ripemd_files.specs.Lists.{ChecksList}
+use Rattle.ripemd_files.specs.Printing.{PrintsAll}
 use Rattle.ripemd_files.specs.Files.{Place}
 use Rattle.ripemd_files.specs.Said.{Item, Told}
 use Rattle.ripemd_files.specs.Splitting.{ListState}
@@ -41,28 +40,8 @@ pub record Report {File : Type 0} (place : Place File) (options : Options) (rule
   pub success : Bool
   pub checks : ChecksList place options rules first last (list_before start) left (told_before start) told success
 
--- or how it may end before its end
-pub record EarlyEnd {File : Type 0} (place : Place File) (options : Options) (rules : Rules) (first : Option Layout) (start : Start) : Type 0 where
-  pub left : ListState
-  pub told : Told
-  pub fault : Fault
-  pub stops : StopsList place options rules first (list_before start) left (told_before start) told fault
-
 -- a print of files of these names: what may be printed of them
 pub record Print {File : Type 0} (place : Place File) (style : Style) (names : List (List ℕ)) (start : Told) : Type 0 where
   pub told : Told
   pub all : Bool
   pub prints : PrintsAll place style names start told all
-
--- what was told till one end is the front of what was told till another
-pub record IsFront (before : List Item) (early late : Option (List Item)) : Type 0 where
-  pub first : List Item
-  pub rest : List Item
-  pub is_early : early ≡ Some (before ++ first)
-  pub is_late : late ≡ Some (before ++ (first ++ rest))
-
--- a print that ended before its end
-pub record EarlyPrint {File : Type 0} (place : Place File) (style : Style) (names : List (List ℕ)) (start : Told) : Type 0 where
-  pub told : Told
-  pub fault : Fault
-  pub prints : PrintsFirst place style names start told fault

@@ -1,7 +1,6 @@
 -- Lines that were printed, and are checked.
-use Rattle.std.specs.Prelude.{◌≡◌, ◌≢◌, ◌==◌, ◌&&◌, ℕ, List, ◌++◌, codes, map, flat_map, Option, unwrap_or, Result, Ok, Err, Bool, false, IsTrue, if◌then◌else◌}
+use Rattle.std.specs.Prelude.{◌≡◌, ◌≢◌, ◌==◌, ℕ, List, codes, Option, unwrap_or, false, IsTrue}
 use Rattle.std.specs.List.{list_any}
-use Rattle.std.specs.declared.io.Error.{Error}
 use Rattle.ripemd.specs.Collisions.{IsCollision}
 use Rattle.ripemd.specs.Standard.Compression.{compress, ripemd128, ripemd160, ripemd256, ripemd320}
 use Rattle.ripemd.specs.Standard.Hashing.{ripemd}
@@ -14,9 +13,6 @@ use Rattle.ripemd_files.specs.declared.line.Ending.TheVariants.{Newline}
 use Rattle.ripemd_files.specs.declared.line.Variant.{Variant}
 use Rattle.ripemd_files.specs.declared.line.Variant.TheVariants.{R128, R160, R256, R320}
 use Rattle.ripemd_files.specs.declared.list.Rules.{Rules}
-use Rattle.ripemd_files.specs.declared.verdict.Verdict.{Verdict}
-use Rattle.ripemd_files.specs.declared.verdict.Verdict.TheVariants.{Missing, Unreadable}
-use Rattle.ripemd_files.specs.Checking.{Event, checked, is_missing, verdict_of_digest}
 use Rattle.ripemd_files.specs.Lines.{IsReadable, line_of}
 use Rattle.ripemd_files.specs.Lists.{IsWanted}
 use Rattle.ripemd_files.specs.Files.{parameters_of}
@@ -31,26 +27,6 @@ pub record IsPrinted (rules : Rules) (layout : Option Layout) (form : Form) (var
   pub no_zero : list_any (λ byte. byte == 0) name ≡ false
   pub wanted : IsWanted rules.only variant
   pub other : IsTrue rules.from_input → name ≢ codes "-"
-
--- a file by its name, with the message that it gave
-pub record Printed : Type 0 where
-  pub name : List ℕ
-  pub message : List ℕ
-
--- the lines of some files
-abbrev pub printed_text : Form → Variant → List Printed → List ℕ
-printed_text form variant files = flat_map (λ (f : Printed). printed_line form variant f.message f.name ++ codes "\n") files
-
--- what a check finds of a file whose line is that of a message, if it gives a message now, or can't be opened
-abbrev pub verdict_now : Bool → Variant → (message : List ℕ) → Result (List ℕ) Error → Verdict
-verdict_now ignore_missing variant message (Ok given) =
-    verdict_of_digest (ripemd (parameters_of variant) given) (ripemd (parameters_of variant) message)
-verdict_now ignore_missing variant message (Err error) = if ignore_missing && is_missing error then Missing else Unreadable error
-
--- what comes of the lines of files, by what their names give now
-abbrev pub events_now : Bool → Variant → (List ℕ → Result (List ℕ) Error) → List Printed → List Event
-events_now ignore_missing variant contents files =
-    map (λ (f : Printed). checked f.name (verdict_now ignore_missing variant f.message (contents f.name))) files
 
 -- a collision of two messages, by the block function of this variant
 abbrev pub IsCollisionOf : Variant → List ℕ → List ℕ → VariantCollision → Type 0

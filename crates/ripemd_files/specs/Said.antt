@@ -26,9 +26,9 @@ Adds (Some xs) None more = ⊥
 Adds (Some xs) (Some ys) more = ys ≡ xs ++ more
 
 -- known items grow by the first of these, or by all
-pub record AddsFirst (old new : Option (List Item)) (items : List Item) : Type 0 where
-  pub first : List Item
-  pub rest : List Item
+pub record AddsFirst {A : Type 0} (old new : Option (List A)) (items : List A) : Type 0 where
+  pub first : List A
+  pub rest : List A
   pub split : items ≡ first ++ rest
   pub adds : Adds old new first
 

@@ -59,6 +59,7 @@ pub record EscapedLines : Type 0 where
   pub newline : written Newline Text R160 (codes "n\nl") ≡ codes "\\" ++ digits_then (codes "  n\\nl\n")
   pub carriage_return : written Newline Binary R160 (codes "c\rr") ≡ codes "\\" ++ digits_then (codes " *c\\rr\n")
   pub tagged : written Newline Tagged R160 (codes "b\\c") ≡ codes "\\RMD160 (b\\\\c) = " ++ digits_then (codes "\n")
+  pub other_control : written Newline Text R160 (9 ∷ 11 ∷ []) ≡ digits_then (codes "  " ++ (9 ∷ 11 ∷ codes "\n"))
   pub ends_with_zero : written Zero Text R160 (codes "n\nl") ≡ digits_then (codes "  n\nl" ++ (0 ∷ []))
   pub tagged_with_zero : written Zero Tagged R160 (codes "b\\c") ≡ codes "RMD160 (b\\c) = " ++ digits_then (0 ∷ [])
 

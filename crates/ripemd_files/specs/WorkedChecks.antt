@@ -1,6 +1,6 @@
 -- Checks of lists, worked. sha256sum of coreutils 9.1 says, counts and answers the same in these cases, with its own digests
 -- and tag.
-use Rattle.std.specs.Prelude.{◌≡◌, ℕ, List, [], ◌∷◌, ◌++◌, codes, count_by, Bool, true, false, Some, None, Ok, ⊤}
+use Rattle.std.specs.Prelude.{◌≡◌, ℕ, List, [], ◌∷◌, ◌++◌, codes, count_by, Bool, true, false, ◌&&◌, if◌then◌else◌, Some, None, Ok, ⊤}
 use Rattle.std.specs.IoError.{error_kind}
 use Rattle.std.specs.declared.io.Error.{Error}
 use Rattle.std.specs.declared.io.ErrorKind.TheVariants as kinds
@@ -57,23 +57,11 @@ ignoring = record plain { ignore_missing = true }
 abbrev pub quietly : Options
 quietly = record plain { quiet = true }
 
-abbrev pub silently : Options
-silently = record plain { status = true }
-
 abbrev pub strictly : Options
 strictly = record plain { strict = true }
 
 abbrev pub warning : Options
 warning = record plain { warn = true }
-
-abbrev pub strictly_warning : Options
-strictly_warning = record warning { strict = true }
-
-abbrev pub strictly_silent : Options
-strictly_silent = record silently { strict = true }
-
-abbrev pub quietly_ignoring : Options
-quietly_ignoring = record quietly { ignore_missing = true }
 
 -- what is written of a verdict on the file "a"
 abbrev pub says_of_a : Options → Verdict → List ℕ
@@ -88,16 +76,10 @@ pub record LinesOfEvents (error : Error) : Type 0 where
   pub quiet_match : says_of_a quietly Matches ≡ []
   pub quiet_difference : says_of_a quietly Differs ≡ codes "a: FAILED\n"
   pub quiet_error : says_of_a quietly (Unreadable error) ≡ codes "a: FAILED open or read\n"
-  pub silent_match : says_of_a silently Matches ≡ []
-  pub silent_difference : says_of_a silently Differs ≡ []
-  pub silent_error : says_of_a silently (Unreadable error) ≡ []
-  pub strict : says_of_a strictly Matches ≡ codes "a: OK\n"
-  pub strict_silent : says_of_a strictly_silent Differs ≡ []
-  pub ignoring_match : says_of_a ignoring Matches ≡ codes "a: OK\n"
-  pub warned : says_of_a warning Matches ≡ codes "a: OK\n"
   pub no_name : line_of_event plain (checked [] (Unreadable error)) ≡ codes ": FAILED open or read\n"
   pub backslash : line_of_event plain (checked (codes "b\\c") Matches) ≡ codes "b\\c: OK\n"
   pub carriage_return : line_of_event plain (checked (codes "c\rd") Matches) ≡ codes "c\rd: OK\n"
+  pub control : line_of_event plain (checked (9 ∷ 11 ∷ []) Matches) ≡ 9 ∷ 11 ∷ codes ": OK\n"
   pub newline : line_of_event plain (checked (codes "a\nb") Differs) ≡ codes "\\a\\nb: FAILED\n"
   pub newline_and_tab : line_of_event plain (checked (codes "a\n\tb") Differs) ≡ codes "\\a\\n\tb: FAILED\n"
   pub all_special : line_of_event plain (checked (codes "a\nb\\c\rd") Matches) ≡ codes "\\a\\nb\\\\c\\rd: OK\n"
@@ -107,12 +89,8 @@ pub record RemarksOnEvents (error : Error) : Type 0 where
   pub differs : remarks_on_event warning (checked (codes "a") Differs) ≡ []
   pub missing : remarks_on_event warning (checked (codes "a") Missing) ≡ []
   pub an_error : remarks_on_event plain (checked (codes "a") (Unreadable error)) ≡ unreadable (codes "a") error ∷ []
-  pub silent_error : remarks_on_event silently (checked (codes "a") (Unreadable error)) ≡ unreadable (codes "a") error ∷ []
-  pub quiet_error : remarks_on_event quietly (checked (codes "a") (Unreadable error)) ≡ unreadable (codes "a") error ∷ []
   pub warned : remarks_on_event warning (misformatted 3) ≡ about_list (complaints.Misformatted 3) ∷ []
-  pub warned_strictly : remarks_on_event strictly_warning (misformatted 3) ≡ about_list (complaints.Misformatted 3) ∷ []
   pub not_warned : remarks_on_event plain (misformatted 3) ≡ []
-  pub not_warned_strictly : remarks_on_event strictly (misformatted 3) ≡ []
 
 -- a remark on a file stands before its line
 pub record ItemsOfEvents (error : Error) : Type 0 where
@@ -169,13 +147,6 @@ pub record ClosingRemarks : Type 0 where
       ∷ about_list complaints.NothingVerified ∷ []
   pub no_lines : closing_remarks plain (tally 0 0 0 false false) ≡ about_list complaints.NoLines ∷ []
   pub no_lines_but_damaged : closing_remarks ignoring (tally 1 0 0 false false) ≡ about_list complaints.NoLines ∷ []
-  pub no_lines_silently : closing_remarks silently (tally 1 0 0 false false) ≡ about_list complaints.NoLines ∷ []
-  pub silently_all : closing_remarks (record silently { ignore_missing = true }) (tally 1 2 3 false true) ≡ []
-  pub silently_strictly : closing_remarks strictly_silent (tally 1 2 3 true true) ≡ []
-  pub quietly_ignoring : closing_remarks quietly_ignoring (tally 0 0 0 false true) ≡ about_list complaints.NothingVerified ∷ []
-  pub quietly_damaged : closing_remarks quietly (tally 1 0 0 true true) ≡ about_list (complaints.MisformattedLines 1) ∷ []
-  pub strictly_damaged : closing_remarks strictly (tally 1 0 0 true true) ≡ about_list (complaints.MisformattedLines 1) ∷ []
-  pub warned_damaged : closing_remarks warning (tally 1 0 0 true true) ≡ about_list (complaints.MisformattedLines 1) ∷ []
 
 pub record Answers : Type 0 where
   pub all_match : is_success plain (tally 0 0 0 true true) ≡ true
@@ -188,18 +159,23 @@ pub record Answers : Type 0 where
   pub ignoring_one : is_success ignoring (tally 0 0 0 true true) ≡ true
   pub ignoring_all : is_success ignoring (tally 0 0 0 false true) ≡ false
   pub ignoring_damaged : is_success ignoring (tally 1 0 0 true true) ≡ true
-  pub silently_damaged : is_success silently (tally 1 0 0 true true) ≡ true
-  pub silently_differs : is_success silently (tally 0 1 0 true true) ≡ false
-  pub silently_strictly : is_success strictly_silent (tally 1 0 0 true true) ≡ false
-  pub strictly_warned : is_success strictly_warning (tally 1 0 0 true true) ≡ false
-  pub quietly_ignoring_all : is_success quietly_ignoring (tally 0 0 0 false true) ≡ false
-  pub quietly_differs : is_success quietly (tally 0 1 0 true true) ≡ false
-  pub warned : is_success warning (tally 1 0 0 true true) ≡ true
+
+-- ---- options
+
+-- what each option does, whatever the others say
+pub record OptionLaws (options : Options) (event : Event) (counts : Tally) : Type 0 where
+  pub line : line_of_event options event ≡ (if options.status then [] else line_of_event (record plain { quiet = options.quiet }) event)
+  pub remarks : remarks_on_event options event ≡ remarks_on_event (record plain { warn = options.warn }) event
+  pub closing : closing_remarks options counts
+      ≡ (if options.status && counts.checked then [] else closing_remarks (record plain { ignore_missing = options.ignore_missing }) counts)
+  pub answer : is_success options counts
+      ≡ (is_success (record plain { ignore_missing = options.ignore_missing }) counts && is_success (record plain { strict = options.strict }) counts)
 
 -- ---- lines of a list
 
 pub record PassedOver : Type 0 where
   pub comment : is_passed_over (codes "#..") ≡ true
+  pub semicolon : is_passed_over (codes ";..") ≡ false
   pub empty : is_passed_over [] ≡ true
   pub carriage_return : is_passed_over (codes "\r") ≡ true
   pub two_carriage_returns : is_passed_over (codes "\r\r") ≡ false

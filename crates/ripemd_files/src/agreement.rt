@@ -1,15 +1,6 @@
 //! A check accepts what was printed. Functions without a result do nothing: their contracts are the theorems.
 
-ghost use Rattle.std.specs.Prelude.{◌≡◌, ◌≢◌, ◌<◌, ◌^◌, ◌++◌, ◌↔◌, ◌⊎◌, ℕ, List, map, Bool, true, Option, None, Some, Result, Ok, length, unwrap_or, IfSome, IsNone};
-ghost use Rattle.std.specs.List.{All};
-ghost use Rattle.std.specs.declared.io.Error.{Error};
-ghost use Rattle.ripemd_files.specs.declared.line.Ending.TheVariants.{Newline};
-ghost use Rattle.ripemd_files.specs.declared.line.Layout.TheVariants.{Standard};
-ghost use Rattle.ripemd_files.specs.declared.printing.Style.{Style};
-ghost use Rattle.ripemd_files.specs.declared.verdict.Options.{Options};
-ghost use Rattle.ripemd_files.specs.Determined.{IsKnown, Print, Report, Start};
-ghost use Rattle.ripemd_files.specs.Lists.{ended};
-ghost use Rattle.ripemd_files.specs.Said.{Item, written};
+ghost use Rattle.std.specs.Prelude.{◌≡◌, ◌≢◌, ◌<◌, ◌^◌, ◌↔◌, ◌⊎◌, ℕ, List, Bool, Option, length, IfSome, IsNone};
 ghost use Rattle.hex.specs.Hex.{IsBytes};
 ghost use Rattle.ripemd_files.specs.Lines.{size_of};
 ghost use Rattle.ripemd.specs.Standard.Hashing.{ripemd};
@@ -19,9 +10,9 @@ ghost use Rattle.ripemd_files.specs.declared.line.Variant.{Variant};
 ghost use Rattle.ripemd_files.specs.declared.list.Rules.{Rules};
 ghost use Rattle.ripemd_files.specs.declared.verdict.Verdict.{Verdict};
 ghost use Rattle.ripemd_files.specs.declared.verdict.Verdict.TheVariants.{Differs, Matches};
-ghost use Rattle.ripemd_files.specs.Checking.{checked};
+ghost use Rattle.ripemd_files.specs.Checking.{checked, verdict_of_digest};
 ghost use Rattle.ripemd_files.specs.Lists.{IsEventOn, IsTaken};
-ghost use Rattle.ripemd_files.specs.Printed.{IsCollisionOf, IsPrinted, Printed, events_now, printed_line, printed_text, verdict_now};
+ghost use Rattle.ripemd_files.specs.Printed.{IsCollisionOf, IsPrinted, printed_line};
 ghost use Rattle.ripemd_files.specs.Files.{Gives, parameters_of};
 
 use crate::folder::Folder;
@@ -57,29 +48,6 @@ pub fn printed_lines<F: Folder>(_folder: &F)
         × (ripemd (parameters_of variant) given ≡ ripemd (parameters_of variant) message) }
 {}
 
-/// What a check says of a printed list, in a folder of which all is known. Of matching files that give other
-/// messages, see [`matching_collision`].
-pub fn printed_lists<F: Folder>(_folder: &F)
-    // A print of files that give these messages has their lines and no others.
-    ensures printed { (contents : List ℕ → Result (List ℕ) Error) (style : Style) (files : List Printed) (before : List Item) (failure : Option Error)
-        → IsKnown (F.place _folder.now) contents → style.ending ≡ Newline → All (λ (f : Printed). contents f.name ≡ Ok f.message) files
-        → (one : Print (F.place _folder.now) style (map (λ (f : Printed). f.name) files) (record { items = Some before; failure = failure }))
-        → (one.told.items ≡ Some (before ++ written (printed_text style.form style.variant files))) × (one.all ≡ true) }
-    // A check of a list of them has one event for each file, in order, by what it gives now.
-    ensures checked { (contents : List ℕ → Result (List ℕ) Error) (options : Options) (rules : Rules) (first : Option Layout) (form : Form)
-        (variant : Variant) (files : List Printed) (start : Start) → IsKnown (F.place _folder.now) contents → unwrap_or first Standard ≡ Standard
-        → All (λ (f : Printed). IsPrinted rules None form variant f.name) files → start.list ≡ printed_text form variant files
-        → (one : Report (F.place _folder.now) options rules first start) → one.checks.stage ≡ ended
-        → one.checks.report.events ≡ events_now options.ignore_missing variant contents files }
-    // If all give the printed messages, the check succeeds.
-    ensures accepted { (contents : List ℕ → Result (List ℕ) Error) (options : Options) (rules : Rules) (first : Option Layout) (form : Form)
-        (variant : Variant) (files : List Printed) (start : Start) → IsKnown (F.place _folder.now) contents → unwrap_or first Standard ≡ Standard
-        → All (λ (f : Printed). IsPrinted rules None form variant f.name) files → start.list ≡ printed_text form variant files
-        → All (λ (f : Printed). contents f.name ≡ Ok f.message) files → 0 < length files
-        → (one : Report (F.place _folder.now) options rules first start) → one.checks.stage ≡ ended
-        → (one.checks.report.events ≡ map (λ (f : Printed). checked f.name Matches) files) × (one.success ≡ true) }
-{}
-
 /// A collision of a variant's block function.
 #[derive(Clone, Copy, PartialEq, Eq, Debug)]
 pub enum VariantCollision {
@@ -100,10 +68,10 @@ pub fn matching_collision<F: Folder>(
     requires printed_short { length printed.now < 2 ^ 61 }
     requires given_short { length given.now < 2 ^ 61 }
     ensures collision { IfSome result (IsCollisionOf variant printed.now given.now) }
-    // In a list: `None` exactly if the messages are equal or the file differs.
-    ensures none { (ignore_missing : Bool) → IsNone result
-        ↔ ((printed.now ≡ given.now) ⊎ (verdict_now ignore_missing variant printed.now (Ok given.now) ≡ Differs)) }
-    // In a line: if the file gives only `given`, and matches, `None` means equal messages.
+    // `None` exactly if the messages are equal or have other digests.
+    ensures none { IsNone result ↔ ((printed.now ≡ given.now)
+        ⊎ (verdict_of_digest (ripemd (parameters_of variant) given.now) (ripemd (parameters_of variant) printed.now) ≡ Differs)) }
+    // If the file of a line gives only `given`, and matches, `None` means equal messages.
     ensures line { (rules : Rules) (layout : Option Layout) (form : Form) (name found : List ℕ) (ignore_missing : Bool) (number : ℕ)
         → IsPrinted rules layout form variant name
         → IsEventOn (F.place _folder.now) ignore_missing rules layout number (printed_line form variant printed.now name) (checked found Matches)

@@ -1,48 +1,39 @@
 //! Facts of the definitions of prints and checks: worked cases, and that one answer is right. The functions do
 //! nothing: their contracts are the facts.
 
-ghost use Rattle.std.specs.Prelude.{◌≡◌, ◌≢◌, ◌⊎◌, ℕ, List, [], ◌∷◌, Bool, Option, Some, Result, length};
+ghost use Rattle.std.specs.Prelude.{◌≡◌, ◌⊎◌, ℕ, List, [], ◌∷◌, Bool, Option, Some, Result, length};
 ghost use Rattle.std.specs.declared.io.Error.{Error};
 ghost use Rattle.ripemd_files.specs.declared.outcome.Outcome.{Outcome};
 ghost use Rattle.ripemd_files.specs.declared.line.Layout.{Layout};
 ghost use Rattle.ripemd_files.specs.declared.list.Rules.{Rules};
 ghost use Rattle.ripemd_files.specs.declared.printing.Style.{Style};
 ghost use Rattle.ripemd_files.specs.declared.verdict.Options.{Options};
-ghost use Rattle.ripemd_files.specs.Determined.{EarlyEnd, EarlyPrint, IsFront, IsKnown, Print, Report, Start};
-ghost use Rattle.ripemd_files.specs.Lists.{ended, failed};
+ghost use Rattle.ripemd_files.specs.declared.verdict.Tally.{Tally};
+ghost use Rattle.ripemd_files.specs.Determined.{IsKnown, Print, Report, Start};
+ghost use Rattle.ripemd_files.specs.Lists.{ended};
 ghost use Rattle.ripemd_files.specs.Said.{Item};
 ghost use Rattle.ripemd_files.specs.Contents.{IsDigest};
 ghost use Rattle.ripemd_files.specs.Checking.{Event};
-ghost use Rattle.ripemd_files.specs.WorkedChecks.{DigestVerdicts, ErrorVerdicts, ItemsOfEvents, LinesOfEvents, RemarksOnEvents, Tallies, OtherTallies, LongCounts, ClosingRemarks, Answers, PassedOver, Bodies, NextLayouts, Wanted, PrintedLines, PrintedErrors, KnownFolders};
+ghost use Rattle.ripemd_files.specs.WorkedChecks.{DigestVerdicts, ErrorVerdicts, ItemsOfEvents, LinesOfEvents, RemarksOnEvents, Tallies, OtherTallies, LongCounts, ClosingRemarks, Answers, OptionLaws, PassedOver, Bodies, NextLayouts, Wanted, PrintedLines, PrintedErrors, KnownFolders};
 
 use crate::folder::Folder;
 
 /// If all is known of a folder, only one report on a list is right.
 pub fn one_report<F: Folder>(_folder: &F)
     // Reports that read the list to its end, or equally far, agree.
-    ensures same { (contents : List ℕ → Result (List ℕ) Error) (options : Options) (rules : Rules) (first : Option Layout) (start : Start)
+    ensures { (contents : List ℕ → Result (List ℕ) Error) (options : Options) (rules : Rules) (first : Option Layout) (start : Start)
         → IsKnown (F.place _folder.now) contents → (one other : Report (F.place _folder.now) options rules first start)
         → one.checks.stage ≡ other.checks.stage
         → one.checks.stage ≡ ended ⊎ (length one.checks.report.read.bytes ≡ length other.checks.report.read.bytes)
         → (one.last ≡ other.last) × (one.told.items ≡ other.told.items) × (one.success ≡ other.success) }
-    // A run that ends early, unless a read of its list failed, told the front of the report.
-    ensures early { (contents : List ℕ → Result (List ℕ) Error) (options : Options) (rules : Rules) (first : Option Layout) (start : Start)
-        → IsKnown (F.place _folder.now) contents → (one : Report (F.place _folder.now) options rules first start) → one.checks.stage ≡ ended
-        → (end : EarlyEnd (F.place _folder.now) options rules first start) → end.stops.stage ≢ failed
-        → IsFront start.items end.told.items one.told.items }
 {}
 
 /// If all is known of a folder, only one print of files is right.
 pub fn one_print<F: Folder>(_folder: &F)
-    ensures same { (contents : List ℕ → Result (List ℕ) Error) (style : Style) (names : List (List ℕ)) (before : List Item) (failure : Option Error)
+    ensures { (contents : List ℕ → Result (List ℕ) Error) (style : Style) (names : List (List ℕ)) (before : List Item) (failure : Option Error)
         → IsKnown (F.place _folder.now) contents
         → (one other : Print (F.place _folder.now) style names (record { items = Some before; failure = failure }))
         → (one.told.items ≡ other.told.items) × (one.all ≡ other.all) }
-    ensures early { (contents : List ℕ → Result (List ℕ) Error) (style : Style) (names : List (List ℕ)) (before : List Item) (failure : Option Error)
-        → IsKnown (F.place _folder.now) contents
-        → (one : Print (F.place _folder.now) style names (record { items = Some before; failure = failure }))
-        → (end : EarlyPrint (F.place _folder.now) style names (record { items = Some before; failure = failure }))
-        → IsFront before end.told.items one.told.items }
 {}
 
 /// What a check finds of files.
@@ -65,6 +56,11 @@ pub fn worked_counts()
     ensures long { (events : List Event) → LongCounts events }
     ensures remarks { ClosingRemarks }
     ensures answers { Answers }
+{}
+
+/// What each option of a check does.
+pub fn option_laws()
+    ensures { (options : Options) (event : Event) (counts : Tally) → OptionLaws options event counts }
 {}
 
 /// Which lines are passed over, what others say, and the layout of lists.

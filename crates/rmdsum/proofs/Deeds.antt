@@ -1,17 +1,19 @@
 -- Deeds of a run, one after another.
-use Rattle.std.proofs.Common.{◌≡◌, ◌≢◌, ◌<◌, ◌+◌, ℕ, Bool, true, false, ◌&&◌, List, [], ◌∷◌, ◌++◌, length, take, get_or, map, Option, Some, None, vec_items, Global, refl, inl, inr, append_assoc, arith}
+use Rattle.std.proofs.Common.{◌≡◌, ◌≢◌, ◌<◌, ◌+◌, ℕ, Bool, true, false, ◌&&◌, List, [], ◌∷◌, ◌++◌, length, take, get_or, map, Option, Some, None, vec_items, Global, refl, inl, inr, sym, append_assoc, arith}
 use Rattle.std.specs.Prelude.{Vec, is_none}
 use Rattle.std.proofs.Math.Bool.{and-true}
 use Rattle.std.proofs.lemmas.List.{append-nil, map-append, take_more}
 use Rattle.ripemd_files.specs.declared.line.Variant.{Variant}
+use Rattle.ripemd_files.specs.declared.list.Rules.{Rules}
+use Rattle.ripemd_files.specs.declared.printing.Style.{Style}
 use Rattle.ripemd_files.specs.declared.verdict.Options.{Options}
 use Rattle.rmdsum.specs.declared.names.Wrong.{Wrong}
 use Rattle.rmdsum.specs.declared.request.NameSource.{NameSource}
 use Rattle.rmdsum.specs.declared.request.Request.TheVariants.{Run}
 use Rattle.rmdsum.specs.declared.request.Work.{Work}
-use Rattle.rmdsum.specs.declared.request.Work.TheVariants.{Check}
+use Rattle.rmdsum.specs.declared.request.Work.TheVariants.{Check, Print}
 use Rattle.ripemd_files.specs.Said.{Adds}
-use Rattle.rmdsum.specs.Runs.{Deed, Item, Extends, IsOf, Handles, IsRun, Performs, items, handled, succeeded}
+use Rattle.rmdsum.specs.Runs.{AreRules, Deed, Item, Extends, IsOf, Handles, IsRun, Performs, items, handled, succeeded}
 use Rattle.rmdsum.specs.Runs.Item.{Name}
 use Rattle.rmdsum.specs.Runs.Deed.{Refuses, ShowsHelp, ShowsVersion, Opens, Gets, Prints, Checks, Says}
 
@@ -45,18 +47,31 @@ one_deed work ShowsVersion a b of adds = absurd of
 one_deed work (Opens names progress answer) a b of adds = absurd of
 one_deed work (Gets names wrong) a b of adds = absurd of
 one_deed work (Prints style names answer) a b of adds = (_, adds, λ later deeds rest run. (later, rest, of, refl, refl, run))
-one_deed work (Checks only options name answer) a b of adds = (_, adds, λ later deeds rest run. (later, rest, of, refl, refl, run))
+one_deed work (Checks rules options name answer) a b of adds = (_, adds, λ later deeds rest run. (later, rest, of, refl, refl, run))
 one_deed work (Says wrong answer) a b of adds = (_, adds, λ later deeds rest run. (later, rest, of, refl, refl, run))
+
+-- no names were printed
+pub no_names : (work : Work) (a : Option (List Deed)) (names : List (Vec ℕ Global)) → length names ≡ 0
+    → Grows work (map Name (map vec_items names)) true a a
+no_names work None [] none = ([], tt, λ later deeds rest run. run)
+no_names work (Some a) [] none = ([], sym (append-nil a), λ later deeds rest run. run)
+no_names work a (name ∷ names) none = absurd (omega (arith, none))
+
+-- or some were
+pub some_names : (style : Style) (a b : Option (List Deed)) (names : List (Vec ℕ Global)) (answer : Bool) → ¬ (length names ≡ 0)
+    → Adds a b (Prints style (map vec_items names) answer ∷ []) → Grows (Print style) (map Name (map vec_items names)) answer a b
+some_names style a b [] answer some adds = absurd (some refl)
+some_names style a b (name ∷ names) answer some adds = one_deed (Print style) (Prints style _ answer) a b (refl, λ none. cc none) adds
 
 -- a list more was checked
 pub one_list : (only : Option Variant) (options : Options) (a b c : Option (List Deed)) (names : List (Vec ℕ Global)) (i : ℕ)
-    (name : Vec ℕ Global) (text : List ℕ) (success answer : Bool) → i < length names → get_or names i name ≡ name → text ≡ vec_items name
+    (name : Vec ℕ Global) (text : List ℕ) (rules : Rules) (success answer : Bool) → AreRules only text rules → i < length names → get_or names i name ≡ name → text ≡ vec_items name
     → Grows (Check only options) (map Name (map vec_items (take i names))) success a b
-    → Adds b c (Checks only options text answer ∷ [])
+    → Adds b c (Checks rules options text answer ∷ [])
     → Grows (Check only options) (map Name (map vec_items (take (i + 1) names))) (success && answer) a c
-one_list only options a b c names i name text success answer within is read so_far next =
+one_list only options a b c names i name text rules success answer are within is read so_far next =
     let whole : Grows (Check only options) (map Name (map vec_items (take i names)) ++ Name text ∷ []) (success && answer) a c =
-    both (Check only options) a b c _ _ _ _ so_far (one_deed (Check only options) (Checks only options text answer) b c (refl, refl) next) in
+    both (Check only options) a b c _ _ _ _ so_far (one_deed (Check only options) (Checks rules options text answer) b c (are, refl) next) in
     rw (take_more names i name within, is, map-append, map-append) (rw read at whole)
 
 -- a run that goes on after these deeds

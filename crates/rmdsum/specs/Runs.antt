@@ -1,6 +1,7 @@
 -- What a run of the program does.
-use Rattle.std.specs.Prelude.{◌≡◌, ◌≢◌, ◌⊎◌, ◌&&◌, ℕ, Bool, true, false, List, [], ◌∷◌, ◌++◌, map, Option, option_to_list, is_none, Result, Ok, Err}
+use Rattle.std.specs.Prelude.{◌≡◌, ◌≢◌, ◌⊎◌, ◌↔◌, ◌&&◌, ℕ, Bool, true, false, List, [], ◌∷◌, ◌++◌, codes, map, Option, option_to_list, is_none, Result, Ok, Err}
 use Rattle.ripemd_files.specs.declared.line.Variant.{Variant}
+use Rattle.ripemd_files.specs.declared.list.Rules.{Rules}
 use Rattle.ripemd_files.specs.declared.printing.Style.{Style}
 use Rattle.ripemd_files.specs.declared.verdict.Options.{Options}
 use Rattle.ripemd_files.specs.Said.{Adds}
@@ -22,7 +23,7 @@ pub data Deed : Type 0 where
   Opens : NameSource → Bool → Bool → Deed
   Gets : List (List ℕ) → Option Wrong → Deed
   Prints : Style → List (List ℕ) → Bool → Deed
-  Checks : Option Variant → Options → List ℕ → Bool → Deed
+  Checks : Rules → Options → List ℕ → Bool → Deed
   Says : Option Wrong → Bool → Deed
 
 -- known deeds grow by some that are such
@@ -42,22 +43,26 @@ items names wrong = map Name names ++ map Fault (option_to_list wrong)
 -- what a deed handles
 abbrev pub handled : Deed → List Item
 handled (Prints style names answer) = map Name names
-handled (Checks only options name answer) = Name name ∷ []
+handled (Checks rules options name answer) = Name name ∷ []
 handled (Says wrong answer) = map Fault (option_to_list wrong)
 handled _ = []
 
 -- whether it succeeds
 abbrev pub succeeded : Deed → Bool
 succeeded (Prints style names answer) = answer
-succeeded (Checks only options name answer) = answer
+succeeded (Checks rules options name answer) = answer
 succeeded (Says wrong answer) = answer
 succeeded _ = true
 
--- files are printed and lists are checked as the work has it, and what is wrong is told
+-- the rules for lines of a list of this name: that on standard input is `-`
+abbrev pub AreRules : Option Variant → List ℕ → Rules → Type 0
+AreRules only name rules = (rules.only ≡ only) × ((rules.from_input ≡ true) ↔ (name ≡ codes "-"))
+
+-- files, one at least, are printed and lists are checked as the work has it, and what is wrong is told
 abbrev pub IsOf : Work → Deed → Type 0
 IsOf work (Says wrong answer) = answer ≡ is_none wrong
-IsOf (Print style) (Prints same names answer) = same ≡ style
-IsOf (Check only options) (Checks same alike name answer) = (same ≡ only) × (alike ≡ options)
+IsOf (Print style) (Prints same names answer) = (same ≡ style) × (names ≢ [])
+IsOf (Check only options) (Checks rules same name answer) = AreRules only name rules × (same ≡ options)
 IsOf work _ = ⊥
 
 -- A run that still has these items to handle: it handles them in order, before it gets more, and ends when it gets none. It

@@ -89,7 +89,7 @@ pub record WorkedConflicts : Type 0 where
   pub print : conflict (Sets Tag ∷ Sets Text ∷ Sets Zero ∷ Sets Progress ∷ []) ≡ None
   pub check : conflict (Sets Check ∷ Sets IgnoreMissing ∷ Sets Strict ∷ Sets Warn ∷ []) ≡ None
   pub text : conflict (Sets Text ∷ Sets Tag ∷ Sets Check ∷ []) ≡ Some TextWithTag
-  pub text_first : conflict (Sets Strict ∷ Sets Text ∷ Sets Tag ∷ []) ≡ Some TextWithTag
+  pub text_first : conflict (Sets Strict ∷ Sets Zero ∷ Sets Text ∷ Sets Tag ∷ []) ≡ Some TextWithTag
   pub zero : conflict (Sets Zero ∷ Sets Tag ∷ Sets Check ∷ []) ≡ Some ZeroWithCheck
   pub zero_first : conflict (Sets Text ∷ Sets Zero ∷ Sets Check ∷ []) ≡ Some ZeroWithCheck
   pub tag : conflict (Sets Check ∷ Sets Tag ∷ []) ≡ Some TagWithCheck
@@ -126,7 +126,7 @@ abbrev pub plain : Variant → Style
 plain variant = record { variant = variant; form = forms.Text; ending = endings.Newline }
 
 abbrev pub checks : List ℕ → Bool → Deed
-checks name answer = Checks None usual name answer
+checks name answer = Checks (record { only = None; from_input = false }) usual name answer
 
 -- a run over two lists, whose answers are these
 abbrev pub two_lists : Bool → Bool → List Deed
@@ -149,6 +149,10 @@ pub record WorkedRuns : Type 0 where
   pub nothing : (success : Bool) → ¬ IsRun (works.Check None usual) [] success
   pub skipped : (success : Bool) → ¬ IsRun (works.Check None usual) (Gets (codes "a" ∷ codes "b" ∷ []) None ∷ checks (codes "b") true ∷ Says None true
       ∷ Gets [] None ∷ []) success
+  pub not_input : (success : Bool) → ¬ IsRun (works.Check None usual) (Gets (codes "-" ∷ []) None ∷ checks (codes "-") true ∷ Says None true ∷ Gets [] None ∷ [])
+      success
+  pub no_file : (success : Bool) → ¬ IsRun (works.Print (plain R160)) (Gets (codes "a" ∷ []) None ∷ Prints (plain R160) (codes "a" ∷ []) true
+      ∷ Prints (plain R160) [] true ∷ Says None true ∷ Gets [] None ∷ []) success
   pub unsaid : (success : Bool) → ¬ IsRun (works.Check None usual) (Gets [] (Some Input) ∷ Says None true ∷ Gets [] None ∷ []) success
   pub not_told : (success : Bool) → ¬ IsRun (works.Print (plain R160)) (Gets [] (Some Input) ∷ Says (Some Input) true ∷ Gets [] None ∷ []) success
   pub other_style : (success : Bool) → ¬ IsRun (works.Print (plain R160)) (Gets (codes "a" ∷ []) None ∷ Prints (plain R128) (codes "a" ∷ []) true

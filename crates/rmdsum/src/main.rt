@@ -2,7 +2,7 @@
 //! for SHA-256.
 #![tactic(auto)]
 
-ghost use Rattle.std.specs.Prelude.{◌≡◌, ◌↔◌, true, false, if◌then◌else◌, None, codes};
+ghost use Rattle.std.specs.Prelude.{◌≡◌, ◌↔◌, true, false, if◌then◌else◌, None};
 
 mod arguments;
 mod facts;
@@ -22,13 +22,13 @@ use messages::{Console, Message, say};
 use names::{Batch, Names, Wrong};
 use refusals::Misuse;
 use request::NameSource;
+use ripemd_files::Layout;
 use ripemd_files::checking::check_list;
 use ripemd_files::fault::Fault;
-use ripemd_files::list::{Rules, is_input};
+use ripemd_files::list::Rules;
 use ripemd_files::piece::List;
 use ripemd_files::printing::{Style, print_digests};
 use ripemd_files::verdict::Options;
-use ripemd_files::{Layout, Variant};
 use std::alloc::{AllocError, Global};
 use std::env;
 use std::env::VarError;
@@ -55,17 +55,6 @@ fn write_text(rt: &HostRuntime, parts: &[&[u8]]) -> Result<(), Fault> {
         rt.stdout().write_all(part).map_err(Fault::Write)?;
     }
     Ok(())
-}
-
-// The rules for lines of the list `name`.
-fn rules_of(only: Option<Variant>, name: &[u8]) -> Rules
-    ensures only { result.only ≡ only }
-    ensures input { (result.from_input ≡ true) ↔ (name.now ≡ codes "-") }
-{
-    Rules {
-        only,
-        from_input: is_input(name),
-    }
 }
 
 // The worker over the system's files and streams.
@@ -119,12 +108,7 @@ impl Worker for Host<'_> {
         )
     }
 
-    fn check(
-        &mut self,
-        only: Option<Variant>,
-        options: Options,
-        name: &[u8],
-    ) -> Result<bool, Fault> {
+    fn check(&mut self, rules: Rules, options: Options, name: &[u8]) -> Result<bool, Fault> {
         let source = match Source::open(self.rt, name) {
             Ok(source) => source,
             Err(error) => {
@@ -132,7 +116,6 @@ impl Worker for Host<'_> {
                 return Ok(false);
             }
         };
-        let rules = rules_of(only, name);
         let shown = if rules.from_input {
             b"standard input"
         } else {
@@ -145,7 +128,7 @@ impl Worker for Host<'_> {
             rules,
             &mut self.layout,
             &mut List::new(buffered(self.rt, source)?),
-            &mut Console::of_list(self.rt, shown, only),
+            &mut Console::of_list(self.rt, shown, rules.only),
         )
     }
 

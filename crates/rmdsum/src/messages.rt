@@ -1,7 +1,7 @@
 //! What the program says on standard error.
 
 ghost use Rattle.std.specs.Prelude.{◌≡◌, IfErr, List, None, OnOk, Option, Some, ℕ, ⊤};
-ghost use Rattle.ripemd_files.specs.Said.{Adds};
+ghost use Rattle.ripemd_files.specs.Said.{Adds, AddsFirst};
 
 use crate::arguments::program;
 use crate::quoting::{Charset, quoteaf, quotef};
@@ -238,10 +238,11 @@ trait Output {
 
     // Writes bytes, perhaps only to the buffer.
     fn put(&mut self, bytes: &[u8]) -> io::Result<()>
-        ensures { OnOk result (Adds (sent self.old) (sent self.new) bytes.now) };
+        ensures first { AddsFirst (sent self.old) (sent self.new) bytes.now }
+        ensures all { OnOk result (Adds (sent self.old) (sent self.new) bytes.now) };
 
     fn flush(&mut self) -> io::Result<()>
-        ensures sent { OnOk result (sent self.new ≡ sent self.old) }
+        ensures sent { sent self.new ≡ sent self.old }
         ensures flushed { OnOk result (is_flushed self.new) };
 }
 
@@ -256,7 +257,8 @@ impl Output for Stdout {
 }
 
 fn write_lines<O: Output>(out: &mut O, lines: &[u8]) -> io::Result<()>
-    ensures sent { OnOk result (Adds (O.sent out.old) (O.sent out.new) lines.now) }
+    ensures first { AddsFirst (O.sent out.old) (O.sent out.new) lines.now }
+    ensures all { OnOk result (Adds (O.sent out.old) (O.sent out.new) lines.now) }
     ensures flushed { OnOk result (O.is_flushed out.new) }
 {
     out.put(lines)?;

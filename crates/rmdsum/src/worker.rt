@@ -5,7 +5,7 @@ ghost use Rattle.rmdsum.specs.declared.arguments.Next.TheVariants.{Any};
 ghost use Rattle.rmdsum.specs.declared.request.Work.TheVariants.{Check};
 ghost use Rattle.ripemd_files.specs.Said.{Adds};
 ghost use Rattle.rmdsum.specs.Arguments.{reading};
-ghost use Rattle.rmdsum.specs.Runs.{Deed, Extends, DoesAsked, Performs, IsRun, Handles};
+ghost use Rattle.rmdsum.specs.Runs.{AreRules, Deed, Extends, DoesAsked, Performs, IsRun, Handles};
 ghost use Rattle.rmdsum.specs.Runs.Item.{Name};
 ghost use Rattle.rmdsum.specs.Runs.Deed.{Refuses, ShowsHelp, ShowsVersion, Opens, Gets, Prints, Checks, Says};
 
@@ -15,6 +15,7 @@ use crate::refusals::Misuse;
 use crate::request::{NameSource, Request, Work};
 use ripemd_files::Variant;
 use ripemd_files::fault::Fault;
+use ripemd_files::list::{Rules, is_input};
 use ripemd_files::printing::Style;
 use ripemd_files::verdict::Options;
 use std::alloc::Global;
@@ -49,8 +50,8 @@ pub trait Worker {
         ensures { IfOk result (λ answer. Adds (done self.old) (done self.new) (Prints style (map vec_items names.now) answer ∷ [])) };
 
     /// Checks a list. Whether the check succeeds.
-    fn check(&mut self, only: Option<Variant>, options: Options, name: &[u8]) -> Result<bool, Fault>
-        ensures { IfOk result (λ answer. Adds (done self.old) (done self.new) (Checks only options name.now answer ∷ [])) };
+    fn check(&mut self, rules: Rules, options: Options, name: &[u8]) -> Result<bool, Fault>
+        ensures { IfOk result (λ answer. Adds (done self.old) (done self.new) (Checks rules options name.now answer ∷ [])) };
 
     /// Says what is wrong after some names, if anything.
     fn tell(&mut self, wrong: Option<Wrong>) -> Result<bool, Fault>
@@ -116,11 +117,13 @@ fn do_all<W: Worker>(worker: &mut W, work: Work) -> Result<bool, Fault>
     Err(Fault::TooManyLines)
 }
 
+#[tactic(auto, using(crate::proofs::Deeds::no_names, crate::proofs::Deeds::some_names))]
 fn do_some<W: Worker>(worker: &mut W, work: Work, names: &[Vec<u8>]) -> Result<bool, Fault>
     ensures { IfOk result (λ success. Extends (W.done worker.old) (W.done worker.new)
         (λ deeds. Handles work (map Name (map vec_items names.now)) deeds success)) }
 {
     match work {
+        Work::Print(_) if names.is_empty() => Ok(true),
         Work::Print(style) => worker.print(style, names),
         Work::Check { only, options } => check_lists(worker, only, options, names),
     }
@@ -138,8 +141,19 @@ fn check_lists<W: Worker>(
 {
     let mut success = true;
     for name in names {
-        let checked = worker.check(only, options, name.as_slice())?;
+        let rules = rules_of(only, name.as_slice());
+        let checked = worker.check(rules, options, name.as_slice())?;
         success &= checked;
     }
     Ok(success)
+}
+
+// The rules for lines of the list `name`.
+fn rules_of(only: Option<Variant>, name: &[u8]) -> Rules
+    ensures { AreRules only name.now result }
+{
+    Rules {
+        only,
+        from_input: is_input(name),
+    }
 }

@@ -21,13 +21,13 @@ both one other = (
     (
       Name (codes "b") ∷ [],
       other && true,
-      (refl, refl),
+      ((refl, ((λ none. cc none), (λ none. cc none))), refl),
       refl,
       refl,
       (
         [],
         true,
-        (refl, refl),
+        ((refl, ((λ none. cc none), (λ none. cc none))), refl),
         refl,
         refl,
         ([], true, refl, refl, refl, ends (Check None usual)),
@@ -42,17 +42,19 @@ returns c = record {
   succeeds = both _ _;
   one_fails = both _ _;
   has_failed = λ success run. elim run.1 [ inl none ↦ cc none.0 | inr (some, got) ↦ got.4 ];
-  fault = (refl, inr ((λ none. cc none), (_, _, refl, refl, refl, ([], true, refl, refl, refl, ends (Print (plain R160))))));
+  fault = (refl, inr ((λ none. cc none), (_, _, (refl, λ none. cc none), refl, refl, ([], true, refl, refl, refl, ends (Print (plain R160))))));
   early = λ success run. elim run.1 [ inl none ↦ cc none.0 | inr (some, got) ↦ cc got.3 ];
   all_first = λ success run. elim run.1 [ inl none ↦ cc none.0 | inr (some, got) ↦ cc got.0 ];
   on = λ success run. elim run.1 [ inl ended ↦ cc ended.1 | inr goes ↦ goes.0 refl ];
   not_ended = λ success run. elim run.1 [ inl none ↦ cc none.0 | inr (some, got) ↦ got.5.5 ];
   nothing = λ success run. run;
   skipped = λ success run. elim run.1 [ inl none ↦ cc none.0 | inr (some, got) ↦ cc got.3 ];
+  not_input = λ success run. elim run.1 [ inl none ↦ cc none.0 | inr (some, got) ↦ cc (got.2.0.1.1 refl) ];
+  no_file = λ success run. elim run.1 [ inl none ↦ cc none.0 | inr (some, got) ↦ got.5.2.1 refl ];
   unsaid = λ success run. elim run.1 [ inl none ↦ cc none.0 | inr (some, got) ↦ cc (got.3, got.5.0) ];
   not_told = λ success run. elim run.1 [ inl none ↦ cc none.0 | inr (some, got) ↦ cc got.2 ];
   other_style = λ success run. elim run.1 [
     | inl none ↦ cc none.0
-    | inr (some, got) ↦ omega (arith, ap (λ (style : Style). size_of style.variant) got.2)
+    | inr (some, got) ↦ omega (arith, ap (λ (style : Style). size_of style.variant) got.2.0)
   ];
 }
