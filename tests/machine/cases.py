@@ -43,6 +43,11 @@ class Caller:
         """How many messages lists have."""
         return self.some([*range(10), 130], [0, 1, 3, 5, 9])
 
+    def nulls(self, count, variant):
+        """Whether some messages of such a list have null pointers. Many of them then go in groups, which is the same
+        code for each variant, and else at once, which is not."""
+        return count % 4 in (1, 2) if count < 10 else variant in (160, 320)
+
     @contextlib.contextmanager
     def trying(self, *what):
         """Begins anew, and notes what is wrong."""
@@ -174,9 +179,9 @@ def tags(caller, variant, size):
 
 
 def records(caller, variant, size, name, key_lengths):
-    """Calls for records of one length."""
+    """Calls for records of one length. Nine of each fill vectors and leave some over."""
     for count in caller.counts():
-        for length in [20] if count > 9 else caller.some([0, 55, 64], [55]):
+        for length in [20] if count > 9 else caller.some([0, 55, 64] if count == 9 else [(0, 55, 64)[count % 3]], [55]):
             with caller.trying(count, "records of", length, "bytes"):
                 key, hashers = made(caller, variant, key_lengths[count % len(key_lengths)])
                 every, out = caller.given("records", count * length), caller.place(count * size)
@@ -193,15 +198,15 @@ def records(caller, variant, size, name, key_lengths):
 def lists(caller, variant, size, name, key_lengths):
     """Calls for messages of lengths around a block, of which those of no bytes have null pointers, or none is null."""
     for count in caller.counts():
-        for nulls in [False, True] if count > 9 else [count % 4 in (1, 2)]:
-            with caller.trying(count, "messages"):
-                key, hashers = made(caller, variant, key_lengths[nulls % len(key_lengths)])
-                sizes = [(0, 64, 3, 55, 56, 70, 1, 130, 20)[(7 * i + count) % 9] for i in range(count)]
-                messages = [NOWHERE if n == 0 and nulls else caller.given(f"message {i}", n if count < 100 else n % 64)
-                            for i, n in enumerate(sizes)]
-                out, table = caller.place(count * size), caller.messages(messages) if count or nulls else NOWHERE
-                caller.call(name, variant, *key, *table, *out)
-                caller.holds(out, [byte for piece in messages for byte in output(variant, hashers, piece.bytes)])
+        with caller.trying(count, "messages"):
+            nulls = caller.nulls(count, variant)
+            key, hashers = made(caller, variant, key_lengths[nulls % len(key_lengths)])
+            sizes = [(0, 64, 3, 55, 56, 70, 1, 130, 20)[(7 * i + count) % 9] for i in range(count)]
+            messages = [NOWHERE if n == 0 and nulls else caller.given(f"message {i}", n if count < 100 else n % 64)
+                        for i, n in enumerate(sizes)]
+            out, table = caller.place(count * size), caller.messages(messages) if count or nulls else NOWHERE
+            caller.call(name, variant, *key, *table, *out)
+            caller.holds(out, [byte for piece in messages for byte in output(variant, hashers, piece.bytes)])
     with caller.trying("refusals"):
         key, _ = made(caller, variant, key_lengths[0])
         table, out = caller.messages([caller.given("one", 3), NOWHERE]), caller.place(2 * size)
@@ -304,10 +309,8 @@ def keys(caller, variant, size):
 def lists_of_keys(caller, variant, size):
     """pbkdf2_list."""
     for count in caller.counts():
-        nulls = count % 4 in (1, 2)
-        rounds, length = (1, 16) if nulls else (2, size + 4)
-        if count > 100 and variant != 160:
-            continue  # a group of 128 is the same of each variant
+        nulls = caller.nulls(count, variant)
+        rounds, length = (2, size + 4) if count in (3, 8) else (1, 16)
         with caller.trying(count, "passwords,", rounds, "rounds,", length, "bytes"):
             sizes = [(8, 100, 0, 64, 65)[i % 5] if count < 100 else 8 * (i % 40 > 0) for i in range(count)]
             passwords = [NOWHERE if n == 0 and nulls else caller.given(f"password {i}", n, secret=True)
@@ -329,13 +332,14 @@ def lists_of_keys(caller, variant, size):
 CASES = {
     "digest": digest, "each": partial(records, name="each", key_lengths=[None]),
     "lists": partial(lists, name="list", key_lengths=[None]),
-    "streams": partial(new_states, kind="", every=list(product([None], AROUND[:-1], [0, 8, 64, 130])),
-                       few=list(product([None], [0, 20, 63], [0, 8, 65]))),
+    "streams": partial(new_states, kind="", few=list(product([None], [0, 20, 63], [0, 8, 65])),
+                       every=[*product([None], [0, 1, 55, 56, 63], [0, 8, 64, 130]),
+                              *product([None], [3, 20, 64, 65, 119, 120, 128], [9])]),
     "load": partial(any_states, kind="", lengths_after=([0, 8, 64, 130], [0, 8, 71])),
     "tags": tags, "tags_of_records": partial(records, name="hmac_each", key_lengths=[20, 100]),
     "tags_of_lists": partial(lists, name="hmac_list", key_lengths=[20, 100]),
-    "tags_in_pieces": partial(new_states, kind="hmac_", every=list(product([0, 64, 65], [0, 1, 55, 63, 64], [70])),
-                              few=list(product([20, 65], [1, 63], [70]))),
+    "tags_in_pieces": partial(new_states, kind="hmac_", few=[(20, 63, 70), (65, 1, 70)],
+                              every=[(0, 1, 70), (65, 63, 70), *product([64], [0, 1, 55, 63, 64], [70])]),
     "loaded_tags": partial(any_states, kind="hmac_", lengths_after=([1, 71], [1, 71])),
     "keys": keys, "lists_of_keys": lists_of_keys,
 }
