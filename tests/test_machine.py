@@ -34,7 +34,8 @@ def test_textbook():
     """It gives the values of other implementations."""
     found = [(textbook.ripemd(bits, count(length)), digest) for bits in textbook.VARIANTS
              for length, digest in lines(f"digests-{bits}.txt")]
-    found += [(textbook.hmac(int(bits), count(length, 1), count(150)), tag) for bits, length, tag in lines("tags.txt")]
+    found += [(textbook.output(int(bits), textbook.keyed(int(bits), count(length, 1)), count(150)), tag)
+              for bits, length, tag in lines("tags.txt")]
     found += [(textbook.pbkdf2(int(bits), count(password, 1), count(salt), int(rounds), len(key) // 2), key)
               for bits, password, salt, rounds, key in lines("keys.txt") if int(rounds) <= 3]
     assert len(found) > 800 and [row for row in found if bytes(row[0]).hex() != row[1]] == []

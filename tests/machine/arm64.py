@@ -1,14 +1,14 @@
 """A processor for ARM64 with NEON. capstone reads the code; an instruction that is not known ends the run."""
 import re
+from functools import partial
 
 import capstone
 
-from machine import (M64, ODD, STOP, TOP, Machine, Wrong, bitwise, cut, high, low, minus, names, number_bytes, pair,
-                     plus, shifted, signed)
-from terms import MASK, and_, bytes_of, equal, least, negative, not_, or_, unknown, word_of, words_of, xor, zero
+from machine import (M64, Machine, Wrong, arithmetic, bitwise, cut, fixed, halves, lanes, minus, mixed, of_known, plus,
+                     rotated, selected, shifted, signed, swapped, vector_of)
+from terms import MASK, and_, bytes_of, equal, least, negative, not_, or_, word_of, words_of, xor, zero
 
-SP, ENTRY = 31, TOP - 4096
-LOST, KEPT, HALVES = (*range(19), 30), (*range(19, 30), SP), range(8, 16)
+SP = 31
 SIZES = {"b": 1, "h": 2, "w": 4, "s": 4, "x": 8, "d": 8, "q": 16}
 # Texts: the operands of an instruction; how the last one changes the one before; a vector, a lane or the lowest lane.
 OPERANDS = re.compile(r"\[[^]]*\]!?|[^,\s][^,]*")
@@ -16,7 +16,7 @@ CHANGE = re.compile(r"(lsl|lsr|asr|ror|uxtw|sxt[bhw])(?: #(\w+))?$")
 VECTOR = re.compile(r"(?:v(\d+)\.(\d*)([bhsd])(?:\[(\d+)\])?|([bhsdq])(\d+))$")
 TRANSFER = re.compile(r"(ld|st)(?:r|ur|p|1|1r)(s?)([bhw]?)$")
 MOVES = {"ins", "dup", "movi", "fmov"}  # also of vectors, but of one number
-NOTHING, JUMPS = {"nop", "hint", "prfm"}, {"b", "bl", "br", "blr", "ret", "cbz", "cbnz", "tbz", "tbnz"}
+NOTHING, JUMPS = {"nop", "hint"}, {"b", "bl", "br", "blr", "ret", "cbz", "cbnz", "tbz", "tbnz"}
 
 # ---- What instructions compute: functions of the size in bytes, and of numbers
 
@@ -31,34 +31,8 @@ def size_of(text):
     return parsed(text)[1] if VECTOR.match(text) else 4 if text[0] == "w" else 8
 
 
-def are_known(*numbers):
-    return all(isinstance(number, int) for number in numbers)
-
-
-def spread(size, *numbers):
-    """What nothing is known of but what it is made of."""
-    word = unknown(*(part for number in numbers for part in (low(number), high(number))))
-    return cut((word, word), size)
-
-
-def sure(what, *numbers):
-    """The numbers, which have to be known."""
-    if not are_known(*numbers):
-        raise Wrong(f"{what} depends on {names(*numbers)}")
-    return numbers
-
-
 def known(function):
-    return lambda size, *numbers: function(*sure("computes with what", *numbers))
-
-
-def selected(size, a, b, holds):
-    """The first number where the last one, which is 1 or 0, is 1, and else the other."""
-    if isinstance(holds, int):
-        return a if holds else b
-    if (a, b) in ((0, 1), (1, 0)):
-        return holds if a else bitwise(xor, holds, 1)
-    return spread(8, holds, a, b)
+    return lambda size, *numbers: function(*(fixed(number, "what it does") for number in numbers))
 
 
 # Functions of words.
@@ -68,23 +42,20 @@ LOGIC = {
     "bit": lambda old, a, mask: or_(and_(mask, a), and_(not_(mask), old)),
     "bif": lambda old, a, mask: or_(and_(mask, old), and_(not_(mask), a)),
 }
-SUMS = {"add": lambda size, a, b: plus(a, b, size), "sub": lambda size, a, b: minus(a, b, size)}
 OPERATIONS = {
-    **SUMS, **{name: lambda size, a, b, function=LOGIC[name]: bitwise(function, a, b) for name in LOGIC},
-    **dict.fromkeys(("mov", "movz", "movi", "adr", "adrp", "ins", "umov", "fmov", "dup"), lambda size, a: a),
-    "movn": lambda size, a: bitwise(xor, a, M64),
-    **{f"sxt{kind}": lambda size, a, n=0, own=SIZES[kind]: shifted(
-        signed(cut(a, own), own) & M64 if are_known(a) else spread(8, a), n, 8) for kind in "bhw"},
-    "movk": lambda size, old, a, n=0: bitwise(or_, bitwise(and_, old, M64 ^ 0xFFFF << n), a << n),
-    "lsl": lambda size, a, n: shifted(a, n, size), "lsr": lambda size, a, n: shifted(a, -n, size),
-    "asr": lambda size, a, n: cut(signed(a, size) >> n, size) if are_known(a) else spread(size, a),
-    "ror": lambda size, a, n: shifted(a, -n, size, True), "uxtw": lambda size, a, n=0: shifted(a, n, 8),
-    "ubfiz": lambda size, a, n, width: bitwise(and_, shifted(a, n, size), (1 << width) - 1 << n),
-    "rev": lambda size, a: pair(*words_of(bytes_of((low(a), high(a)))[:size][::-1])),
-    "mul": known(lambda a, b: a * b), "umulh": known(lambda a, b: a * b >> 64), "cset": lambda size, holds: holds,
-    "udiv": known(lambda a, b: a // b if b else 0), "madd": known(lambda a, b, c: c + a * b), "csel": selected,
+    "add": plus, "sub": minus, **{name: partial(bitwise, function) for name, function in LOGIC.items()},
+    **dict.fromkeys(("mov", "movz", "movi", "adrp", "ins", "fmov", "dup", "cset"), lambda size, a: a),
+    "movn": lambda size, a: bitwise(xor, size, a, M64),
+    **{f"sxt{kind}": lambda size, a, n=0, own=SIZES[kind]: of_known(lambda a: signed(own, cut(own, a)) << n, 8, a)
+       for kind in "bhw"},
+    "movk": lambda size, old, a, n=0: bitwise(or_, size, bitwise(and_, size, old, M64 ^ 0xFFFF << n), a << n),
+    "lsl": shifted, "lsr": lambda size, a, n: shifted(size, a, -n), "asr": arithmetic,
+    "ror": lambda size, a, n: rotated(size, a, -n), "uxtw": lambda size, a, n=0: shifted(8, a, n),
+    "ubfiz": lambda size, a, n, width: bitwise(and_, size, shifted(size, a, n), (1 << width) - 1 << n),
+    "rev": swapped, "csel": selected, "mul": known(lambda a, b: a * b), "umulh": known(lambda a, b: a * b >> 64),
+    "udiv": known(lambda a, b: a // b if b else 0), "madd": known(lambda a, b, c: c + a * b),
     "msub": known(lambda a, b, c: c - a * b),
-    "cinc": lambda size, a, holds: selected(size, plus(a, 1, size), a, holds),
+    "cinc": lambda size, a, holds: selected(size, plus(size, a, 1), a, holds),
 }
 READ_OLD = {"movk", "bsl", "bit", "bif", "usra"}
 # Names for others, of which an operand, mostly the first, is the register of zero.
@@ -98,7 +69,7 @@ INVERSE = {"ne": "eq", "lo": "hs", "ls": "hi"}
 
 
 def each(function):
-    return lambda size, *some: [function(size, *numbers) for numbers in zip(*some)]
+    return lambda size, *some: list(map(partial(function, size), *some))
 
 
 def least_of(size, words, inverse):
@@ -114,69 +85,32 @@ WORDS = {
     "uminv": lambda size, a: least_of(size, a, 0), "umaxv": lambda size, a: least_of(size, a, MASK),
 }
 LANES = {
-    "add": each(SUMS["add"]), "sub": each(SUMS["sub"]), **dict.fromkeys(("shl", "ushll"), each(OPERATIONS["lsl"])),
-    "cmhi": each(lambda size, a, b: -(a > b) % (1 << 8 * size) if are_known(a, b) else spread(size, a, b)),
-    "usra": each(lambda size, old, a, n: plus(old, shifted(a, -n, size), size)),
-    "addp": lambda size, a: [plus(*a, size)], "ext": lambda size, a, b, k: (a + b)[k[0]:k[0] + len(a)],
-    "zip1": lambda size, a, b: sum(zip(a, b), ())[:len(a)], "zip2": lambda size, a, b: sum(zip(a, b), ())[len(a):],
+    "add": each(plus), "sub": each(minus), **dict.fromkeys(("shl", "ushll"), each(shifted)),
+    "cmhi": each(partial(of_known, lambda a, b: -(a > b))),
+    "usra": each(lambda size, old, a, n: plus(size, old, shifted(size, a, -n))),
+    "addp": lambda size, a: [plus(size, *a)], "ext": lambda size, a, b, k: (a + b)[k[0]:k[0] + len(a)],
+    "zip1": lambda size, a, b: mixed(a, b)[:len(a)], "zip2": lambda size, a, b: mixed(a, b)[len(a):],
     "uzp1": lambda size, a, b: (a + b)[::2], "uzp2": lambda size, a, b: (a + b)[1::2],
-    "trn1": lambda size, a, b: sum(zip(a[::2], b[::2]), ()), "trn2": lambda size, a, b: sum(zip(a[1::2], b[1::2]), ()),
+    "trn1": lambda size, a, b: mixed(a[::2], b[::2]), "trn2": lambda size, a, b: mixed(a[1::2], b[1::2]),
 }
 
 
-def lanes(words, size):
-    if size == 8:
-        return [pair(*words[i:i + 2]) for i in range(0, len(words), 2)]
-    if size == 4:
-        return [pair(word) for word in words]
-    some = bytes_of(words)
-    return [pair(word_of(*some[i:i + size])) for i in range(0, len(some), size)]
-
-
-def vector_of(numbers, size):
-    """The words of a vector of such lanes."""
-    if size == 8:
-        return [word for number in numbers for word in (low(number), high(number))]
-    if size == 4:
-        return list(map(low, numbers))
-    return words_of([byte for number in numbers for byte in bytes_of([low(number)])[:size]])
-
-
 class Arm64(Machine):
+    ARGUMENTS, LOST, KEPT, HALVES = range(8), (*range(19), 30), (SP, *range(19, 30)), range(8, 16)
+    NAMES, LETTERS, vectors = [f"x{i}" for i in range(32)], "v", (32, 4)
+
     def __init__(self, image, _level=0):
         super().__init__(image)
         self.capstone = capstone.Cs(capstone.CS_ARCH_ARM64, capstone.CS_MODE_ARM)
         self.flags = FLAGS["ands"][1], 8, 0, 0, 0
         self.construct()
 
-    # ---- Calls, as the standard for ARM64 has them
+    def link(self, after):
+        """Notes where a call returns to."""
+        self.g[30] = after
 
-    def start(self, arguments):
-        self.entry = self.lowest = self.g[SP] = ENTRY
-        self.g[30], self.g[:8] = STOP, [*arguments[:8], *self.g[len(arguments):8]]
-        further = [byte for number in arguments[8:] for byte in number_bytes(number)]
-        self.cells.update(zip(range(ENTRY, TOP), further))
-        self.cells.owned = ENTRY + len(further)
-
-    def kept(self):
-        return [self.g[i] for i in KEPT] + [word for i in HALVES for word in self.v[i][:2]]
-
-    def lost(self):
-        return [(f"x{i}", word) for i in LOST for word in (low(self.g[i]), high(self.g[i]))] + [
-            (f"v{i}", word) for i in range(32) for word in self.v[i][2 * (i in HALVES):4]]
-
-    def arguments(self, count):
-        return self.g[:count]
-
-    def clobber(self, word):
-        for i in LOST[:-1]:
-            self.g[i] = word, word
-        for i in range(32):
-            self.v[i] = [*(self.v[i][:2] if i in HALVES else (word, word)), word, word]
-
-    def returned(self, number):
-        self.g[0] = number
-        return self.address(self.g[30])
+    def back(self):
+        return fixed(self.g[30])
 
     # ---- Operands, by their texts
 
@@ -184,7 +118,7 @@ class Arm64(Machine):
         """The function that gives the number in an operand; or its words or lanes, if they are what a table is of."""
         g, v = self.g, self.v
         if text in INVERSE or text in INVERSE.values():
-            return lambda: pair(self.flag(text))
+            return lambda: self.flag(text)
         if text[0] == "#" or text[1:] == "zr":
             number = int(text[1:], 0) & M64 if text[0] == "#" else 0
             return lambda: number if table is OPERATIONS else [number] * 16
@@ -195,7 +129,7 @@ class Arm64(Machine):
                 return lambda: lanes(v[i][:4], size)[lane or 0]
             return lambda: v[i][:words] if table is WORDS else lanes(v[i][:words], size)
         i = SP if text.endswith("sp") else int(text[1:])
-        return (lambda: cut(g[i], 4)) if text[0] == "w" else lambda: g[i]
+        return (lambda: cut(4, g[i])) if text[0] == "w" else lambda: g[i]
 
     def writer(self, text, table=OPERATIONS):
         """The function that writes to an operand: a number to a register, a lane, or each lane; or words or lanes."""
@@ -205,7 +139,7 @@ class Arm64(Machine):
 
             def write(some):
                 if table is OPERATIONS:
-                    number = cut(some, size)
+                    number = cut(size, some)
                     some = [number] * count if lane is None else lanes(v[i][:4], size)
                     some[lane or 0] = number
                 v[i] = [*(some if table is WORDS else vector_of(some, size)), 0, 0, 0][:4]
@@ -214,7 +148,7 @@ class Arm64(Machine):
         if text[1:] == "zr":
             return lambda number: None
         i, size = SP if text.endswith("sp") else int(text[1:]), size_of(text)
-        return lambda number: g.__setitem__(i, cut(number, size))
+        return lambda number: g.__setitem__(i, cut(size, number))
 
     def operands(self, texts, table=OPERATIONS):
         """The functions that give what is in operands."""
@@ -232,8 +166,8 @@ class Arm64(Machine):
         offset, changes = self.operands(index or texts[1:] or ["#0"])[-1], after or texts[0][-1] == "!"
 
         def execute():
-            at = self.address(read())
-            to = at + self.address(offset()) & M64
+            at = fixed(read())
+            to = at + fixed(offset()) & M64
             if changes:
                 write(to)
             return at if after else to
@@ -246,27 +180,19 @@ class Arm64(Machine):
             return xor(self.flag(INVERSE[condition]), 1)
         carry, size, a, b, result = self.flags
         if condition == "eq":
-            return zero((low(result), high(result)))
-        sure("what it does", a, b, result)
+            return zero(halves([result]))
+        a, b, result = (fixed(number, "what it does") for number in (a, b, result))
         return {"hs": 1, "hi": int(result != 0)}[condition] & carry(size, a, b)
 
     # ---- Instructions
 
-    def decode(self, at):
-        ins = next(self.capstone.disasm(self.image.code(at, 4), at, 1), None)
-        if ins is None:
-            raise Wrong("no instruction is there")
-        try:
-            return self.found(ins.mnemonic, OPERANDS.findall(re.sub("[{}]", "", ins.op_str)), at), at + 4
-        except ODD as odd:
-            raise Wrong(f"{ins.mnemonic} {ins.op_str} is not known") from odd
-
-    def found(self, name, texts, at):
+    def found(self, ins):
         """The function that executes an instruction."""
+        name, texts = ins.mnemonic, OPERANDS.findall(re.sub("[{}]", "", ins.op_str))
         if name in NOTHING:
             return lambda: None
         if name.partition(".")[0] in JUMPS:
-            return self.jump(name, texts, at)
+            return self.jump(name, texts, ins.address + 4)
         if TRANSFER.match(name):
             return self.transfer(name, texts)
         vector = VECTOR.match(texts[0])
@@ -290,29 +216,29 @@ class Arm64(Machine):
             write(function(size, *[read() for read in reads]))
 
         def execute_with_flags():
-            a, b, *more = (cut(read(), size) for read in reads)
-            if more and not sure("a jump", more[1])[0]:
+            a, b, *more = (cut(size, read()) for read in reads)
+            if more and not fixed(more[1], "a jump"):
                 self.flags = lambda *_: more[0] >> 1 & 1, 8, 0, 0, ~more[0] & 4
             else:
-                result = cut(function(size, a, b), size)
+                result = function(size, a, b)
                 self.flags = carry, size, a, b, result
                 write(result)
 
         return execute_with_flags if carry else execute
 
-    def jump(self, name, texts, at):
+    def jump(self, name, texts, after):
         name, _, condition = name.partition(".")
         read, to = (self.reader(texts[i] if texts else "x30") for i in (0, -1))
-        test = {"c": lambda: pair(zero([half(read()) for half in (low, high)])),
-                "t": lambda: bitwise(and_, shifted(read(), -int(texts[1][1:], 0), 8), 1)}.get(
+        test = {"c": lambda: zero(halves([read()])),
+                "t": lambda: bitwise(and_, 8, shifted(8, read(), -int(texts[1][1:], 0)), 1)}.get(
             name[0], self.reader(condition or "#1"))
 
         def execute():
-            if sure("a jump", test())[0] == (name in ("cbnz", "tbz")):
+            if fixed(test(), "a jump") == (name in ("cbnz", "tbz")):
                 return None
-            target = self.address(to())
+            target = fixed(to())
             if name in ("bl", "blr"):
-                self.g[30] = at + 4
+                self.link(after)
             return target
 
         return execute
@@ -329,7 +255,7 @@ class Arm64(Machine):
             at = where()
             for read, write in registers:
                 if kind == "st":
-                    words = read() if table is WORDS else [half(read()) for half in (low, high)]
+                    words = read() if table is WORDS else halves([read()])
                     self.put(at, bytes_of(words)[:size])
                 elif sign:
                     write(OPERATIONS["sxt" + letter](8, self.load(at, size)))

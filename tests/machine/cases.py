@@ -1,19 +1,20 @@
 """Calls of the functions of nattizhu.h on terms, one for each size, with what each has to write, answer and clear.
 
-A case is a function and a variant. Messages, keys, passwords, salts, tags and chaining values are any; lengths, counts,
-rounds and what a state says of its tail are known.
+A case is a function of a caller, a variant and the bytes of its digests. Messages, keys, passwords, salts, tags and
+chaining values are any; lengths, counts, rounds and what a state says of its tail are known.
 """
 import contextlib
 from functools import partial
+from itertools import product
 
-import textbook
 from machine import Wrong, number_bytes
 from terms import bytes_of, forget, inputs, sources, words_of, xor, zero
-from textbook import hmac, pbkdf2, ripemd, saved, size_of
+from textbook import keyed, output, pbkdf2, saved, start_of
 
-STATE, HMAC_STATE = 113, 225
-UNKNOWN_VARIANTS = 0, 127, 161
+STATES = {"": 113, "hmac_": 225}  # the bytes of a state, by what the names of the calls for it begin with
+CLEARS = "hmac", "pbkdf2", "wipe"  # what the names of calls begin with that clear what they leave
 AROUND = [0, 1, 3, 20, 55, 56, 63, 64, 65, 119, 120, 128, 200]
+NO_VARIANTS = [{0: 0}, {0: 127}, {0: 161}]  # as the first argument
 
 
 class Piece:
@@ -42,6 +43,11 @@ class Caller:
         """How many messages lists have."""
         return self.some([*range(10), 130], [0, 1, 3, 5, 9])
 
+    def nulls(self, count, variant):
+        """Whether some messages of such a list have null pointers. Many of them then go in groups, which is the same
+        code for each variant, and else at once, which is not."""
+        return count % 4 in (1, 2) if count < 10 else variant in (160, 320)
+
     @contextlib.contextmanager
     def trying(self, *what):
         """Begins anew, and notes what is wrong."""
@@ -53,11 +59,15 @@ class Caller:
         except Wrong as wrong:
             self.wrong.append(f"{' '.join(map(str, what))}: {wrong}")
 
-    def given(self, name, length, secret=False):
-        """Any bytes, which are only read."""
+    def any(self, name, length, secret=True):
+        """Any bytes, of which calls that clear leave nothing if they are secret."""
         if secret:
             self.secrets.add(name)
-        return self.known(inputs(name, length))
+        return inputs(name, length)
+
+    def given(self, name, length, secret=False):
+        """Any bytes, which are only read."""
+        return self.known(self.any(name, length, secret))
 
     def known(self, some):
         return Piece(self.machine.piece(some, odd=3), some)
@@ -72,334 +82,215 @@ class Caller:
         some = [byte for piece in pieces for byte in number_bytes(piece.at) + number_bytes(piece.count)]
         return Piece(self.machine.piece(some, odd=8), some, len(pieces))
 
-    def call(self, name, *arguments, answer=1, clears=False):
+    def call(self, name, *arguments, answer=1):
         """Makes a call, which has to answer this and, if it clears, to leave nothing of what is secret."""
         self.calls += 1
         got = self.machine.call(f"nattizhu_{name}", *arguments)
         self.depths[name] = max(self.depths.get(name, 0), self.machine.entry - self.machine.lowest)
-        if answer is not None and got is not answer and got != answer:
+        if answer not in (None, got):
             raise Wrong(f"{name} answers {got}, not {answer}")
-        if clears:
-            for where, word in self.machine.left():
-                of = sources(word) & self.secrets
-                if of:
-                    raise Wrong(f"{name} leaves {', '.join(sorted(of))} in {where}")
+        for where, word in self.machine.left() if name.startswith(CLEARS) else ():
+            of = sources(word) & self.secrets
+            if of:
+                raise Wrong(f"{name} leaves {', '.join(sorted(of))} in {where}")
 
     def holds(self, piece, wanted):
         """Whether these bytes now are in memory."""
         got = self.machine.get(piece.at, len(wanted))
-        wrong = [i for i, (one, other) in enumerate(zip(got, wanted)) if one is not other and one != other]
+        wrong = [i for i, (one, other) in enumerate(zip(got, wanted)) if one != other]
         if wrong:
             raise Wrong(f"{len(wrong)} of {len(wanted)} bytes are wrong, the first at {wrong[0]}")
 
-    def refuses(self, name, *arguments, places=(), answer=0):
-        """Makes a call that has to refuse its arguments and write nothing."""
-        self.call(name, *arguments, answer=answer)
-        for piece in places:
-            self.holds(piece, piece.bytes)
+    def refuses(self, name, places, arguments, *changes):
+        """Makes a call with each of these changes of its arguments, by their index from the first or from the last. It
+        has to refuse them and write nothing."""
+        for change in changes:
+            changed = [change.get(i, change.get(i - len(arguments), old)) for i, old in enumerate(arguments)]
+            if self.has(name, changed):
+                self.call(name, *changed, answer=0)
+                for piece in places:
+                    self.holds(piece, piece.bytes)
+
+    def has(self, name, arguments):
+        """Whether there is such a call."""
+        return True
 
 
 NOWHERE = Piece(0, [])
-CASES = {}
 
 
-def case(function):
-    CASES[function.__name__] = function
-    return function
+def lengths(right):
+    """Changes of the last argument to lengths that are not right."""
+    return [{-1: length} for length in (0, right - 1, right + 1)]
 
 
-# ---- Digests
+def made(caller, variant, key_length):
+    """The arguments that are a key, and the hashers under it. Without a key there are none, and one hasher."""
+    if key_length is None:
+        return (), [(start_of(variant), 0, [])]
+    key = caller.given("key", key_length, secret=True)
+    return tuple(key), keyed(variant, key.bytes)
 
-@case
-def digest(caller, variant):
-    size = size_of(variant)
+
+def verifies(caller, name, tag, *arguments):
+    """Makes a call for a tag that differs by any bytes: any tag is of this form. The answer is 1 exactly if it is
+    right."""
+    other = bytes_of(map(xor, words_of(tag), words_of(inputs("difference", len(tag)))))
+    caller.call(name, *arguments, *caller.known(other), answer=zero(map(xor, words_of(tag), words_of(other))))
+
+
+# ---- Digests and tags
+
+def digest(caller, variant, size):
     for n in caller.some([*range(201), 1000], AROUND):
         with caller.trying(n, "bytes"):
             message, out = caller.given("message", n, secret=True), caller.place(size)
             caller.call("digest", variant, *(message if n else NOWHERE), *out)
-            caller.holds(out, ripemd(variant, message.bytes))
-            caller.call("wipe", 0, 0, answer=None, clears=True)
+            caller.holds(out, output(variant, made(caller, variant, None)[1], message.bytes))
+            caller.call("wipe", 0, 0, answer=None)
     with caller.trying("refusals"):
         message, out = caller.given("message", 3), caller.place(size + 1)
         caller.call("wipe", *out, answer=None)
         out.bytes = [0] * (size + 1)
         caller.holds(out, out.bytes)
-        for wrong in UNKNOWN_VARIANTS:
-            caller.refuses("digest", wrong, *message, out.at, size, places=[out])
-        for length in 0, size - 1, size + 1:
-            caller.refuses("digest", variant, *message, out.at, length, places=[out])
-        caller.refuses("digest", variant, 0, 3, out.at, size, places=[out])
-        caller.refuses("digest", variant, *message, 0, size)
+        caller.refuses("digest", [out], (variant, *message, out.at, size), {1: 0}, {3: 0}, *NO_VARIANTS, *lengths(size))
 
 
-def made(caller, variant, key_length):
-    """The arguments that are a key, and the function that gives the tag of a message under it. Without a key there are
-    none, and it gives the digest."""
-    if key_length is None:
-        return (), partial(ripemd, variant)
-    key = caller.given("key", key_length, secret=True)
-    return tuple(key), partial(hmac, variant, key.bytes)
+def tags(caller, variant, size):
+    """hmac and hmac_verify_text."""
+    every = [*((k, 3) for k in (0, 1, 32, 63, 64, 65, 100, 200)), *((20, n) for n in AROUND), (65, 1000)]
+    for key_length, length in caller.some(every, [(0, 3), (64, 3), (65, 3), (20, 0), (20, 55), (20, 56)]):
+        with caller.trying("a key of", key_length, "and a text of", length, "bytes"):
+            key, hashers = made(caller, variant, key_length)
+            text, out = caller.given("text", length), caller.place(size)
+            tag = output(variant, hashers, text.bytes)
+            arguments = variant, *(key if key_length else NOWHERE), *(text if length else NOWHERE)
+            caller.call("hmac", *arguments, *out)
+            caller.holds(out, tag)
+            if length <= 3:
+                verifies(caller, "hmac_verify_text", tag, *arguments)
+    with caller.trying("refusals"):
+        key, hashers = made(caller, variant, 20)
+        text, out = caller.given("text", 5), caller.place(size + 1)
+        tag = caller.known(output(variant, hashers, text.bytes) + [0])
+        for name, to, places in ("hmac", out, [out]), ("hmac_verify_text", tag, []):
+            caller.refuses(name, places, (variant, *key, *text, to.at, size), {1: 0}, {3: 0}, {5: 0}, *NO_VARIANTS,
+                           *lengths(size))
 
 
-def records(caller, variant, name, *key_lengths):
-    """Calls for records of one length."""
-    size = size_of(variant)
+def records(caller, variant, size, name, key_lengths):
+    """Calls for records of one length. Nine of each fill vectors and leave some over."""
     for count in caller.counts():
-        for length in [20] if count > 9 else caller.some([0, 55, 64], [55]):
+        for length in [20] if count > 9 else caller.some([0, 55, 64] if count == 9 else [(0, 55, 64)[count % 3]], [55]):
             with caller.trying(count, "records of", length, "bytes"):
-                key, one = made(caller, variant, key_lengths[count % len(key_lengths)])
+                key, hashers = made(caller, variant, key_lengths[count % len(key_lengths)])
                 every, out = caller.given("records", count * length), caller.place(count * size)
-                caller.call(name, variant, *key, *every, length, *out, clears=True)
+                caller.call(name, variant, *key, *every, length, *out)
                 caller.holds(out, [byte for i in range(count)
-                                   for byte in one(every.bytes[i * length:(i + 1) * length])])
+                                   for byte in output(variant, hashers, every.bytes[i * length:(i + 1) * length])])
     with caller.trying("refusals"):
         key, _ = made(caller, variant, key_lengths[0])
         every, out = caller.given("records", 60), caller.place(3 * size)
-        for wrong in [(0, *key, *every, 20, *out), (variant, *key, *every, 19, *out), (variant, *key, 0, 60, 20, *out),
-                      (variant, *key, *every, 20, out.at, 3 * size - 1), (variant, *key, *every, 20, 0, 3 * size),
-                      (variant, *key, *every, 0, *out), (variant, *key, *every, 2**63 + 30, out.at, 2 * size),
-                      *([(variant, 0, 1, *every, 20, *out)] if key else [])]:
-            caller.refuses(name, *wrong, places=[out])
+        caller.refuses(name, [out], (variant, *key, *every, 20, *out), {0: 0}, {-5: 0}, {-3: 19}, {-3: 0}, {-2: 0},
+                       {-1: 3 * size - 1}, {-3: 2**63 + 30, -1: 2 * size}, *([{1: 0}] if key else []))
 
 
-def lists_of(caller, variant, name, *key_lengths):
+def lists(caller, variant, size, name, key_lengths):
     """Calls for messages of lengths around a block, of which those of no bytes have null pointers, or none is null."""
-    size = size_of(variant)
     for count in caller.counts():
-        for nulls in [False, True] if count > 9 else [count % 4 in (1, 2)]:
-            with caller.trying(count, "messages"):
-                key, one = made(caller, variant, key_lengths[nulls % len(key_lengths)])
-                lengths = [(0, 64, 3, 55, 56, 70, 1, 130, 20)[(7 * i + count) % 9] for i in range(count)]
-                messages = [NOWHERE if n == 0 and nulls else caller.given(f"message {i}", n if count < 100 else n % 64)
-                            for i, n in enumerate(lengths)]
-                out, table = caller.place(count * size), caller.messages(messages) if count or nulls else NOWHERE
-                caller.call(name, variant, *key, *table, *out, clears=True)
-                caller.holds(out, [byte for piece in messages for byte in one(piece.bytes)])
+        with caller.trying(count, "messages"):
+            nulls = caller.nulls(count, variant)
+            key, hashers = made(caller, variant, key_lengths[nulls % len(key_lengths)])
+            sizes = [(0, 64, 3, 55, 56, 70, 1, 130, 20)[(7 * i + count) % 9] for i in range(count)]
+            messages = [NOWHERE if n == 0 and nulls else caller.given(f"message {i}", n if count < 100 else n % 64)
+                        for i, n in enumerate(sizes)]
+            out, table = caller.place(count * size), caller.messages(messages) if count or nulls else NOWHERE
+            caller.call(name, variant, *key, *table, *out)
+            caller.holds(out, [byte for piece in messages for byte in output(variant, hashers, piece.bytes)])
     with caller.trying("refusals"):
         key, _ = made(caller, variant, key_lengths[0])
         table, out = caller.messages([caller.given("one", 3), NOWHERE]), caller.place(2 * size)
         bad = caller.messages([Piece(0, [], 3), caller.given("two", 3)])
-        for wrong in [(0, *key, *table, *out), (variant, *key, *table, out.at, size), (variant, *key, *bad, *out),
-                      (variant, *key, 0, 2, *out), (variant, *key, *table, 0, 2 * size),
-                      *([(variant, 0, 1, *table, *out)] if key else [])]:
-            caller.refuses(name, *wrong, places=[out])
+        caller.refuses(name, [out], (variant, *key, *table, *out), {0: 0}, {-4: 0}, {-4: bad.at}, {-2: 0}, {-1: size},
+                       *([{1: 0}] if key else []))
 
 
-@case
-def each(caller, variant):
-    records(caller, variant, "each", None)
+# ---- States, of a hasher or of HMAC: `kind` is what the names of the calls begin with
+
+def go_on(caller, variant, size, kind, state, hashers, *pieces):
+    """update for each piece, final, save and, of HMAC, verify of a state that keeps these hashers."""
+    for piece in pieces:
+        caller.call(f"{kind}update", state.at, *piece)
+    message = [byte for piece in pieces for byte in piece.bytes]
+    out, kept, wanted = caller.place(size), caller.place(len(hashers) * (size + 72)), output(variant, hashers, message)
+    caller.call(f"{kind}final", state.at, *out)
+    caller.holds(out, wanted)
+    caller.call(f"{kind}save", state.at, *kept)
+    caller.holds(kept, saved(variant, hashers, message))
+    if kind:
+        verifies(caller, "hmac_verify", wanted, state.at)
+    else:
+        caller.call("wipe", 0, 0, answer=None)
 
 
-@case
-def lists(caller, variant):
-    lists_of(caller, variant, "list", None)
+def any_hashers(caller, size, count, *tails):
+    """Hashers after so many blocks with any chaining values, and tails of these lengths."""
+    return [(words_of(caller.any(f"chaining value {i}", size)), count, caller.any(f"tail {i}", tail))
+            for i, tail in enumerate(tails)]
 
 
-# ---- States
-
-def tails(caller):
-    """Pairs of how many blocks were before a state, and of how many bytes wait for a block."""
-    yield from ((7, tail) for tail in caller.some([0, 1, 17, 55, 56, 63], [55]))
-    yield from ((count, tail) for count in (1, 2**58 - 1, 2**64 - 1) for tail in caller.some([0, 9], [9]))
-
-
-def saved_state(caller, variant, count, tail, name):
-    """The bytes of a saved state with any chaining value and tail, the words of the one, and the other."""
-    value = inputs(f"chaining value of {name}", size_of(variant))
-    held = inputs(f"tail of {name}", tail)
-    caller.secrets |= {f"chaining value of {name}", f"tail of {name}"}
-    return [*value, *number_bytes(count), tail, *held, *[0] * (63 - tail)], words_of(value), held
+def new_states(caller, variant, size, kind, every, few):
+    """init and two updates."""
+    for key_length, first, second in caller.some(every, few):
+        with caller.trying("a key of", key_length, "bytes, and", first, "and", second):
+            key, hashers = made(caller, variant, key_length)
+            state = caller.place(STATES[kind])
+            one, other = (caller.given(f"{i} piece", n, not kind) for i, n in (("first", first), ("second", second)))
+            caller.call(f"{kind}init", variant, state.at, *key)
+            go_on(caller, variant, size, kind, state, hashers, one if first else NOWHERE, other)
 
 
-@case
-def streams(caller, variant):
-    """init, update, final and save."""
-    size = size_of(variant)
-    for first in caller.some(AROUND[:-1], [0, 20, 63]):
-        for second in caller.some([0, 8, 64, 130], [0, 8, 65]):
-            with caller.trying(first, "and", second, "bytes"):
-                message, state, out = caller.given("message", first + second), caller.place(STATE), caller.place(size)
-                caller.call("init", variant, state.at)
-                caller.call("update", state.at, *(Piece(message.at, [], first) if first else NOWHERE))
-                caller.call("update", state.at, message.at + first, second)
-                caller.call("final", state.at, *out)
-                caller.holds(out, ripemd(variant, message.bytes))
-                kept = caller.place(size + 72)
-                caller.call("save", state.at, *kept)
-                caller.holds(kept, saved(variant, message.bytes))
-                caller.call("wipe", 0, 0, answer=None)
-
-
-@case
-def load(caller, variant):
-    """load, update, save and final of any state."""
-    size = size_of(variant)
-    for count, tail in tails(caller):
-        for more in caller.some([0, 8, 64, 130], [0, 8, 71]):
+def any_states(caller, variant, size, kind, lengths_after):
+    """load and update of any state, and what calls for states refuse."""
+    after = [(7, tail) for tail in caller.some([0, 1, 17, 55, 56, 63], [55])]
+    after += [(count, tail) for count in (1, 2**58 - 1, 2**64 - 1) for tail in caller.some([0, 9], [9])]
+    parts = 2 if kind else 1
+    for count, tail in after:
+        for more in caller.some(*lengths_after):
             with caller.trying("a state of", count, "blocks and", tail, "bytes, and", more):
-                some, value, held = saved_state(caller, variant, count, tail, "the state")
-                before, state, message = caller.known(some), caller.place(STATE), caller.given("message", more)
-                kept, out = caller.place(size + 72), caller.place(size)
-                caller.call("load", variant, state.at, *before)
-                caller.call("update", state.at, *message)
-                caller.call("save", state.at, *kept)
-                caller.holds(kept, saved(variant, held + message.bytes, value, count))
-                caller.call("final", state.at, *out)
-                caller.holds(out, ripemd(variant, held + message.bytes, value, 64 * count))
+                hashers = any_hashers(caller, size, count, *(tail, tail // 2)[:parts])
+                state = caller.place(STATES[kind])
+                caller.call(f"{kind}load", variant, state.at, *caller.known(saved(variant, hashers, [])))
+                go_on(caller, variant, size, kind, state, hashers, caller.given("message", more))
     with caller.trying("refusals"):
-        state, out, message = caller.place(STATE), caller.place(size + 73), caller.given("message", 70)
-        good = saved_state(caller, variant, 1, 9, "the state")[0]
+        good = saved(variant, any_hashers(caller, size, 1, *(9, 0)[:parts]), [])
+        state, out, text = caller.place(STATES[kind]), caller.place(len(good) + 1), caller.given("text", 70)
         late, long = good[:-1] + [1], good[:size + 8] + [64] + good[size + 9:]
-        for wrong in (good[:-1], good + [0], late, long, []):
-            caller.refuses("load", variant, state.at, *caller.known(wrong), places=[state])
-        caller.refuses("load", variant, state.at, 0, size + 72, places=[state])
-        for other in UNKNOWN_VARIANTS:
-            caller.refuses("load", other, state.at, *caller.known(good), places=[state])
-            caller.refuses("init", other, state.at, places=[state])
-        for bad in [0] * STATE, [size, *good[:size + 8], 64, *[0] * (STATE - size - 10)]:
-            state = caller.place(STATE)
+        wrong = map(caller.known, (good[:-1], good + [0], late, long, []))
+        caller.refuses(f"{kind}load", [state], (variant, state.at, *caller.known(good)), {2: 0}, *NO_VARIANTS,
+                       *({2: piece.at, 3: piece.count} for piece in wrong))
+        caller.refuses(f"{kind}init", [state], (variant, state.at, *(NOWHERE if kind else ())), *NO_VARIANTS,
+                       *([{3: 1}] if kind else []))
+        ends = [("final", size), ("save", len(good)), *([("verify", size)] if kind else [])]
+        for bad in [0] * STATES[kind], [size + 128 * (parts - 1), *long, *[0] * (STATES[kind] - 1 - len(long))]:
+            state = caller.place(STATES[kind])
             caller.machine.put(state.at, bad)
             state.bytes = bad
-            caller.refuses("update", state.at, *message, places=[state])
-            caller.refuses("final", state.at, out.at, size, places=[state, out])
-            caller.refuses("save", state.at, out.at, size + 72, places=[state, out])
-        state = caller.place(STATE)
-        caller.call("load", variant, state.at, *caller.known(good))
-        state.bytes = caller.machine.get(state.at, STATE)
-        caller.refuses("update", state.at, 0, 1, places=[state])
-        for length in (0, size - 1, size + 1):
-            caller.refuses("final", state.at, out.at, length, places=[state, out])
-            caller.refuses("save", state.at, out.at, length + 72, places=[state, out])
-        caller.refuses("final", state.at, 0, size, places=[state])
-        caller.refuses("save", state.at, 0, size + 72, places=[state])
-
-
-# ---- Tags
-
-def same_as(tag, other):
-    """1 if bytes are equal and else 0, where the others are the tag with a difference."""
-    return zero([xor(a, b) for a, b in zip(words_of(tag), words_of(other))])
-
-
-def differing(tag):
-    """A tag that differs by any bytes: any tag is of this form."""
-    return bytes_of(map(xor, words_of(tag), words_of(inputs("difference", len(tag)))))
-
-
-@case
-def tags(caller, variant):
-    """hmac and hmac_verify_text."""
-    size = size_of(variant)
-    every = [*((k, 3) for k in (0, 1, 32, 63, 64, 65, 100, 200)), *((20, n) for n in AROUND), (65, 1000)]
-    for key_length, length in caller.some(every, [(0, 3), (64, 3), (65, 3), (20, 0), (20, 55), (20, 56)]):
-        with caller.trying("a key of", key_length, "and a text of", length, "bytes"):
-            key, text = caller.given("key", key_length, secret=True), caller.given("text", length)
-            out, tag = caller.place(size), hmac(variant, key.bytes, text.bytes)
-            arguments = *(key if key_length else NOWHERE), *(text if length else NOWHERE)
-            caller.call("hmac", variant, *arguments, *out, clears=True)
-            caller.holds(out, tag)
-            if length <= 3:
-                other = differing(tag)
-                caller.call("hmac_verify_text", variant, *arguments, *caller.known(other), clears=True,
-                            answer=same_as(tag, other))
-                caller.call("hmac_verify_text", variant, *arguments, *caller.known(tag), clears=True)
-    with caller.trying("refusals"):
-        key, text, out = caller.given("key", 20, secret=True), caller.given("text", 5), caller.place(size + 1)
-        tag = caller.known(hmac(variant, key.bytes, text.bytes) + [0])
-        for v, k, t, length in [*((v, key, text, size) for v in UNKNOWN_VARIANTS), (variant, key, text, size - 1),
-                                (variant, key, text, size + 1), (variant, key, text, 0),
-                                (variant, Piece(0, [], 1), text, size), (variant, key, Piece(0, [], 1), size)]:
-            caller.refuses("hmac", v, *k, *t, out.at, length, places=[out])
-            caller.refuses("hmac_verify_text", v, *k, *t, tag.at, length)
-        caller.refuses("hmac", variant, *key, *text, 0, size)
-        caller.refuses("hmac_verify_text", variant, *key, *text, 0, size)
-
-
-@case
-def tags_of_records(caller, variant):
-    records(caller, variant, "hmac_each", 20, 100)
-
-
-@case
-def tags_of_lists(caller, variant):
-    lists_of(caller, variant, "hmac_list", 20, 100)
-
-
-@case
-def tags_in_pieces(caller, variant):
-    """hmac_init, hmac_update, hmac_final, hmac_verify and hmac_save."""
-    size = size_of(variant)
-    for key_length in caller.some([0, 64, 65], [20, 65]):
-        for first in caller.some([0, 1, 55, 63, 64], [1, 63]):
-            with caller.trying("a key of", key_length, "bytes, and", first, "and 70"):
-                key, text = caller.given("key", key_length, secret=True), caller.given("text", first + 70)
-                state, out, kept = caller.place(HMAC_STATE), caller.place(size), caller.place(2 * (size + 72))
-                caller.call("hmac_init", variant, state.at, *key, clears=True)
-                caller.call("hmac_update", state.at, text.at, first, clears=True)
-                caller.call("hmac_update", state.at, text.at + first, 70, clears=True)
-                caller.call("hmac_final", state.at, *out, clears=True)
-                tag = hmac(variant, key.bytes, text.bytes)
-                caller.holds(out, tag)
-                caller.call("hmac_save", state.at, *kept, clears=True)
-                inner, outer = (textbook.masked(variant, key.bytes, mask) for mask in (0x36, 0x5C))
-                caller.holds(kept, saved(variant, text.bytes, inner, 1) + saved(variant, [], outer, 1))
-                other = differing(tag)
-                caller.call("hmac_verify", state.at, *caller.known(other), clears=True, answer=same_as(tag, other))
-
-
-@case
-def loaded_tags(caller, variant):
-    """hmac_load, hmac_update, hmac_final, hmac_verify and hmac_save of any state."""
-    size = size_of(variant)
-    for count, tail in tails(caller):
-        for more in (1, 71):
-            with caller.trying("a state of", count, "blocks and", tail, "bytes, and", more):
-                inner, value, held = saved_state(caller, variant, count, tail, "the inner hasher")
-                outer, second, end = saved_state(caller, variant, count, tail // 2, "the outer hasher")
-                state, text = caller.place(HMAC_STATE), caller.given("text", more)
-                kept, out = caller.place(2 * (size + 72)), caller.place(size)
-                caller.call("hmac_load", variant, state.at, *caller.known(inner + outer), clears=True)
-                caller.call("hmac_update", state.at, *text, clears=True)
-                caller.call("hmac_save", state.at, *kept, clears=True)
-                caller.holds(kept, saved(variant, held + text.bytes, value, count) + outer)
-                caller.call("hmac_final", state.at, *out, clears=True)
-                tag = ripemd(variant, end + ripemd(variant, held + text.bytes, value, 64 * count), second, 64 * count)
-                caller.holds(out, tag)
-                other = differing(tag)
-                caller.call("hmac_verify", state.at, *caller.known(other), clears=True, answer=same_as(tag, other))
-    with caller.trying("refusals"):
-        state, out = caller.place(HMAC_STATE), caller.place(2 * (size + 72) + 1)
-        good = saved_state(caller, variant, 1, 9, "one")[0] + saved_state(caller, variant, 1, 0, "other")[0]
-        for wrong in (good[:-1], good + [0], good[:-1] + [1], []):
-            caller.refuses("hmac_load", variant, state.at, *caller.known(wrong), places=[state])
-        caller.refuses("hmac_load", variant, state.at, 0, len(good), places=[state])
-        for other in UNKNOWN_VARIANTS:
-            caller.refuses("hmac_load", other, state.at, *caller.known(good), places=[state])
-            caller.refuses("hmac_init", other, state.at, *NOWHERE, places=[state])
-        caller.refuses("hmac_init", variant, state.at, 0, 1, places=[state])
-        caller.call("hmac_load", variant, state.at, *caller.known(good))
-        state.bytes = caller.machine.get(state.at, HMAC_STATE)
-        caller.refuses("hmac_update", state.at, 0, 1, places=[state])
-        for length in (0, size - 1, size + 1):
-            caller.refuses("hmac_final", state.at, out.at, length, places=[state, out])
-            caller.refuses("hmac_verify", state.at, out.at, length, places=[state])
-            caller.refuses("hmac_save", state.at, out.at, 2 * (length + 72), places=[state, out])
-        caller.refuses("hmac_final", state.at, 0, size, places=[state])
-        caller.refuses("hmac_verify", state.at, 0, size, places=[state])
-        state = caller.place(HMAC_STATE)
-        caller.machine.put(state.at, [0] * HMAC_STATE)
-        state.bytes = [0] * HMAC_STATE
-        caller.refuses("hmac_update", state.at, *NOWHERE, places=[state])
-        caller.refuses("hmac_final", state.at, out.at, size, places=[state, out])
-        caller.refuses("hmac_verify", state.at, out.at, size, places=[state])
+            caller.refuses(f"{kind}update", [state], (state.at, *text), {}, {1: 0, 2: 0})
+            for name, length in ends:
+                caller.refuses(kind + name, [state, out], (state.at, out.at, length), {})
+        state = caller.place(STATES[kind])
+        caller.call(f"{kind}load", variant, state.at, *caller.known(good))
+        state.bytes = caller.machine.get(state.at, STATES[kind])
+        caller.refuses(f"{kind}update", [state], (state.at, 0, 1), {})
+        for name, length in ends:
+            caller.refuses(kind + name, [state, out], (state.at, out.at, length), {1: 0}, *lengths(length))
 
 
 # ---- Keys from passwords
 
-@case
-def keys(caller, variant):
+def keys(caller, variant, size):
     """pbkdf2."""
-    size = size_of(variant)
     every = [(8, 8, 2, size), (70, 0, 3, size + 1), (0, 60, 2, 2 * size + 3), (8, 4, 1, 16), (64, 64, 1, 2 * size),
              (100, 51, 2, 1), (65, 52, 1, 0), (1, 130, 4, 64)]
     for password, salt, rounds, length in caller.some(every, every[:3]):
@@ -407,43 +298,48 @@ def keys(caller, variant):
             secret, more = caller.given("password", password, secret=True), caller.given("salt", salt)
             out = caller.place(length)
             given = *(secret if password else NOWHERE), *(more if salt else NOWHERE)
-            caller.call("pbkdf2", variant, *given, rounds, *out, clears=True)
+            caller.call("pbkdf2", variant, *given, rounds, *out)
             caller.holds(out, pbkdf2(variant, secret.bytes, more.bytes, rounds, length))
     with caller.trying("refusals"):
         secret, more, out = caller.given("password", 8), caller.given("salt", 4), caller.place(20)
-        for wrong in [(0, *secret, *more, 1, *out), (variant, *secret, *more, 0, *out), (variant, 0, 1, *more, 1, *out),
-                      (variant, *secret, 0, 1, 1, *out), (variant, *secret, *more, 1, 0, 20),
-                      (variant, *secret, *more, 1, out.at, size * 2**32)]:
-            caller.refuses("pbkdf2", *wrong, places=[out])
+        caller.refuses("pbkdf2", [out], (variant, *secret, *more, 1, *out), {0: 0}, {1: 0}, {3: 0}, {5: 0}, {6: 0},
+                       {7: size * 2**32})
 
 
-@case
-def lists_of_keys(caller, variant):
+def lists_of_keys(caller, variant, size):
     """pbkdf2_list."""
-    size = size_of(variant)
     for count in caller.counts():
-        nulls = count % 4 in (1, 2)
-        rounds, length = (1, 16) if nulls else (2, size + 4)
-        if count > 100 and variant != 160:
-            continue  # a group of 128 is the same of each variant
+        nulls = caller.nulls(count, variant)
+        rounds, length = (2, size + 4) if count in (3, 8) else (1, 16)
         with caller.trying(count, "passwords,", rounds, "rounds,", length, "bytes"):
-            lengths = [(8, 100, 0, 64, 65)[i % 5] if count < 100 else 8 * (i % 40 > 0) for i in range(count)]
+            sizes = [(8, 100, 0, 64, 65)[i % 5] if count < 100 else 8 * (i % 40 > 0) for i in range(count)]
             passwords = [NOWHERE if n == 0 and nulls else caller.given(f"password {i}", n, secret=True)
-                         for i, n in enumerate(lengths)]
+                         for i, n in enumerate(sizes)]
             salts = [NOWHERE if i % 7 == 3 and nulls else caller.given(f"salt {i}", 8 * (i % 3) + 1)
                      for i in range(count)]
             out = caller.place(count * length)
-            caller.call("pbkdf2_list", variant, *caller.messages(passwords), *caller.messages(salts), rounds, length,
-                        *out, clears=True)
+            tables = *caller.messages(passwords), *caller.messages(salts)
+            caller.call("pbkdf2_list", variant, *tables, rounds, length, *out)
             caller.holds(out, [byte for password, salt in zip(passwords, salts)
                                for byte in pbkdf2(variant, password.bytes, salt.bytes, rounds, length)])
     with caller.trying("refusals"):
         one, bad = caller.given("password", 8), caller.messages([Piece(0, [], 3)])
         table, out = caller.messages([one]), caller.place(20)
-        for wrong in [(0, *table, *table, 1, 20, *out), (variant, *table, *table, 0, 20, *out),
-                      (variant, *table, table.at, 0, 1, 20, *out), (variant, *table, *table, 1, 19, *out),
-                      (variant, *bad, *table, 1, 20, *out), (variant, *table, *bad, 1, 20, *out),
-                      (variant, 0, 1, *table, 1, 20, *out), (variant, *table, 0, 1, 1, 20, *out),
-                      (variant, *table, *table, 1, 20, 0, 20),
-                      (variant, table.at, 0, table.at, 0, 1, size * 2**32, out.at, 0)]:
-            caller.refuses("pbkdf2_list", *wrong, places=[out])
+        caller.refuses("pbkdf2_list", [out], (variant, *table, *table, 1, 20, *out), {0: 0}, {1: 0}, {1: bad.at},
+                       {3: 0}, {3: bad.at}, {4: 0}, {5: 0}, {6: 19}, {7: 0}, {2: 0, 4: 0, 6: size * 2**32, 8: 0})
+
+
+CASES = {
+    "digest": digest, "each": partial(records, name="each", key_lengths=[None]),
+    "lists": partial(lists, name="list", key_lengths=[None]),
+    "streams": partial(new_states, kind="", few=list(product([None], [0, 20, 63], [0, 8, 65])),
+                       every=[*product([None], [0, 1, 55, 56, 63], [0, 8, 64, 130]),
+                              *product([None], [3, 20, 64, 65, 119, 120, 128], [9])]),
+    "load": partial(any_states, kind="", lengths_after=([0, 8, 64, 130], [0, 8, 71])),
+    "tags": tags, "tags_of_records": partial(records, name="hmac_each", key_lengths=[20, 100]),
+    "tags_of_lists": partial(lists, name="hmac_list", key_lengths=[20, 100]),
+    "tags_in_pieces": partial(new_states, kind="hmac_", few=[(20, 63, 70), (65, 1, 70)],
+                              every=[(0, 1, 70), (65, 63, 70), *product([64], [0, 1, 55, 63, 64], [70])]),
+    "loaded_tags": partial(any_states, kind="hmac_", lengths_after=([1, 71], [1, 71])),
+    "keys": keys, "lists_of_keys": lists_of_keys,
+}

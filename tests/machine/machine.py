@@ -3,9 +3,12 @@
 A number of at most 64 bits is an int, which is known, or a pair of words, the low one first. Each piece of memory that
 a call is given stands by itself: what reads or writes outside of it, or writes what is only to be read, ends the run.
 """
+import io
+from functools import partial
+
 from elftools.elf.elffile import ELFFile
 
-from terms import MASK, Term, add, and_, byte_of, bytes_of, rotl, shl, shr, sources, sub, unknown, word_of, xor
+from terms import MASK, Term, add, and_, byte_of, bytes_of, rotl, shift, sources, unknown, word_of, words_of, xor
 
 BASE, STUBS, STOP = 0x5500_0000_0000, 0x6600_0000_0000, 0x7700_0000_0000
 TOP, DEPTH = 0x7FFF_0000_0000, 1 << 20  # the stack: its top, and how deep it may go
@@ -14,8 +17,6 @@ LIMIT = 20_000_000  # instructions of one call
 M64 = 2**64 - 1
 # Relocations by their types: a place in the object itself, and the address of a symbol.
 RELATIVE, SYMBOL = {8, 1027}, {1, 6, 7, 257, 1025, 1026}
-
-
 # What Python raises where an instruction has operands that it is not known with.
 ODD = ArithmeticError, AttributeError, LookupError, TypeError, ValueError
 
@@ -25,108 +26,147 @@ class Wrong(Exception):
 
 
 def low(number):
-    return number & MASK if isinstance(number, int) else number[0]
+    return number & MASK if isinstance(number, int) else number[0] if isinstance(number, tuple) else number
 
 
 def high(number):
-    return number >> 32 if isinstance(number, int) else number[1]
+    return number >> 32 if isinstance(number, int) else number[1] if isinstance(number, tuple) else 0
 
 
 def pair(lo, hi=0):
-    return lo | hi << 32 if isinstance(lo, int) and isinstance(hi, int) else (lo, hi)
+    return (lo, hi) if isinstance(hi, Term) or hi and isinstance(lo, Term) else lo | hi << 32 if hi else lo
 
 
-def cut(number, size):
+def halves(numbers):
+    """The words of numbers of 64 bits."""
+    return [word for number in numbers for word in (low(number), high(number))]
+
+
+def cut(size, number):
     """The least bytes of a number."""
     if isinstance(number, int):
         return number & (1 << 8 * size) - 1
-    if size == 8:
-        return number
-    return pair(number[0] if size == 4 else and_(number[0], MASK >> 32 - 8 * size))
+    return number if size == 8 else low(number) if size == 4 else and_(low(number), MASK >> 32 - 8 * size)
 
 
-def signed(number, size):
+def signed(size, number):
     return number - (1 << 8 * size) if number >> 8 * size - 1 else number
 
 
-def bitwise(function, a, b):
-    return pair(function(low(a), low(b)), function(high(a), high(b)))
-
-
-def plus(a, b, size, carry=0):
-    if isinstance(a, int) and isinstance(b, int) and isinstance(carry, int):
-        return a + b + carry & (1 << 8 * size) - 1
-    lo = add(add(low(a), low(b)), carry)
-    return (lo, unknown(lo, high(a), high(b))) if size == 8 else cut(pair(lo), size)
-
-
-def minus(a, b, size, carry=0):
-    if isinstance(a, int) and isinstance(b, int) and isinstance(carry, int):
-        return a - b - carry & (1 << 8 * size) - 1
-    lo = sub(sub(low(a), low(b)), carry)
-    return (lo, unknown(lo, high(a), high(b))) if size == 8 else cut(pair(lo), size)
-
-
-def times(a, b, size):
-    if isinstance(a, int) and isinstance(b, int):
-        return a * b & (1 << 8 * size) - 1
-    raise Wrong(f"multiplies what depends on {names(a, b)}")
-
-
-def shifted(number, n, size, rotates=False):
-    """A number shifted by n bits, to the left, or to the right where n is negative; or rotated."""
-    bits = 8 * size
+def fixed(number, what="an address"):
+    """A number, which no input may change."""
     if isinstance(number, int):
-        if rotates:
-            n %= bits
-            return (number << n | number >> bits - n) & (1 << bits) - 1
-        return cut(number << n if n >= 0 else number >> -n, size)
-    lo, hi = number
+        return number
+    raise Wrong(f"{what} depends on {', '.join(sorted(sources(*halves([number]))))}")
+
+
+def of_known(function, size, *numbers):
+    """A function of known numbers. Of others nothing is known but what it is made of."""
+    if all(isinstance(number, int) for number in numbers):
+        return cut(size, function(*numbers))
+    word = unknown(*halves(numbers))
+    return cut(size, (word, word))
+
+
+def bitwise(function, size, *numbers):
+    """A function of words."""
+    lo = function(*map(low, numbers))
+    return pair(lo, function(*map(high, numbers))) if size == 8 else cut(size, lo)
+
+
+def plus(size, a, b, carry=0, n=1):
+    """The sum of a number and n times another and a carry."""
+    if isinstance(a, int) and isinstance(b, int) and isinstance(carry, int):
+        return a + n * (b + carry) & (1 << 8 * size) - 1
+    lo = add(add(low(a), low(b), n), carry, n)
+    return (lo, unknown(lo, high(a), high(b))) if size == 8 else cut(size, lo)
+
+
+minus = partial(plus, n=-1)
+
+
+def shifted(size, number, n):
+    """A number shifted by n bits to the left, or to the right where n is negative."""
+    if isinstance(number, int):
+        return cut(size, number << n if n >= 0 else number >> -n)
+    lo, hi = low(number), high(number)
+    if size < 8:
+        return cut(size, shift(lo, n))
+    return pair(xor(shift(lo, n), shift(hi, n + 32)), xor(shift(hi, n), shift(lo, n - 32)))
+
+
+def rotated(size, number, n):
+    """A number rotated by n bits to the left."""
     if size == 4:
-        return pair(rotl(lo, n) if rotates else shl(lo, n) if n >= 0 else shr(lo, -n))
-    if rotates:
-        n %= bits
-        return bitwise(xor, shifted(number, n, size), shifted(number, n - bits, size)) if n else number
-    if size < 4:
-        return cut(pair(shl(lo, n) if n >= 0 else shr(lo, -n)), size)
-    if n < 0:
-        lo, hi = hi, lo
-    n, one, other = (n, shl, shr) if n >= 0 else (-n, shr, shl)
-    near, far = (one(lo, n), xor(one(hi, n), other(lo, 32 - n))) if n < 32 else (0, one(lo, n - 32))
-    return pair(near, far) if one is shl else pair(far, near)
+        return rotl(low(number), n)
+    return bitwise(xor, size, shifted(size, number, n % (8 * size)), shifted(size, number, n % (8 * size) - 8 * size))
 
 
-def names(*numbers):
-    return ", ".join(sorted(sources(*(word for number in numbers if isinstance(number, tuple) for word in number))))
+def arithmetic(size, number, n):
+    """A signed number shifted by n bits to the right."""
+    return of_known(lambda number: signed(size, number) >> n, size, number)
+
+
+def swapped(size, number):
+    """A number with its bytes the other way round."""
+    return pair(*words_of(bytes_of(halves([number]))[:size][::-1]))
+
+
+def selected(size, a, b, holds):
+    """The first number where the last one, which is 1 or 0, is 1, and else the other."""
+    if isinstance(holds, int):
+        return a if holds else b
+    return bitwise(xor, size, holds, b) if (a, b) in ((0, 1), (1, 0)) else of_known(None, size, holds, a, b)
+
+
+def mixed(a, b):
+    """The items of two lists in turn."""
+    return [one for both in zip(a, b) for one in both]
+
+
+def lanes(words, size):
+    """The numbers of so many bytes in a vector."""
+    if size == 8:
+        return list(map(pair, words[::2], words[1::2]))
+    if size == 4:
+        return words
+    some = bytes_of(words)
+    return [word_of(*some[i:i + size]) for i in range(0, len(some), size)]
+
+
+def vector_of(numbers, size):
+    """The words of a vector of such numbers."""
+    if size == 8:
+        return halves(numbers)
+    if size == 4:
+        return list(map(low, numbers))
+    return words_of([byte_of(low(number), i) for number in numbers for i in range(size)])
 
 
 class Image:
     """A shared object: its bytes as they are when it is loaded, and the addresses of its functions."""
 
     def __init__(self, path):
-        self.bytes, self.functions, self.stubs, self.constructors, self.places = {}, {}, {}, [], []
+        self.bytes, self.functions, self.stubs, self.plt, constructors = {}, {}, {}, [], []
         with open(path, "rb") as file:
-            elf = ELFFile(file)
-            self.machine = elf["e_machine"]
-            for segment in elf.iter_segments("PT_LOAD"):
-                at = BASE + segment["p_vaddr"]
-                data = segment.data() + bytes(segment["p_memsz"] - segment["p_filesz"])
-                self.bytes.update(zip(range(at, at + len(data)), data))
-                self.places.append((at, at + len(data), segment["p_offset"]))
-            for table in (".symtab", ".dynsym"):
-                for symbol in elf.get_section_by_name(table).iter_symbols() if elf.get_section_by_name(table) else ():
-                    if symbol["st_info"]["type"] == "STT_FUNC" and symbol["st_shndx"] != "SHN_UNDEF":
-                        self.functions[symbol.name] = BASE + symbol["st_value"]
-            for section in elf.iter_sections("SHT_RELA"):
-                symbols = elf.get_section(section["sh_link"])
+            self.elf = ELFFile(io.BytesIO(file.read()))
+        self.machine = self.elf["e_machine"]
+        for segment in self.elf.iter_segments("PT_LOAD"):
+            data = segment.data() + bytes(segment["p_memsz"] - segment["p_filesz"])
+            self.bytes.update(enumerate(data, BASE + segment["p_vaddr"]))
+        for section in self.elf.iter_sections():
+            kind, at = section["sh_type"], BASE + section["sh_addr"]
+            if kind in ("SHT_SYMTAB", "SHT_DYNSYM"):
+                self.functions.update((symbol.name, BASE + symbol["st_value"]) for symbol in section.iter_symbols()
+                                      if symbol["st_info"]["type"] == "STT_FUNC" and symbol["st_shndx"] != "SHN_UNDEF")
+            elif kind == "SHT_RELA":
                 for relocation in section.iter_relocations():
-                    self._relocate(relocation, symbols)
-            self.plt = [(BASE + section["sh_addr"], BASE + section["sh_addr"] + section["sh_size"])
-                        for section in elf.iter_sections() if section.name.startswith(".plt")]
-            for section in elf.iter_sections("SHT_INIT_ARRAY"):
-                at = BASE + section["sh_addr"]
-                self.constructors += [int.from_bytes(self.code(i, 8), "little")
-                                      for i in range(at, at + section["sh_size"], 8)]
+                    self._relocate(relocation, self.elf.get_section(section["sh_link"]))
+            elif kind == "SHT_INIT_ARRAY":
+                constructors += range(at, at + section["sh_size"], 8)
+            elif section.name.startswith(".plt"):
+                self.plt.append((at, at + section["sh_size"]))
+        self.constructors = [int.from_bytes(self.code(at, 8), "little") for at in constructors]
         self.names = sorted((at, name) for name, at in self.functions.items())
 
     def _relocate(self, relocation, symbols):
@@ -140,15 +180,14 @@ class Image:
                 self.stubs[value] = symbol.name
         elif kind not in RELATIVE:
             raise Wrong(f"the relocation {kind} is not known")
-        at = BASE + relocation["r_offset"]
-        self.bytes.update(zip(range(at, at + 8), value.to_bytes(8, "little")))
+        self.bytes.update(enumerate(value.to_bytes(8, "little"), BASE + relocation["r_offset"]))
 
     def code(self, at, size):
         return bytes(self.bytes.get(i, 0) for i in range(at, at + size))
 
     def offset(self, at):
         """Where in the file a byte is."""
-        return next(at - start + offset for start, end, offset in self.places if start <= at < end)
+        return next(self.elf.address_offsets(at - BASE))
 
     def place(self, at):
         """An address as a reader knows it."""
@@ -175,7 +214,11 @@ class Cells(dict):
 
 
 class Machine:
-    """A processor, which has the registers g and v, and says where a call finds and leaves things."""
+    """A processor, which has the registers g and v. A class for one says of g which have arguments, which a call may
+    change and which not, and their names; of v of which a call keeps half, and the letters before their numbers."""
+
+    ARGUMENTS, LOST, KEPT, HALVES, NAMES, LETTERS = (), (), (), (), (), ""
+    vectors = 0, 0  # how many registers v has, and of how many words
 
     def __init__(self, image):
         self.image = image
@@ -199,7 +242,7 @@ class Machine:
         """Memory that holds these bytes, and where it is: `odd` bytes after a multiple of 64."""
         at = self.next_piece + odd
         self.next_piece += len(some) + 4096 & -64
-        self.cells.update(zip(range(at, at + len(some)), some))
+        self.cells.update(enumerate(some, at))
         if writable:
             self.writable.append((at, at + len(some)))
         return at
@@ -214,20 +257,15 @@ class Machine:
             self.lowest = min(self.lowest, at)
         elif some and not any(start <= at and end <= stop for start, stop in self.writable):
             raise Wrong(f"writes at {at:#x}, which it is not to")
-        self.cells.update(zip(range(at, end), some))
+        self.cells.update(enumerate(some, at))
 
     def load(self, at, size):
         """A number from memory."""
         some = self.get(at, size)
-        return pair(word_of(*some[:4]), word_of(*some[4:]) if size == 8 else 0)
+        return pair(word_of(*some[:4]), word_of(*some[4:])) if size == 8 else word_of(*some)
 
     def store(self, at, number, size):
-        self.put(at, bytes_of((low(number), high(number)) if size == 8 else (low(number),))[:size])
-
-    def address(self, number):
-        if isinstance(number, int):
-            return number
-        raise Wrong(f"an address depends on {names(number)}")
+        self.put(at, bytes_of(halves([number]) if size == 8 else [low(number)])[:size])
 
     # ---- Calls
 
@@ -244,8 +282,15 @@ class Machine:
         self.reset()
 
     def call_at(self, pc, *arguments):
-        self.start(arguments)
+        for i, argument in zip(self.ARGUMENTS, arguments):
+            self.g[i] = argument
+        further = [byte for number in arguments[len(self.ARGUMENTS):] for byte in number_bytes(number)]
+        self.entry = self.g[self.KEPT[0]] = TOP - 4096
+        self.cells.owned = self.entry + len(further)
+        self.cells.update(enumerate(further, self.entry))
         kept, limit = self.kept(), self.steps + LIMIT
+        self.link(STOP)
+        self.lowest = self.entry
         try:
             while pc != STOP:
                 self.at = pc
@@ -258,35 +303,50 @@ class Machine:
                 pc = execute() or following
         except (Wrong, *ODD) as error:
             raise Wrong(f"{self.image.place(self.at)}: {error}") from error
-        if any(one is not other and one != other for one, other in zip(self.kept(), kept)):
+        if self.kept() != kept:  # of terms that are equal there is one
             raise Wrong(f"{self.image.place(self.at)}: a register that has to be kept is another")
         return and_(low(self.g[0]), 0xFF)
+
+    def decode(self, at):
+        """The function that executes an instruction, and where the next one is."""
+        ins = next(self.capstone.disasm(self.image.code(at, 16), at, 1), None)
+        if ins is None:
+            raise Wrong("no instruction is there")
+        try:
+            return self.found(ins), at + ins.size
+        except ODD as error:
+            raise Wrong(f"{ins.mnemonic} {ins.op_str} is not known") from error
+
+    def kept(self):
+        return [self.g[i] for i in self.KEPT], [self.v[i][:2] for i in self.HALVES]
 
     def left(self):
         """The terms that a call left on the stack below its caller and in registers that it may change, with where."""
         for at, byte in self.cells.items():
             if TOP - DEPTH <= at < self.cells.owned and isinstance(byte, Term):
                 yield f"the stack, {self.entry - at} bytes below its caller", byte
-        for name, word in self.lost():
-            if isinstance(word, Term):
-                yield name, word
+        count, size = self.vectors
+        for name, words in [*((self.NAMES[i], halves([self.g[i]])) for i in self.LOST), *(
+                (f"{self.LETTERS}{i}", self.v[i][2 * (i in self.HALVES):size]) for i in range(count))]:
+            yield from ((name, word) for word in words if isinstance(word, Term))
 
     def stubbed(self, name):
         """A function of the C library, as its manual has it. It leaves what it copied in registers."""
-        zeroes = name in ("explicit_bzero", "__explicit_bzero_chk")
-        if name not in ("memcpy", "memmove", "memset", "__memcpy_chk", "__memmove_chk", "__memset_chk") and not zeroes:
+        if name not in ("memcpy", "memmove", "memset"):
             raise Wrong(f"calls {name}, which is not known")
 
         def execute():
-            to, second, third = self.arguments(3)
-            size = self.address(second if zeroes else third)
-            if "set" in name or zeroes:
-                some = [0 if zeroes else byte_of(low(second), 0)] * size
-            else:
-                some = self.get(self.address(second), size)
-            self.put(self.address(to), some)
-            self.clobber(unknown(*some))
-            return self.returned(to)
+            to, what, size = (self.g[i] for i in self.ARGUMENTS[:3])
+            size = fixed(size)
+            some = [byte_of(low(what), 0)] * size if name == "memset" else self.get(fixed(what), size)
+            self.put(fixed(to), some)
+            back, word = self.back(), unknown(*some)
+            for i in self.LOST:
+                self.g[i] = word, word
+            for i, words in enumerate(self.v):
+                self.v[i] = [*words[:2], *[word] * 6] if i in self.HALVES else [word] * 8
+            self.g[0] = to
+            return back
 
         return execute, None
 

@@ -57,24 +57,13 @@ def unknown(*words):
     return make("unknown", len(_terms), tuple(word for word in words if isinstance(word, Term)))
 
 
-def is_unknown(word):
-    return isinstance(word, Term) and word.form == "unknown"
-
-
-def _below(term):
-    """The terms that a term is made of."""
-    form, args = term.form, term.args
-    if form == "bits":
-        return [t for product, _ in args[0] for t in product]
-    if form == "sum":
-        return [t for t, _ in args[1]]
-    if form in ("part", "rotated"):
-        return args[:1]
-    if form == "xor":
-        return args[1]
-    if form == "signs":
-        return [t for some in args[0] for t in some]
-    return args[1] if form == "unknown" else args[0] if form in ("any", "zero", "mask") else args
+def _below(args):
+    """The terms in what a term is made of."""
+    for arg in args:
+        if isinstance(arg, Term):
+            yield arg
+        elif isinstance(arg, (tuple, frozenset)):
+            yield from _below(arg)
 
 
 def sources(*words):
@@ -87,7 +76,7 @@ def sources(*words):
         elif term.form == "input":
             _sources[term] = frozenset([term.args[0]])
         else:
-            below = [t for t in _below(term) if isinstance(t, Term)]
+            below = list(_below(term.args))
             missing = [t for t in below if t not in _sources]
             stack += missing
             if not missing:
@@ -161,10 +150,6 @@ def words_of(some):
     return [word_of(*some[i:i + 4]) for i in range(0, len(some), 4)]
 
 
-def reversed_bytes(word):
-    return word_of(*(byte_of(word, i) for i in (3, 2, 1, 0)))
-
-
 # ---- Sums
 
 def _as_sum(word):
@@ -215,8 +200,8 @@ def add(a, b, n=1):
     """The sum of a word and n times another."""
     if isinstance(a, int) and isinstance(b, int):
         return a + n * b & MASK
-    if is_unknown(a) or is_unknown(b):
-        return unknown(a, b)
+    if b == 0:
+        return a
     constant, terms = _as_sum(a)
     more, others = _as_sum(b)
     for term, m in others.items():
@@ -277,9 +262,7 @@ def xor(a, b):
         return a ^ b
     if a is b:
         return 0
-    if is_unknown(a) or is_unknown(b):
-        return unknown(a, b)
-    return _from_bits(_xor_bits(_as_bits(a), _as_bits(b)))
+    return a if b == 0 else _from_bits(_xor_bits(_as_bits(a), _as_bits(b)))
 
 
 def and_(a, b):
@@ -293,8 +276,6 @@ def and_(a, b):
         return 0
     if isinstance(b, int) and b in BYTES:
         return word_of(*(byte_of(a, i) if b >> 8 * i & 1 else 0 for i in range(4)))
-    if is_unknown(a) or is_unknown(b):
-        return unknown(a, b)
     if isinstance(b, int):
         return _from_bits({product: mask & b for product, mask in _as_bits(a).items() if mask & b})
     if a.form == b.form == "zero":
@@ -325,8 +306,6 @@ def or_(a, b):
     forms = {word.form for word in (a, b) if isinstance(word, Term)}
     if forms & {"bytes", "zero"} and _are_apart(a, b):
         return word_of(*(byte_of(a, i) or byte_of(b, i) for i in range(4)))
-    if "unknown" in forms:
-        return unknown(a, b)
     if forms == {"bytes"} and isinstance(a, Term) and isinstance(b, Term):
         return word_of(*(_any(byte_of(a, i), byte_of(b, i)) for i in range(4)))
     return xor(xor(a, b), and_(a, b))
@@ -369,7 +348,7 @@ def zero(words):
 def _all_signs(word):
     """The sets of signs, if this is their number less that of ones, and so 0 if all are 1."""
     if isinstance(word, Term) and word.form in ("sum", "bits"):
-        for term in _below(word):
+        for term in _below(word.args):
             if term.form == "signs":
                 ones = (1 << len(term.args[0])) - 1
                 return term.args[0] if word in (sub(term, ones), xor(term, ones)) else None
@@ -399,8 +378,6 @@ def negative(words, size):
 
 def least(words):
     """The least of all bytes of these words."""
-    if all(isinstance(word, int) for word in words):
-        return min(bytes_of(words))
     every = [{_bit(word, 8 * i + j) for j in range(8)} for word in words for i in range(4)]
     if any(None in bits or len(bits) > 1 for bits in every):
         return unknown(*words)
@@ -415,9 +392,10 @@ def _bit(word, i):
         return _bit(word.args[0], (i - word.args[1]) % 32)
     if word.form == "bytes":
         byte = word.args[i // 8]
-        if isinstance(byte, Term) and byte.form in ("mask", "part"):
-            return byte.args[0] if byte.form == "mask" else _bit(byte.args[0], 8 * byte.args[1] + i % 8)
-        return _bit(byte, i % 8) if isinstance(byte, int) else None
+        if isinstance(byte, int):
+            return _bit(byte, i % 8)
+        some, *at = byte.args
+        return some if byte.form == "mask" else _bit(some, 8 * at[0] + i % 8) if byte.form == "part" else None
     if word.form == "bits":
         products = [product for product, mask in word.args[0] if mask >> i & 1]
         some = [_bit(term, i) for term in products[0]] if len(products) == 1 else [None]
@@ -428,8 +406,6 @@ def _bit(word, i):
 def signs(words):
     """The highest bits of all bytes of these words, in one word."""
     bits = [_bit(word, 8 * i + 7) for word in words for i in range(4)]
-    if all(isinstance(word, int) for word in words):
-        return sum((bit is not None) << i for i, bit in enumerate(bits))
     return unknown(*words) if None in bits else make("signs", tuple(bits))
 
 
@@ -443,16 +419,12 @@ def rotl(a, n):
         return rotl(a.args[0], a.args[1] + n)
     if a.form == "bits":
         return _from_bits({frozenset(rotl(t, n) for t in product): rotl(mask, n) for product, mask in a.args[0]})
-    if a.form == "unknown":
-        return unknown(a)
     if a.form == "bytes" and n % 8 == 0:
         return word_of(*(a.args[(i - n // 8) % 4] for i in range(4)))
     return make("rotated", a, n)
 
 
-def shl(a, n):
-    return 0 if n >= 32 else and_(rotl(a, n), MASK << n & MASK)
-
-
-def shr(a, n):
-    return 0 if n >= 32 else and_(rotl(a, -n), MASK >> n)
+def shift(a, n):
+    """A word shifted by n bits to the left, or to the right where n is negative."""
+    mask = MASK << n & MASK if n >= 0 else MASK >> -n
+    return and_(rotl(a, n), mask) if mask else 0

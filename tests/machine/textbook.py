@@ -77,44 +77,49 @@ def walk(variant, state, blocks):
 
 
 def ripemd(variant, message, state=None, before=0):
-    """The digest of a message, or of what follows a state after so many bytes."""
-    total = before + len(message)
+    """The digest of a message, or of what follows a state after so many blocks."""
+    total = 64 * before + len(message)
     padding = [0x80] + [0] * ((55 - total) % 64) + list((8 * total % 2**64).to_bytes(8, "little"))
     return bytes_of(walk(variant, state or start_of(variant), message + padding))
 
 
-def saved(variant, message, state=None, count=0):
-    """What a hasher is saved as: chaining value, blocks, bytes that wait for a block and how many, zeros."""
-    whole = len(message) // 64 * 64
-    tail = message[whole:]
-    value = bytes_of(walk(variant, state or start_of(variant), message[:whole]))
-    return [*value, *((count + whole // 64) % 2**64).to_bytes(8, "little"), len(tail), *tail, *[0] * (63 - len(tail))]
+# ---- What takes a message: hashers of a chaining value, the blocks before it, and bytes that wait for a block; each
+# but the first takes the digest of the one before. Of a hash it is one, of HMAC the inner and the outer one.
+
+def output(variant, hashers, message):
+    """The digest or the tag of a message."""
+    for state, before, held in hashers:
+        message = ripemd(variant, held + message, state, before)
+    return message
 
 
-def masked(variant, key, mask):
-    """The chaining value after the masked key."""
+def saved(variant, hashers, message):
+    """What hashers are saved as: chaining values, blocks, how many bytes wait for a block, and these, with zeros."""
+    out = []
+    for state, before, held in hashers:
+        held, message = held + message, []
+        blocks, tail = divmod(len(held), 64)
+        count = ((before + blocks) % 2**64).to_bytes(8, "little")
+        out += [*bytes_of(walk(variant, state, held[:64 * blocks])), *count, tail]
+        out += [*held[64 * blocks:], *[0] * (63 - tail)]
+    return out
+
+
+def keyed(variant, key):
+    """The hashers of HMAC under a key."""
     key = ripemd(variant, key) if len(key) > 64 else key
-    block = bytes_of([xor(word, mask * 0x01010101) for word in words_of(key + [0] * (64 - len(key)))])
-    return compress(variant, start_of(variant), block)
-
-
-def hmac_of(variant, inner, outer, text, before=64):
-    """The tag by the chaining values of both hashers."""
-    return ripemd(variant, ripemd(variant, text, inner, before), outer, 64)
-
-
-def hmac(variant, key, text):
-    return hmac_of(variant, masked(variant, key, 0x36), masked(variant, key, 0x5C), text)
+    words = words_of(key + [0] * (64 - len(key)))
+    return [(compress(variant, start_of(variant), bytes_of([xor(word, mask) for word in words])), 1, [])
+            for mask in (0x36363636, 0x5C5C5C5C)]
 
 
 def pbkdf2(variant, password, salt, rounds, size):
-    inner, outer = (masked(variant, password, mask) for mask in (0x36, 0x5C))
-    key = []
+    hashers, key = keyed(variant, password), []
     for block in range(1, -(-size // size_of(variant)) + 1):
-        one = hmac_of(variant, inner, outer, salt + list(block.to_bytes(4, "big")))
+        one = output(variant, hashers, salt + list(block.to_bytes(4, "big")))
         every = words_of(one)
         for _ in range(rounds - 1):
-            one = hmac_of(variant, inner, outer, one)
+            one = output(variant, hashers, one)
             every = list(map(xor, every, words_of(one)))
         key += bytes_of(every)
     return key[:size]

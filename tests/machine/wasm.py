@@ -8,8 +8,9 @@ from functools import partial
 from itertools import takewhile, zip_longest
 
 from cases import Caller
-from machine import LIMIT, Machine, Wrong, bitwise, cut, low, minus, names, pair, plus, shifted, signed
-from terms import Term, add, and_, byte_of, or_, rotl, shl, shr, sub, unknown, xor, zero
+from machine import (LIMIT, Machine, Wrong, arithmetic, bitwise, cut, fixed, halves, low, minus, of_known, plus,
+                     rotated, shifted, signed)
+from terms import Term, add, and_, byte_of, or_, sub, unknown, xor, zero
 
 TOP, PIECES = 65536, 1 << 20  # the end of the stack, and where the memory is that calls are given
 WIPED = 8192  # what js/src/engine.js overwrites of the stack after calls with secrets
@@ -17,51 +18,32 @@ SIZES = {"i32": 4, "i64": 8}
 CASES = "digest", "streams", "load", "tags", "tags_in_pieces", "loaded_tags", "keys"  # RIPEMD-160 alone has three
 
 
-def words(value):
-    return value if isinstance(value, tuple) else (value,)
-
-
-def fixed(value, what="an address or a size"):
-    """A value that no input may change."""
-    if isinstance(value, int):
-        return value
-    raise Wrong(f"{what} depends on {names(words(value))}")
-
-
 def equal(a, b):
-    """1 if values are equal, and else 0."""
-    if isinstance(a, int) and isinstance(b, int):
-        return int(a == b)
-    return zero(words(bitwise(xor, a, b) if isinstance(a, tuple) or isinstance(b, tuple) else xor(a, b)))
-
-
-def of_known(function, size, signs=None):
-    """A function of known values, which it may take as signed ones of some bytes. Of others it gives what is not."""
-    def operate(*values):
-        if all(isinstance(value, int) for value in values):
-            return cut(function(*(signed(value, signs) if signs else value for value in values)), size)
-        word = unknown(*(word for value in values for word in words(value)))
-        return (word, word) if size == 8 else word
-
-    return operate
+    """1 if numbers are equal, and else 0."""
+    return int(a == b) if isinstance(a, int) and isinstance(b, int) else zero(halves([bitwise(xor, 8, a, b)]))
 
 
 OPERATORS = {
-    "i32.add": add, "i64.add": partial(plus, size=8), "i32.sub": sub, "i64.sub": partial(minus, size=8),
-    "i32.and": and_, "i64.and": partial(bitwise, and_), "i32.or": or_, "i64.or": partial(bitwise, or_),
-    "i32.xor": xor, "i64.xor": partial(bitwise, xor), "i32.wrap_i64": low, "i64.extend_i32_u": pair,
+    "i32.add": add, "i32.sub": sub, "i32.and": and_, "i32.or": or_, "i32.xor": xor, "i32.wrap_i64": low,
+    **{f"i64.{name}": partial(function, 8) for name, function in (
+        ("add", plus), ("sub", minus), ("and", partial(bitwise, and_)), ("or", partial(bitwise, or_)),
+        ("xor", partial(bitwise, xor)))}, "i64.extend_i32_u": lambda value: value,
     "drop": lambda value: None, "select": lambda a, b, chosen: a if fixed(chosen, "what it selects") else b,
 }
-SHIFTS = {"i32.shl": shl, "i64.shl": partial(shifted, size=8), "i32.rotr": lambda a, n: rotl(a, -n),
-          "i32.shr_u": shr, "i64.shr_u": lambda a, n: shifted(a, -n, 8),
-          "i32.rotl": rotl, "i64.rotl": partial(shifted, size=8, rotates=True)}
+SHIFTS = {}
 for _kind, _size in SIZES.items():
-    SHIFTS[f"{_kind}.shr_s"] = of_known(lambda a, n, size=_size: signed(a, size) >> n, _size)
+    SHIFTS.update({
+        f"{_kind}.shl": partial(shifted, _size), f"{_kind}.shr_u": lambda a, n, size=_size: shifted(size, a, -n),
+        f"{_kind}.rotl": partial(rotated, _size), f"{_kind}.rotr": lambda a, n, size=_size: rotated(size, a, -n),
+        f"{_kind}.shr_s": partial(arithmetic, _size)})
     OPERATORS.update({
         f"{_kind}.eq": equal, f"{_kind}.ne": lambda a, b: xor(equal(a, b), 1), f"{_kind}.eqz": lambda a: equal(a, 0),
-        f"{_kind}.mul": of_known(operator.mul, _size), f"{_kind}.div_u": of_known(operator.floordiv, _size),
-        **{f"{_kind}.{name}_u": of_known(getattr(operator, name), 4) for name in ("lt", "le", "gt", "ge")},
-        **{f"{_kind}.{name}_s": of_known(getattr(operator, name), 4, _size) for name in ("lt", "le", "gt", "ge")}})
+        f"{_kind}.mul": partial(of_known, operator.mul, _size),
+        f"{_kind}.div_u": partial(of_known, operator.floordiv, _size)})
+    for _name in ("lt", "le", "gt", "ge"):
+        OPERATORS[f"{_kind}.{_name}_u"] = partial(of_known, getattr(operator, _name), 4)
+        OPERATORS[f"{_kind}.{_name}_s"] = partial(of_known, lambda a, b, function=getattr(operator, _name), size=_size:
+                                                  function(signed(size, a), signed(size, b)), 4)
 
 
 def read(tokens):
@@ -85,7 +67,7 @@ class Module:
             elif kind == "export":
                 self.exports[name.strip('"').replace("ripemd160", "nattizhu")] = rest[0][1]
             elif kind == "global":
-                self.globals[name] = cut(int(rest[1][1]), SIZES[rest[1][0][:3]])
+                self.globals[name] = cut(SIZES[rest[1][0][:3]], int(rest[1][1]))
             elif kind not in ("type", "memory"):
                 raise Wrong(f"{kind} is not known")
 
@@ -218,7 +200,7 @@ class Wasm(Machine):
             shift, last = SHIFTS[name], 8 * SIZES[name[:3]] - 1
             return lambda a, n: shift(a, fixed(n, "how far it shifts") & last)
         if name in ("i32.const", "i64.const"):
-            return partial(cut, int(given[0]), SIZES[name[:3]])
+            return partial(cut, SIZES[name[:3]], int(given[0]))
         if name in ("br", "br_if", "br_table", "return", "unreachable"):
             return partial(self.jump, name, given or ["return"])
         known = {
@@ -235,19 +217,17 @@ class Wasm(Machine):
     def access(self, kind, action, bits, sign, offset):
         size = int(bits or 8 * SIZES[kind]) // 8
         if action == "store":
-            return lambda at, value: self.store(fixed(at) + offset, pair(value) if kind == "i32" else value, size)
-        extend = of_known(int, SIZES[kind], size) if sign == "s" else lambda value: value
-        shape = low if kind == "i32" else lambda value: value
-        return lambda at: extend(shape(self.load(fixed(at) + offset, size)))
+            return lambda at, value: self.store(fixed(at) + offset, value, size)
+        extend = partial(of_known, partial(signed, size), SIZES[kind]) if sign == "s" else lambda value: value
+        return lambda at: extend(self.load(fixed(at) + offset, size))
 
 
 class Exports(Caller):
     """Makes the calls that a module has, to which a null pointer is like any other."""
 
-    def refuses(self, name, *arguments, **wanted):
+    def has(self, name, arguments):
         types = self.machine.image.functions[self.machine.image.exports[f"nattizhu_{name}"]][0]
         wide = [argument for argument, kind in zip(arguments[-len(types):], types) if kind == "i64"]
         pairs = wide[len(wide) % 2:]  # a pointer to a state has no length
         null = any(at == 0 and count for at, count in zip(pairs[::2], pairs[1::2]))
-        if not null and (len(types) == len(arguments) or arguments[0] == 160):
-            super().refuses(name, *arguments, **wanted)
+        return not null and (len(types) == len(arguments) or arguments[0] == 160)
