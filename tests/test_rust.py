@@ -39,8 +39,8 @@ def fixture_cargo(once):
     need("cc", "gcc")
     need_cargo("cargo")
     found = re.search(r"1\.(\d+)", run("cargo", "--version").stdout)
-    if int(found[1]) < 85:
-        pytest.skip(f"cargo is {found[0]}, and `digest` 0.11 is from Rust 1.85 on (Debian's cargo-web)")
+    if int(found[1]) < 87:
+        pytest.skip(f"cargo is {found[0]}, and the crates are for Rust from 1.87 on (Debian's cargo-web)")
     for crate in ("digest-0.10", "digest-0.11"):
         if not any(REGISTRY.glob(f"{crate}.*")):
             pytest.skip(f"there is no {crate} in {REGISTRY}, where .ci/run unpacks crates of Debian unstable")

@@ -112,7 +112,7 @@ impl<V: Variant> SerializableState for RipemdCore<V> {
     type SerializedStateSize = V::SavedWordsSize;
 
     fn serialize(&self) -> SerializedState<Self> {
-        let mut room = [0; 112];
+        let mut room = [0; 48 + TAIL];
         let saved = &mut room[..V::SavedWordsSize::USIZE + TAIL];
         match &self.state {
             None => HashState::<V>::init().save(saved),
@@ -124,10 +124,12 @@ impl<V: Variant> SerializableState for RipemdCore<V> {
     }
 
     fn deserialize(words: &SerializedState<Self>) -> Result<Self, DeserializeStateError> {
-        let mut saved = [0; 112];
+        let mut saved = [0; 48 + TAIL];
         saved[..words.len()].copy_from_slice(words);
-        let state = HashState::load(&saved[..words.len() + TAIL]).ok_or(DeserializeStateError)?;
-        Ok(Self { state: Some(state) })
+        let state = HashState::load(&saved[..words.len() + TAIL]);
+        sys::wipe(&mut saved);
+        let state = Some(state.ok_or(DeserializeStateError)?);
+        Ok(Self { state })
     }
 }
 

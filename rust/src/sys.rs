@@ -13,7 +13,6 @@
 #![allow(unsafe_code)]
 
 use core::marker::PhantomData;
-use core::mem::size_of_val;
 use digest::array::sizes::{U16, U176, U184, U20, U208, U224, U24, U28, U32, U40, U48};
 use digest::array::{Array, ArraySize};
 
@@ -94,11 +93,12 @@ pub fn wipe(bytes: &mut [u8]) {
     unsafe { nattizhu_wipe(bytes.as_mut_ptr(), bytes.len()) }
 }
 
-/// A state of the library, which is wiped when it is dropped: how many bytes it has, and the
-/// functions that make it, update it, write its digest, save it and load it. What `update`,
-/// `finalize` and `verify` return is what `nattizhu.h` says.
+/// A state of the library, which is wiped when it is dropped: how many bytes it has, and the functions that
+/// make it, update it, write its digest, save it and load it. What `update`, `finalize` and `verify` return is
+/// what `nattizhu.h` says.
 macro_rules! state {
-    ($state:ident, $size:literal, $init:ident($($key:ident)?), $update:ident, $final:ident, $save:ident, $load:ident) => {
+    ($state:ident, $size:literal,
+     $init:ident($($key:ident)?), $update:ident, $final:ident, $save:ident, $load:ident) => {
         #[derive(Clone)]
         pub struct $state<V>([u8; $size], PhantomData<V>);
 
@@ -156,10 +156,12 @@ macro_rules! state {
 }
 
 state! {
-    HashState, 113, nattizhu_init(), nattizhu_update, nattizhu_final, nattizhu_save, nattizhu_load
+    HashState, 113,
+    nattizhu_init(), nattizhu_update, nattizhu_final, nattizhu_save, nattizhu_load
 }
 state! {
-    HmacState, 225, nattizhu_hmac_init(key), nattizhu_hmac_update, nattizhu_hmac_final,
+    HmacState, 225,
+    nattizhu_hmac_init(key), nattizhu_hmac_update, nattizhu_hmac_final,
     nattizhu_hmac_save, nattizhu_hmac_load
 }
 
@@ -184,10 +186,7 @@ fn sizes_as_the_library_says() {
     // SAFETY: these calls are given nothing.
     let sizes = unsafe { (nattizhu_state_size(), nattizhu_hmac_state_size()) };
     assert_eq!(
-        (
-            core::mem::size_of::<HashState<V160>>(),
-            core::mem::size_of::<HmacState<V160>>()
-        ),
+        (size_of::<HashState<V160>>(), size_of::<HmacState<V160>>()),
         sizes
     );
 }
