@@ -201,9 +201,9 @@ def by_python(folder):
 
 
 def by_rust(folder):
-    registry = "/usr/share/cargo/registry"
-    if not shutil.which("cargo") or not pathlib.Path(registry).exists():
-        print("bench.py: there is no cargo, or no crates of Debian's: no figures from Rust", file=sys.stderr)
+    registry = pathlib.Path("/usr/local/share/cargo/registry")
+    if not shutil.which("cargo") or not any(registry.glob("ripemd-0.1.*")):
+        print("bench.py: there is no cargo, or no crate ripemd, which .ci/run unpacks: no figures from Rust", file=sys.stderr)
         return
     shutil.copytree(ROOT / "bench/rust", folder / "bench/rust")
     shutil.copytree(ROOT / "rust", folder / "rust", ignore=shutil.ignore_patterns("target", "Cargo.lock"))

@@ -1,5 +1,6 @@
 //! Finds the library, libnattizhu.a and for x86-64 also libnattizhu_v3.a: in the folder that
-//! `NATTIZHU_LIB_DIR` names, or where pkg-config says, or where `make library` leaves them in this repository.
+//! `NATTIZHU_LIB_DIR` names, or where pkg-config says, or where `make library` leaves them in this repository, and the
+//! archive of the source has them.
 
 use std::env;
 use std::path::{Path, PathBuf};
@@ -31,7 +32,7 @@ fn main() {
     if processor == "x86_64" {
         libraries.push("nattizhu_v3");
     } else {
-        built.push(env::var_os("TARGET").unwrap_or_default());
+        built.push(format!("{processor}-unknown-linux-gnu"));
     }
     // For another processor pkg-config would name a library of this machine.
     let installed = if host.starts_with(&processor) {
@@ -53,11 +54,12 @@ fn main() {
             }
         }
         None => {
-            eprintln!("There is no library of {libraries:?} in {folders:?}.");
             eprintln!(
-                "In the repository of Nattizhu run `make library` (for ARM64 with TARGET=), or \
-                 `make install PREFIX=..` and add PREFIX/lib/pkgconfig to PKG_CONFIG_PATH; or set NATTIZHU_LIB_DIR to the folder that \
-                 has them."
+                "There is no library of {libraries:?} in {folders:?}. Three ways to have it:\n\
+                 - install Debian's package libnattizhu-dev, or another that pkg-config knows;\n\
+                 - take this crate from the archive of the source, which has it, or run `make library` in the \
+                 repository (for ARM64 with TARGET=);\n\
+                 - set NATTIZHU_LIB_DIR to the folder that has it."
             );
             exit(1);
         }

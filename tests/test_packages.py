@@ -10,6 +10,7 @@ import shutil
 import pytest
 from conftest import ABC, DATA, ROOT, need, need_arm64, programs, run, version
 from test_openssl import PAGE
+from test_rust import fixture_cargo  # noqa: F401 pylint: disable=unused-import
 
 ARCHIVE = f"nattizhu-{version()}-linux-x86_64"
 PAGES = {"x86_64": ["nattizhu.3", "ripemd_sum.1", "rmdsum.1"], "aarch64": ["nattizhu.3"]}
@@ -90,6 +91,12 @@ def test_digests_of_the_files(dist):
     run("sha256sum", "--quiet", "-c", "SHA256SUMS", cwd=dist)
     files = [str(path.relative_to(dist)) for path in dist.rglob("*") if path.is_file()]
     assert sorted(["SHA256SUMS", *(dist / "SHA256SUMS").read_text().split()[1::2]]) == sorted(files)
+
+
+def test_crate_of_the_source(dist, cargo, tmp_path):
+    """It is built with the libraries that lie beside it."""
+    shutil.unpack_archive(dist / f"nattizhu-{version()}.tar.gz", tmp_path)
+    cargo(tmp_path / f"nattizhu-{version()}/rust", "test", "--test", "many", env={"CARGO_TARGET_DIR": str(tmp_path)})
 
 
 def test_lintian(debs):

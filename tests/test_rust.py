@@ -1,15 +1,23 @@
 """Tries the crates for Rust: their tests and the examples of their documentation, clippy, rustfmt and rustdoc, how the
-build finds the library, the crate of tests/ripemd, which depends on `ripemd`, and the programs of docs/RUST.md. Other
-crates are Debian's: nothing is downloaded."""
+build finds the library, the crates of tests/ripemd and tests/ripemd-0.1, which depend on `ripemd`, and the programs of
+docs/RUST.md. Other crates are Debian's, which .ci/run unpacks: nothing is downloaded."""
 import pathlib
+import re
 import shutil
+import sys
 
 import pytest
 from conftest import DATA, NOTICED, ROOT, SECRETS, fences, lines, memcheck, need, programs, run
 from test_openssl import DIGESTS, TAGS, counted
 
-REGISTRY = pathlib.Path("/usr/share/cargo/registry")
+sys.path.insert(0, str(ROOT / "tests/machine"))
+import textbook  # noqa: E402 pylint: disable=wrong-import-position
+
+REGISTRY = pathlib.Path("/usr/local/share/cargo/registry")
+MUSL = "x86_64-unknown-linux-musl"
 PACKAGES = {"clippy": "rust-clippy", "fmt": "rustfmt"}
+# The crates that depend on `ripemd`, and what their tests say over a library whose digests are wrong.
+DEPENDENTS = {"tests/ripemd": "8 passed; 29 failed", "tests/ripemd-0.1": "0 passed; 20 failed"}
 PAGE = "docs/RUST.md"
 # What each program of the page prints.
 PRINTED = {f"program-{number}": text for number, (_, text) in enumerate(programs(PAGE, "rust"), 1)}
@@ -30,9 +38,12 @@ def fixture_cargo(once):
     finds nothing, unless it is told where."""
     need("cc", "gcc")
     need_cargo("cargo")
-    for name, version in [("digest", "0.10"), ("hmac", "0.12"), ("pbkdf2", "0.11")]:
-        if not any(REGISTRY.glob(f"{name}-{version}.*")):
-            pytest.skip(f"there is no crate {name} {version} in {REGISTRY} (Debian's librust-{name}-dev)")
+    found = re.search(r"1\.(\d+)", run("cargo", "--version").stdout)
+    if int(found[1]) < 87:
+        pytest.skip(f"cargo is {found[0]}, and the crates are for Rust from 1.87 on (Debian's cargo-web)")
+    for crate in ("digest-0.10", "digest-0.11"):
+        if not any(REGISTRY.glob(f"{crate}.*")):
+            pytest.skip(f"there is no {crate} in {REGISTRY}, where .ci/run unpacks crates of Debian unstable")
 
     def configure(folder):
         folder.mkdir()
@@ -49,31 +60,38 @@ def fixture_cargo(once):
     return runs
 
 
-def write_blobs(file, rows):
+def compact(number):
+    """A number as the macros of `digest` read it."""
+    written = [number % 128]
+    while number := number // 128:
+        number -= 1
+        written.insert(0, 128 + number % 128)
+    return bytes(written)
+
+
+def write_blobs(file, rows, counted_first):
     """Writes rows of bytes as the macros of `digest` read them: behind the number of pieces that are stored once for
-    several, which is 0, each piece, with its doubled length in front."""
-    written = bytearray(1)
-    for piece in (piece for row in rows for piece in row):
-        rest = 2 * len(piece)
-        number = [rest % 128]
-        while rest := rest // 128:
-            rest -= 1
-            number.insert(0, 128 + rest % 128)
-        written += bytes(number) + piece
-    file.write_bytes(written)
+    several, which is 0, each piece, with its doubled length in front. From 0.11 on, the number of all comes first."""
+    pieces = [bytes(piece) for row in rows for piece in row]
+    file.write_bytes((compact(len(pieces)) if counted_first else b"") + b"\0"
+                     + b"".join(compact(2 * len(piece)) + piece for piece in pieces))
 
 
-def write_vectors(folder):
-    """Writes what the tests of tests/ripemd read."""
+def write_vectors(folder, counted_first):
+    """Writes what the tests of a dependent read."""
     folder.mkdir()
     for bits in ("128", "160", "256", "320"):
-        write_blobs(folder / f"digests-{bits}.blb", [(counted(length), bytes.fromhex(digest))
-                                                     for (variant, length), digest in DIGESTS.items() if variant == bits])
-        write_blobs(folder / f"tags-{bits}.blb", [map(bytes.fromhex, row) for variant, *row in TAGS if variant == bits])
-        write_blobs(folder / f"keys-{bits}.blb", [
-            (counted(int(password), 1), counted(int(salt)), int(rounds).to_bytes(4, "big"), bytes.fromhex(key))
-            for variant, password, salt, rounds, key in lines("keys.txt") if variant == bits])
-    write_blobs(folder / "streams.blb", [(bits.encode(), bytes.fromhex(digest)) for bits, digest in lines("streams.txt")])
+        for name, rows in [
+                ("digests", [(counted(length), bytes.fromhex(digest))
+                             for (variant, length), digest in DIGESTS.items() if variant == bits]),
+                ("tags", [map(bytes.fromhex, row) for variant, *row in TAGS if variant == bits]),
+                ("keys", [(counted(int(password), 1), counted(int(salt)), int(rounds).to_bytes(4, "big"), bytes.fromhex(key))
+                          for variant, password, salt, rounds, key in lines("keys.txt") if variant == bits])]:
+            write_blobs(folder / f"{name}_{bits}.blb", rows, counted_first)
+        # What `hash_serialization_test` saves.
+        (folder / f"states_{bits}.bin").write_bytes(bytes(textbook.saved(int(bits), [0x13] * 65)))
+    streams = [(bits.encode(), bytes.fromhex(digest)) for bits, digest in lines("streams.txt")]
+    write_blobs(folder / "streams.blb", streams, counted_first)
 
 
 def copy_crate(folder):
@@ -88,9 +106,9 @@ def fixture_crate(library, once):
     def copy(folder):
         copy_crate(folder)
         shutil.copytree(DATA, folder / "tests/data")
-        shutil.copytree(ROOT / "tests/ripemd", folder / "tests/ripemd",
-                        ignore=shutil.ignore_patterns("target", "Cargo.lock"))
-        write_vectors(folder / "tests/ripemd/data")
+        for name in DEPENDENTS:
+            shutil.copytree(ROOT / name, folder / name, ignore=shutil.ignore_patterns("target", "Cargo.lock"))
+            write_vectors(folder / name / "data", counted_first="0.1" not in name)
         (folder / "crates/ripemd_c/out").mkdir(parents=True)
         for archive in library.glob("*.a"):
             shutil.copy(archive, folder / "crates/ripemd_c/out")
@@ -128,9 +146,9 @@ def fixture_page(cargo, prefix, once):
 
 # Without std, the crate calls the default build of the library alone.
 @pytest.mark.parametrize("command", [
-    "test", "test --no-default-features --tests", "clippy --all-targets -- -D warnings",
-    "clippy --all-targets --no-default-features -- -D warnings", "fmt --check", "doc --no-deps"])
-@pytest.mark.parametrize("folder", ["rust", "rust/ripemd"])
+    "test", "test --all-features", "test --no-default-features --tests", "clippy --all-targets --all-features -- -D warnings",
+    "clippy --all-targets --no-default-features -- -D warnings", "fmt --check", "doc --no-deps --all-features"])
+@pytest.mark.parametrize("folder", ["rust", "rust/ripemd", "rust/ripemd-0.1"])
 def test_crate(cargo, crate, folder, command):
     words = command.split()
     if words[0] in PACKAGES:
@@ -138,22 +156,41 @@ def test_crate(cargo, crate, folder, command):
     cargo(crate.parent / folder, *words)
 
 
-@pytest.mark.parametrize("command", ["test", "test --all-features", "clippy --all-targets -- -D warnings", "fmt --check"])
-def test_dependent(cargo, crate, command):
-    """The crate that depends on `ripemd` 0.1, and on `hmac` and `pbkdf2` over it."""
-    test_crate(cargo, crate, "tests/ripemd", command)
+@pytest.mark.parametrize("command", [
+    "test", "test --all-features", "clippy --all-targets --all-features -- -D warnings", "fmt --check"])
+@pytest.mark.parametrize("folder", DEPENDENTS)
+def test_dependent(cargo, crate, folder, command):
+    """The crates that depend on `ripemd`, and on `hmac` and `pbkdf2` over it."""
+    test_crate(cargo, crate, folder, command)
 
 
-def test_dependent_has_this_library(cargo, crate, broken, tmp_path):
-    """Its tests fail, all of them, over a library whose digests are wrong."""
-    said = cargo(crate.parent / "tests/ripemd", "test", status=101,
+@pytest.mark.parametrize("folder, counts", DEPENDENTS.items())
+def test_dependent_has_this_library(cargo, crate, broken, tmp_path, folder, counts):
+    """Its tests fail over a library whose digests are wrong, all that see one."""
+    said = cargo(crate.parent / folder, "test", status=101,
                  env={"NATTIZHU_LIB_DIR": str(broken), "CARGO_TARGET_DIR": str(tmp_path)}).stdout
-    assert "test result: FAILED. 0 passed; 20 failed" in said
+    assert f"test result: FAILED. {counts}" in said
+
+
+def test_dependent_on_the_crate_itself(cargo, crate, tmp_path):
+    """Without the patch it passes over Debian's `ripemd` 0.1.3."""
+    folder = shutil.copytree(crate.parent / "tests/ripemd-0.1", tmp_path / "dependent")
+    manifest = (folder / "Cargo.toml").read_text().partition("[patch")[0]
+    (folder / "Cargo.toml").write_text(manifest)
+    cargo(folder, "test", "--all-features", env={"CARGO_TARGET_DIR": str(tmp_path)})
+
+
+def test_musl(cargo, crate):
+    need("rustc", "rustc")
+    if not pathlib.Path(run("rustc", "--print", "target-libdir", "--target", MUSL).stdout.strip()).exists():
+        pytest.skip(f"there is no standard library of Rust for {MUSL}")
+    cargo(crate, "test", "--tests", "--target", MUSL)
 
 
 def test_named_folder_without_the_library(cargo, crate, tmp_path):
-    """The library is not looked for elsewhere then, and the build says what to run."""
-    assert "run `make library`" in cargo(crate, "build", env={"NATTIZHU_LIB_DIR": str(tmp_path)}, status=101).stderr
+    """The library is not looked for elsewhere then, and the build says how to have it."""
+    said = cargo(crate, "build", env={"NATTIZHU_LIB_DIR": str(tmp_path)}, status=101).stderr
+    assert all(word in said for word in ("libnattizhu-dev", "make library", "NATTIZHU_LIB_DIR"))
 
 
 def test_named_folder_with_the_library(cargo, library, tmp_path):

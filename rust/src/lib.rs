@@ -6,19 +6,16 @@
 #[cfg(feature = "std")]
 extern crate std;
 
+pub mod block_api;
 mod hashers;
 mod mac;
 mod many;
 mod pbkdf2;
-mod state;
 mod sys;
 
-pub use crate::hashers::{
-    digest_message, AssociatedOid, Ripemd, Ripemd128, Ripemd128Core, Ripemd160, Ripemd160Core,
-    Ripemd256, Ripemd256Core, Ripemd320, Ripemd320Core, RipemdCore,
-};
+pub use crate::hashers::{digest_message, Ripemd, Ripemd128, Ripemd160, Ripemd256, Ripemd320};
 pub use crate::mac::Hmac;
 pub use crate::many::{digest_each, digest_list, hmac_each, hmac_list};
 pub use crate::pbkdf2::{pbkdf2_hmac, pbkdf2_hmac_list, Pbkdf2Error};
-pub use crate::state::{DeserializeStateError, SerializableState};
+pub use digest::common::hazmat::{DeserializeStateError, SerializableState};
 pub use digest::{self, Digest, InvalidLength, Mac, MacError};

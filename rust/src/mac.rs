@@ -1,10 +1,11 @@
 //! HMAC over the hashers.
 
 use crate::sys::{taken, HmacState, Variant};
-use crate::{DeserializeStateError, Ripemd, SerializableState};
+use crate::Ripemd;
 use core::fmt;
-use digest::crypto_common::{AlgorithmName, KeySizeUser};
-use digest::typenum::U64;
+use digest::common::hazmat::{DeserializeStateError, SerializableState, SerializedState};
+use digest::common::{AlgorithmName, KeySizeUser};
+use digest::consts::U64;
 use digest::{
     FixedOutput, InvalidLength, Key, KeyInit, MacError, MacMarker, Output, OutputSizeUser, Update,
 };
@@ -15,12 +16,13 @@ use digest::{
 /// many tags under one key, clone the `Hmac` after [`new`](Self::new).
 ///
 /// ```
+/// use hex_literal::hex;
 /// use nattizhu::{Hmac, Mac, Ripemd160};
 ///
 /// let mut mac = Hmac::<Ripemd160>::new(b"Jefe");
 /// mac.update(b"what do ya want for nothing?");
 /// let tag = mac.clone().finalize().into_bytes();
-/// assert_eq!(format!("{tag:x}"), "dda6c0213a485a9e24f4742064a7f033b43c4069");
+/// assert_eq!(tag, hex!("dda6c0213a485a9e24f4742064a7f033b43c4069"));
 /// assert!(mac.clone().verify(&tag).is_ok());
 /// assert!(mac.verify(&[0; 20]).is_err());
 /// ```
@@ -77,7 +79,7 @@ impl<D: Ripemd> KeySizeUser for Hmac<D> {
 
 impl<D: Ripemd> KeyInit for Hmac<D> {
     fn new(key: &Key<Self>) -> Self {
-        Self::new(key.as_slice())
+        Self::new(key)
     }
 
     fn new_from_slice(key: &[u8]) -> Result<Self, InvalidLength> {
@@ -115,14 +117,20 @@ impl<D: Ripemd> fmt::Debug for Hmac<D> {
 }
 
 impl<D: Ripemd> SerializableState for Hmac<D> {
-    type SerializedState = <D::Variant as Variant>::SavedHmac;
+    type SerializedStateSize = <D::Variant as Variant>::SavedHmacSize;
 
-    fn serialize(&self) -> Self::SerializedState {
-        self.state.save()
+    fn serialize(&self) -> SerializedState<Self> {
+        let mut saved = SerializedState::<Self>::default();
+        self.state.save(&mut saved);
+        saved
     }
 
-    fn deserialize(bytes: &[u8]) -> Result<Self, DeserializeStateError> {
-        let state = HmacState::load(bytes).ok_or(DeserializeStateError)?;
+    fn deserialize(saved: &SerializedState<Self>) -> Result<Self, DeserializeStateError> {
+        let state = HmacState::load(saved).ok_or(DeserializeStateError)?;
         Ok(Self { state })
     }
 }
+
+/// The state is wiped when it is dropped, with or without the feature.
+#[cfg(feature = "zeroize")]
+impl<D: Ripemd> digest::zeroize::ZeroizeOnDrop for Hmac<D> {}

@@ -33,8 +33,7 @@ impl fmt::Display for Pbkdf2Error {
     }
 }
 
-#[cfg(feature = "std")]
-impl std::error::Error for Pbkdf2Error {}
+impl core::error::Error for Pbkdf2Error {}
 
 /// What the answer of the library means, which is false for two reasons.
 fn allowed(answer: bool, rounds: u32) -> Result<(), Pbkdf2Error> {

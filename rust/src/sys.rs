@@ -13,16 +13,11 @@
 #![allow(unsafe_code)]
 
 use core::marker::PhantomData;
-use core::mem::{size_of, size_of_val};
-use core::slice;
-use digest::generic_array::{ArrayLength, GenericArray};
-use digest::typenum::{U16, U20, U32, U40, U64};
-
-/// A block of a message.
-pub type Block = GenericArray<u8, U64>;
+use digest::array::sizes::{U16, U176, U184, U20, U208, U224, U24, U28, U32, U40, U48};
+use digest::array::{Array, ArraySize};
 
 /// A digest, or a tag, of a variant.
-pub type Output<V> = GenericArray<u8, <V as Variant>::OutputSize>;
+pub type Output<V> = Array<u8, <V as Variant>::OutputSize>;
 
 /// A message of a list, laid out as `nattizhu_message`.
 #[derive(Clone, Copy)]
@@ -40,15 +35,19 @@ pub trait Variant: Clone + Send + Sync + 'static {
     /// Its `nattizhu_variant`, which is an `unsigned int`.
     const NUMBER: u32;
     const NAME: &'static str;
-    type OutputSize: ArrayLength<u8> + 'static;
-    /// The array of bytes that a hasher is saved as.
-    type Saved: AsRef<[u8]> + for<'a> TryFrom<&'a [u8]>;
-    /// The array of bytes that an HMAC is saved as.
-    type SavedHmac: AsRef<[u8]> + for<'a> TryFrom<&'a [u8]>;
+    type OutputSize: ArraySize;
+    /// The bytes that the words of a state and the number of its blocks are saved as. Behind them a saved
+    /// hasher has the `TAIL`.
+    type SavedWordsSize: ArraySize;
+    /// The bytes that an HMAC is saved as.
+    type SavedHmacSize: ArraySize;
 }
 
+/// The bytes of a saved hasher that are its tail: the length, the tail, and zeros.
+pub const TAIL: usize = 64;
+
 macro_rules! variant {
-    ($variant:ident, $bits:literal, $output:ty, $saved:literal) => {
+    ($variant:ident, $bits:literal, $output:ty, $saved_words:ty, $saved_hmac:ty) => {
         #[derive(Clone)]
         pub struct $variant;
 
@@ -56,16 +55,16 @@ macro_rules! variant {
             const NUMBER: u32 = $bits;
             const NAME: &'static str = concat!("Ripemd", $bits);
             type OutputSize = $output;
-            type Saved = [u8; $saved];
-            type SavedHmac = [u8; 2 * $saved];
+            type SavedWordsSize = $saved_words;
+            type SavedHmacSize = $saved_hmac;
         }
     };
 }
 
-variant!(V128, 128, U16, 88);
-variant!(V160, 160, U20, 92);
-variant!(V256, 256, U32, 104);
-variant!(V320, 320, U40, 112);
+variant!(V128, 128, U16, U24, U176);
+variant!(V160, 160, U20, U28, U184);
+variant!(V256, 256, U32, U40, U208);
+variant!(V320, 320, U40, U48, U224);
 
 /// Panics unless the library took what it was given: the crate gives it nothing that it refuses.
 #[inline]
@@ -84,13 +83,6 @@ pub fn digest<V: Variant>(message: &[u8], digest: &mut Output<V>) {
     taken(unsafe { nattizhu_digest(V::NUMBER, message.as_ptr(), message.len(), place, size) });
 }
 
-/// The bytes of blocks.
-#[inline]
-pub fn bytes_of(blocks: &[Block]) -> &[u8] {
-    // SAFETY: blocks are arrays of bytes, and have `size_of_val` bytes together.
-    unsafe { slice::from_raw_parts(blocks.as_ptr().cast(), size_of_val(blocks)) }
-}
-
 /// Overwrites bytes with zeros, which the compiler may not leave out, and clears what calls for one
 /// message left on the stack and in registers.
 pub fn wipe(bytes: &mut [u8]) {
@@ -101,11 +93,11 @@ pub fn wipe(bytes: &mut [u8]) {
     unsafe { nattizhu_wipe(bytes.as_mut_ptr(), bytes.len()) }
 }
 
-/// A state of the library, which is wiped when it is dropped: how many bytes it has, what it is saved as,
-/// and the functions that make it, update it, write its digest, save it and load it. What `update`,
-/// `finalize` and `verify` return is what `nattizhu.h` says.
+/// A state of the library, which is wiped when it is dropped: how many bytes it has, and the functions that
+/// make it, update it, write its digest, save it and load it. What `update`, `finalize` and `verify` return is
+/// what `nattizhu.h` says.
 macro_rules! state {
-    ($state:ident, $size:literal, $saved:ident,
+    ($state:ident, $size:literal,
      $init:ident($($key:ident)?), $update:ident, $final:ident, $save:ident, $load:ident) => {
         #[derive(Clone)]
         pub struct $state<V>([u8; $size], PhantomData<V>);
@@ -146,14 +138,10 @@ macro_rules! state {
                 unsafe { $final(&self.0, digest.as_mut_ptr(), digest.len()) }
             }
 
-            pub fn save(&self) -> V::$saved {
-                let mut room = [0; $size];
-                let saved = &mut room[..size_of::<V::$saved>()];
+            /// Writes the state to a slice of as many bytes as it is saved as.
+            pub fn save(&self, saved: &mut [u8]) {
                 // SAFETY: memory, null, overlap and threads by the reference and the exclusive slice.
                 taken(unsafe { $save(&self.0, saved.as_mut_ptr(), saved.len()) });
-                let array = V::$saved::try_from(&*saved).ok();
-                wipe(saved);
-                array.unwrap_or_else(|| unreachable!("the slice has the size of the array"))
             }
 
             /// The state that is saved as these bytes, if there is one.
@@ -168,11 +156,11 @@ macro_rules! state {
 }
 
 state! {
-    HashState, 113, Saved,
+    HashState, 113,
     nattizhu_init(), nattizhu_update, nattizhu_final, nattizhu_save, nattizhu_load
 }
 state! {
-    HmacState, 225, SavedHmac,
+    HmacState, 225,
     nattizhu_hmac_init(key), nattizhu_hmac_update, nattizhu_hmac_final,
     nattizhu_hmac_save, nattizhu_hmac_load
 }
@@ -204,34 +192,22 @@ fn sizes_as_the_library_says() {
 }
 
 /// Whether this processor can run the build of the library for x86-64-v3, whose functions over many
-/// messages, and over many or long keys, are faster. The standard library asks the processor; without
+/// messages, and over many or long keys, are faster. The standard library asks the processor, once; without
 /// `std` the other build is taken.
 #[cfg(target_arch = "x86_64")]
-#[allow(unused_unsafe)] // `__cpuid` was unsafe in older versions of Rust.
 fn has_v3() -> bool {
+    // What the level has beyond x86-64, but for what every processor with AVX2 has: CMPXCHG16B, LAHF and the
+    // older SSE.
     #[cfg(feature = "std")]
-    {
-        use core::sync::atomic::{AtomicU8, Ordering::Relaxed};
-        // 1 if it has not, 2 if it has, and 0 before it was asked: in a virtual machine CPUID is slow.
-        static FOUND: AtomicU8 = AtomicU8::new(0);
-        if FOUND.load(Relaxed) == 0 {
-            // What the level has beyond x86-64, but for what every processor with AVX2 has: CMPXCHG16B, LAHF
-            // and the older SSE. For MOVBE, bit 22 of the features that CPUID gives, the standard library of
-            // Rust 1.63 has no name.
-            let all = std::is_x86_feature_detected!("avx2")
-                && std::is_x86_feature_detected!("bmi1")
-                && std::is_x86_feature_detected!("bmi2")
-                && std::is_x86_feature_detected!("f16c")
-                && std::is_x86_feature_detected!("fma")
-                && std::is_x86_feature_detected!("lzcnt")
-                && std::is_x86_feature_detected!("popcnt")
-                && std::is_x86_feature_detected!("sse4.2")
-                // SAFETY: every x86-64 processor has CPUID, with this leaf.
-                && unsafe { core::arch::x86_64::__cpuid(1) }.ecx & (1 << 22) != 0;
-            FOUND.store(1 + u8::from(all), Relaxed);
-        }
-        FOUND.load(Relaxed) == 2
-    }
+    return std::is_x86_feature_detected!("avx2")
+        && std::is_x86_feature_detected!("bmi1")
+        && std::is_x86_feature_detected!("bmi2")
+        && std::is_x86_feature_detected!("f16c")
+        && std::is_x86_feature_detected!("fma")
+        && std::is_x86_feature_detected!("lzcnt")
+        && std::is_x86_feature_detected!("movbe")
+        && std::is_x86_feature_detected!("popcnt")
+        && std::is_x86_feature_detected!("sse4.2");
     #[cfg(not(feature = "std"))]
     false
 }

@@ -3,14 +3,14 @@
 mod common;
 
 use common::{every_length, hex, lines_of};
-use digest::core_api::{AlgorithmName, BlockSizeUser};
-use digest::dev::{feed_rand_16mib, fixed_reset_test};
+use digest::block_api::{AlgorithmName, BlockSizeUser};
+use digest::dev::{feed_rand_16mib, fixed_reset_test, TestVector};
 use digest::{
     Digest, DynDigest, FixedOutput, FixedOutputReset, HashMarker, OutputSizeUser, Update,
 };
+use nattizhu::block_api::{Ripemd128Core, Ripemd160Core, Ripemd320Core};
 use nattizhu::*;
 use std::fmt::{self, Debug};
-use std::io::Write;
 
 each_variant! { every_length_whole_and_in_pieces longer rand_16mib copies_go_on empty_pieces traits }
 
@@ -21,12 +21,8 @@ where
     for (message, digest) in every_length(bits) {
         assert_eq!(D::digest(&message)[..], digest[..], "{}", message.len());
         assert_eq!(digest_message::<D>(&message)[..], digest[..]);
-        assert_eq!(
-            fixed_reset_test::<D>(&message, &digest),
-            None,
-            "{}",
-            message.len()
-        );
+        let [input, output] = [message, digest].map(|bytes| &*bytes.leak());
+        fixed_reset_test::<D>(&TestVector { input, output }).unwrap();
     }
 }
 
@@ -82,23 +78,19 @@ where
         + Default
         + Clone
         + Debug
-        + Write
+        + AlgorithmName
         + DynDigest
         + Send
         + Sync
         + 'static,
 {
     let name = format!("Ripemd{bits}");
-    assert_eq!(format!("{:?}", D::default()), name + " { .. }");
+    assert_eq!(Name(D::default()).to_string(), name);
+    assert_eq!(format!("{:?}", D::default()), name + " { ... }");
     assert_eq!(<D as Digest>::output_size(), bits / 8);
     assert_eq!(D::block_size(), 64);
 
     let (message, digest) = every_length(bits).remove(150);
-    let mut hasher = D::new();
-    hasher.write_all(&message).unwrap();
-    hasher.flush().unwrap();
-    assert_eq!(Digest::finalize(hasher)[..], digest[..]);
-
     let mut hasher: Box<dyn DynDigest> = Box::<D>::default();
     hasher.update(&message);
     assert_eq!(hasher.finalize_reset()[..], digest[..]);
@@ -107,14 +99,36 @@ where
     assert!(hasher.finalize_into_reset(&mut short).is_err());
 }
 
+#[cfg(feature = "std")]
+#[test]
+fn written() {
+    let (message, digest) = every_length(160).remove(150);
+    let mut hasher = Ripemd160::new();
+    std::io::Write::write_all(&mut hasher, &message).unwrap();
+    std::io::Write::flush(&mut hasher).unwrap();
+    assert_eq!(hasher.finalize()[..], digest[..]);
+}
+
+#[cfg(feature = "oid")]
+#[test]
+fn object_identifiers() {
+    use digest::const_oid::AssociatedOid;
+    assert_eq!(Ripemd128::OID.to_string(), "1.3.36.3.2.2");
+    assert_eq!(Ripemd160::OID.to_string(), "1.3.36.3.2.1");
+    assert_eq!(Ripemd256::OID.to_string(), "1.3.36.3.2.3");
+}
+
+/// What has an algorithm's name.
+struct Name<T>(T);
+
+impl<T: AlgorithmName> fmt::Display for Name<T> {
+    fn fmt(&self, f: &mut fmt::Formatter<'_>) -> fmt::Result {
+        T::write_alg_name(f)
+    }
+}
+
 #[test]
 fn names() {
-    struct Name<T>(T);
-    impl<T: AlgorithmName> fmt::Display for Name<T> {
-        fn fmt(&self, f: &mut fmt::Formatter<'_>) -> fmt::Result {
-            T::write_alg_name(f)
-        }
-    }
     assert_eq!(Name(Ripemd128Core::default()).to_string(), "Ripemd128");
     assert_eq!(Name(Ripemd320Core::default()).to_string(), "Ripemd320");
     assert_eq!(

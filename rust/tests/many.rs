@@ -3,7 +3,7 @@
 mod common;
 
 use common::{every_length, lines_of, ramp};
-use digest::{Digest, InvalidLength, Mac, Output};
+use digest::{InvalidLength, Mac, Output};
 use nattizhu::*;
 
 each_variant! { records lists tags_of_records_and_lists wrong_lengths }
@@ -68,7 +68,7 @@ fn tags_of_records_and_lists<D: Ripemd>(bits: usize) {
 
 /// Lengths that do not fit are refused, and nothing is written.
 fn wrong_lengths<D: Ripemd>(_: usize) {
-    let untouched = Output::<D>::clone_from_slice(&vec![7; <D as Digest>::output_size()]);
+    let untouched = Output::<D>::from_fn(|_| 7);
     let refused = |records: usize, size: usize, count: usize| {
         let records = ramp(0, records);
         let mut digests = vec![untouched.clone(); count];

@@ -12,6 +12,11 @@ each_variant! {
     from_outside hmac_from_outside every_cut shorter_tail no_state no_hmac_state wiped
 }
 
+/// The state that these bytes are.
+fn load<T: SerializableState>(saved: &[u8]) -> Result<T, DeserializeStateError> {
+    T::deserialize(saved.try_into().expect("as many bytes as a state has"))
+}
+
 /// The bytes of a state: the words, the number of blocks, the length of the tail, the tail, zeros.
 fn state(words: &str, blocks: u8, tail: &[u8]) -> Vec<u8> {
     let mut state = hex(words);
@@ -34,12 +39,9 @@ fn from_outside<D: Ripemd>(bits: usize) {
         _ => "c392e55a88ca3123e33a72ca6e7e4eb912357813aaaa13dc4ae597ff95d1b88ca66e94259ea88db5",
     };
     let outside = state(words, 2, &[128, 129]);
-    assert_eq!(
-        D::new_with_prefix(ramp(0, 130)).serialize().as_ref(),
-        outside
-    );
-    let mut hasher = D::deserialize(&outside).unwrap();
-    assert_eq!(hasher.serialize().as_ref(), outside);
+    assert_eq!(D::new_with_prefix(ramp(0, 130)).serialize()[..], outside);
+    let mut hasher = load::<D>(&outside).unwrap();
+    assert_eq!(hasher.serialize()[..], outside);
     hasher.update([130, 131]);
     assert_eq!(hasher.finalize()[..], every_length(bits)[132].1[..]);
 }
@@ -68,10 +70,8 @@ fn hmac_from_outside<D: Ripemd>(bits: usize) {
     let text = ramp(0, 150);
     let outside = [state(inner, 1, &text[..3]), state(outer, 1, &[])].concat();
     let mac = Hmac::<D>::new(&ramp(1, 20)).chain_update(&text[..3]);
-    assert_eq!(mac.serialize().as_ref(), outside);
-    let mac = Hmac::<D>::deserialize(&outside)
-        .unwrap()
-        .chain_update(&text[3..]);
+    assert_eq!(mac.serialize()[..], outside);
+    let mac = load::<Hmac<D>>(&outside).unwrap().chain_update(&text[3..]);
     let (_, tag) = lines_of(bits, "tags.txt")
         .into_iter()
         .find(|(key, _)| key[0] == 20)
@@ -87,15 +87,15 @@ fn every_cut<D: Ripemd>(bits: usize) {
     for (message, _) in &messages {
         let original = D::new_with_prefix(message);
         let saved = original.serialize();
-        let loaded = D::deserialize(saved.as_ref()).unwrap();
-        assert_eq!(loaded.serialize().as_ref(), saved.as_ref());
+        let loaded = D::deserialize(&saved).unwrap();
+        assert_eq!(loaded.serialize(), saved);
         let rest = &whole[message.len()..];
         for mut hasher in [original, loaded] {
             // The first byte alone, so that a loaded tail and a buffered one come together.
             for piece in [&rest[..rest.len().min(1)], &rest[rest.len().min(1)..]] {
                 hasher.update(piece);
                 let saved = hasher.serialize();
-                hasher = D::deserialize(saved.as_ref()).unwrap().clone();
+                hasher = D::deserialize(&saved).unwrap().clone();
             }
             assert_eq!(hasher.finalize()[..], digest[..]);
         }
@@ -110,23 +110,20 @@ fn shorter_tail<D: Ripemd>(bits: usize) {
         mac.update(piece);
     }
     let saved = mac.serialize();
-    let (inner, outer) = saved.as_ref().split_at(size);
+    let (inner, outer) = saved.split_at(size);
     assert_eq!(inner[size - 64..size - 61], [2, b'c', b'd']);
     assert_eq!(inner[size - 61..], [0; 61]);
     assert_eq!(outer[size - 64..], [0; 64]);
-    let loaded = Hmac::<D>::deserialize(saved.as_ref()).unwrap();
-    assert_eq!(loaded.serialize().as_ref(), saved.as_ref());
+    let loaded = Hmac::<D>::deserialize(&saved).unwrap();
+    assert_eq!(loaded.serialize(), saved);
 }
 
 /// Bytes that are no hash state.
 fn no_state<D: Ripemd>(bits: usize) {
     let size = bits / 8 + 72;
-    let saved = D::new_with_prefix(b"abc").serialize().as_ref().to_vec();
+    let saved = D::new_with_prefix(b"abc").serialize().to_vec();
     assert_eq!(saved.len(), size);
-    let refused = |bytes: &[u8]| D::deserialize(bytes).err() == Some(DeserializeStateError);
-    for length in [0, 1, size - 1, size + 1, 2 * size] {
-        assert!(refused(&vec![0; length]), "{length}");
-    }
+    let refused = |bytes: &[u8]| load::<D>(bytes).err() == Some(DeserializeStateError);
     let tail = size - 64;
     for length in [64, 65, 128, 255] {
         let mut forged = saved.clone();
@@ -149,13 +146,9 @@ fn no_hmac_state<D: Ripemd>(bits: usize) {
     let saved = Hmac::<D>::new(b"key")
         .chain_update("abc")
         .serialize()
-        .as_ref()
         .to_vec();
     assert_eq!(saved.len(), 2 * size);
-    let refused = |bytes: &[u8]| Hmac::<D>::deserialize(bytes).err() == Some(DeserializeStateError);
-    for length in [0, size, 2 * size - 1, 2 * size + 1] {
-        assert!(refused(&vec![0; length]), "{length}");
-    }
+    let refused = |bytes: &[u8]| load::<Hmac<D>>(bytes).err() == Some(DeserializeStateError);
     for half in [0, size] {
         for (place, byte) in [(size - 64, 64), (size - 1, 1)] {
             let mut forged = saved.clone();
@@ -177,13 +170,29 @@ fn bytes_of<T>(value: T) -> [Vec<u8>; 2] {
     [before, bytes(&place)]
 }
 
-/// A dropped HMAC is zeros, and a dropped hasher has nothing of what it made of whole blocks.
+/// A dropped HMAC is zeros, and a dropped hasher has nothing of what it made of whole blocks, and with the
+/// feature `zeroize` nothing of the bytes that wait for a block.
 fn wiped<D: Ripemd>(_: usize) {
-    let hasher = D::new_with_prefix(ramp(0, 130));
+    let hasher = D::new_with_prefix(ramp(0, 150));
     let saved = hasher.serialize();
-    let words = &saved.as_ref()[..saved.as_ref().len() - 72];
-    let [has, left] = bytes_of(hasher).map(|bytes| bytes.windows(words.len()).any(|w| w == words));
-    assert!(has && !left);
+    let words = &saved[..saved.len() - 72];
+    let [before, after] = bytes_of(hasher);
+    let has = |bytes: &[u8], part: &[u8]| bytes.windows(part.len()).any(|window| window == part);
+    assert!(has(&before, words) && !has(&after, words));
+    assert_ne!(has(&after, &ramp(128, 22)), cfg!(feature = "zeroize"));
     let [before, after] = bytes_of(Hmac::<D>::new(b"key").chain_update(b"text"));
     assert!(before.iter().any(|&byte| byte != 0) && after.iter().all(|&byte| byte == 0));
+}
+
+/// The hashers and what they are made of say that they are wiped.
+#[cfg(feature = "zeroize")]
+#[test]
+fn zeroize_on_drop() {
+    fn has<T: digest::zeroize::ZeroizeOnDrop>() {}
+    has::<Ripemd128>();
+    has::<Ripemd160>();
+    has::<Ripemd256>();
+    has::<Ripemd320>();
+    has::<block_api::Ripemd160Core>();
+    has::<Hmac<Ripemd160>>();
 }

@@ -10,7 +10,7 @@ each_variant! { tags_of_each_key wrong_tags }
 
 /// The tag of a text by `M`, whole and in pieces, is this one.
 fn has_tag<M: Mac + KeyInit + Clone>(key: &[u8], text: &[u8], tag: &[u8]) {
-    let mac = <M as Mac>::new_from_slice(key).unwrap();
+    let mac = M::new_from_slice(key).unwrap();
     assert_eq!(
         mac.clone().chain_update(text).finalize().into_bytes()[..],
         tag[..]
@@ -27,26 +27,28 @@ fn has_tag<M: Mac + KeyInit + Clone>(key: &[u8], text: &[u8], tag: &[u8]) {
     }
 }
 
+/// By this crate, and by both types of the crate `hmac`.
+fn each_has_tag<D: Ripemd>(key: &[u8], text: &[u8], tag: &[u8]) {
+    has_tag::<hmac::SimpleHmac<D>>(key, text, tag);
+    has_tag::<hmac::Hmac<D>>(key, text, tag);
+    has_tag::<Hmac<D>>(key, text, tag);
+}
+
 #[test]
 fn published() {
     for [key, text, tag] in rfc_2286(128) {
-        has_tag::<hmac::SimpleHmac<Ripemd128>>(&key, &text, &tag);
-        has_tag::<hmac::Hmac<Ripemd128>>(&key, &text, &tag);
-        has_tag::<Hmac<Ripemd128>>(&key, &text, &tag);
+        each_has_tag::<Ripemd128>(&key, &text, &tag);
     }
     for [key, text, tag] in rfc_2286(160) {
-        has_tag::<hmac::SimpleHmac<Ripemd160>>(&key, &text, &tag);
-        has_tag::<hmac::Hmac<Ripemd160>>(&key, &text, &tag);
-        has_tag::<Hmac<Ripemd160>>(&key, &text, &tag);
+        each_has_tag::<Ripemd160>(&key, &text, &tag);
     }
 }
 
-fn tags_of_each_key<D: Ripemd + digest::core_api::CoreProxy>(bits: usize) {
+fn tags_of_each_key<D: Ripemd>(bits: usize) {
     let text = ramp(0, 150);
     for (length, tag) in lines_of(bits, "tags.txt") {
         let key = ramp(1, length[0]);
-        has_tag::<hmac::SimpleHmac<D>>(&key, &text, &tag);
-        has_tag::<Hmac<D>>(&key, &text, &tag);
+        each_has_tag::<D>(&key, &text, &tag);
         assert!(Hmac::<D>::new(&key)
             .chain_update(&text)
             .verify(&tag)
@@ -61,7 +63,7 @@ fn fixed_key() {
         .into_iter()
         .find(|(key, _)| key[0] == 64)
         .unwrap();
-    let key = *digest::Key::<Hmac<Ripemd160>>::from_slice(&ramp(1, 64));
+    let key = digest::Key::<Hmac<Ripemd160>>::try_from(&ramp(1, 64)[..]).unwrap();
     let mac = <Hmac<Ripemd160> as KeyInit>::new(&key).chain_update(ramp(0, 150));
     assert_eq!(mac.finalize().into_bytes()[..], tag[..]);
 }

@@ -1,5 +1,6 @@
-//! The speed of a hasher of RIPEMD-160 beside that of one call of the function in C (`digest_message`), as
-//! a table in Markdown. Each figure is the least of many slices; those of the two columns alternate.
+//! The speed of a hasher of RIPEMD-160 beside that of one call of the function in C (`digest_message`), and of each
+//! hasher beside that of the crate `ripemd`, as tables in Markdown. Each figure is the least of many slices; those of
+//! the two that are compared alternate.
 //!
 //! `cargo run --release`
 
@@ -29,6 +30,49 @@ fn least(
         assert_eq!(sums[0], sums[1]);
     }
     least
+}
+
+/// Nanoseconds of a hasher, and of that of the crate `ripemd`: of messages of 32 bytes, 100 bytes and 1 MiB, of an
+/// update of 8 bytes, and of a tag of 32 bytes under a key of which copies are kept.
+macro_rules! beside {
+    ($hasher:ident, $bytes:ident) => {{
+        type Ours = nattizhu::$hasher;
+        type Other = ripemd::$hasher;
+        let digest = |length, slices, calls| {
+            let message = &$bytes[..length];
+            let ours = || <Ours as nattizhu::Digest>::digest(message)[0];
+            least(slices, calls, ours, || {
+                <Other as ripemd::Digest>::digest(message)[0]
+            })
+        };
+        let mut ours = <Ours as nattizhu::Digest>::new();
+        let mut other = <Other as ripemd::Digest>::new();
+        let mut our_update = || nattizhu::Digest::update(&mut ours, &$bytes[..8]);
+        let mut its_update = || ripemd::Digest::update(&mut other, &$bytes[..8]);
+        let update = least(10_000, 50, || (our_update(), 0).1, || (its_update(), 0).1);
+        assert_eq!(
+            nattizhu::Digest::finalize(ours)[..],
+            ripemd::Digest::finalize(other)[..]
+        );
+        let ours = nattizhu::Hmac::<Ours>::new(b"key");
+        let other = <hmac::Hmac<Other> as hmac::Mac>::new_from_slice(b"key").expect("any length");
+        let text = &$bytes[..32];
+        let our_tag = || nattizhu::Mac::finalize(nattizhu::Mac::chain_update(ours.clone(), text));
+        let its_tag = || hmac::Mac::finalize(hmac::Mac::chain_update(other.clone(), text));
+        let tag = least(
+            10_000,
+            50,
+            || our_tag().into_bytes()[0],
+            || its_tag().into_bytes()[0],
+        );
+        [
+            digest(32, 10_000, 50),
+            digest(100, 10_000, 50),
+            digest(1 << 20, 400, 1),
+            update,
+            tag,
+        ]
+    }};
 }
 
 fn main() {
@@ -80,4 +124,32 @@ fn main() {
         singly_ns / 1e6,
         at_once_ns / 1e6
     );
+
+    if cfg!(feature = "std") {
+        let variants = [
+            beside!(Ripemd128, bytes),
+            beside!(Ripemd160, bytes),
+            beside!(Ripemd256, bytes),
+            beside!(Ripemd320, bytes),
+        ];
+        println!();
+        println!(
+            "| ours, `ripemd` 0.1.3 (how many times as fast ours is) | 128 | 160 | 256 | 320 |"
+        );
+        println!("|---|---|---|---|---|");
+        let rows = [
+            ("32 bytes, ns", 1.0),
+            ("100 bytes, ns", 1.0),
+            ("1 MiB, µs", 1000.0),
+            ("update of 8 bytes, ns", 1.0),
+            ("tag of 32 bytes, ns", 1.0),
+        ];
+        for (i, (what, unit)) in rows.into_iter().enumerate() {
+            let cells = variants.map(|of| {
+                let [ours, other] = of[i].map(|time| time / unit);
+                format!("{ours:.0}, {other:.0} ({:.2})", other / ours)
+            });
+            println!("| {what} | {} |", cells.join(" | "));
+        }
+    }
 }
