@@ -13,6 +13,7 @@ from textbook import keyed, output, pbkdf2, saved, start_of
 
 STATES = {"": 113, "hmac_": 225}  # the bytes of a state, by what the names of the calls for it begin with
 CLEARS = "hmac", "pbkdf2", "wipe"  # what the names of calls begin with that clear what they leave
+COUNTS = [*range(10), 130], [0, 1, 3, 5, 9]  # how many messages lists have
 AROUND = [0, 1, 3, 20, 55, 56, 63, 64, 65, 119, 120, 128, 200]
 NO_VARIANTS = [{0: 0}, {0: 127}, {0: 161}]  # as the first argument
 
@@ -38,10 +39,6 @@ class Caller:
     def some(self, every, few):
         """The sizes to try, or a few of them."""
         return few if self.quick else every
-
-    def counts(self):
-        """How many messages lists have."""
-        return self.some([*range(10), 130], [0, 1, 3, 5, 9])
 
     def nulls(self, count, variant):
         """Whether some messages of such a list have null pointers. Many of them then go in groups, which is the same
@@ -180,7 +177,7 @@ def tags(caller, variant, size):
 
 def records(caller, variant, size, name, key_lengths):
     """Calls for records of one length. Nine of each fill vectors and leave some over."""
-    for count in caller.counts():
+    for count in caller.some(*COUNTS):
         for length in [20] if count > 9 else caller.some([0, 55, 64] if count == 9 else [(0, 55, 64)[count % 3]], [55]):
             with caller.trying(count, "records of", length, "bytes"):
                 key, hashers = made(caller, variant, key_lengths[count % len(key_lengths)])
@@ -197,7 +194,7 @@ def records(caller, variant, size, name, key_lengths):
 
 def lists(caller, variant, size, name, key_lengths):
     """Calls for messages of lengths around a block, of which those of no bytes have null pointers, or none is null."""
-    for count in caller.counts():
+    for count in caller.some(*COUNTS):
         with caller.trying(count, "messages"):
             nulls = caller.nulls(count, variant)
             key, hashers = made(caller, variant, key_lengths[nulls % len(key_lengths)])
@@ -308,7 +305,7 @@ def keys(caller, variant, size):
 
 def lists_of_keys(caller, variant, size):
     """pbkdf2_list."""
-    for count in caller.counts():
+    for count in caller.some(*COUNTS):
         nulls = caller.nulls(count, variant)
         rounds, length = (2, size + 4) if count in (3, 8) else (1, 16)
         with caller.trying(count, "passwords,", rounds, "rounds,", length, "bytes"):

@@ -1,7 +1,8 @@
 """What the processors have in common: a shared object in memory, and calls of its functions on terms.
 
-A number of at most 64 bits is an int, which is known, or a pair of words, the low one first. Each piece of memory that
-a call is given stands by itself: what reads or writes outside of it, or writes what is only to be read, ends the run.
+A number of at most 64 bits is an int, which is known, a word, or a pair of words, the low one first. Each piece of
+memory that a call is given stands by itself: what reads or writes outside of it, or writes what is only to be read,
+ends the run.
 """
 import io
 from functools import partial
@@ -167,7 +168,6 @@ class Image:
             elif section.name.startswith(".plt"):
                 self.plt.append((at, at + section["sh_size"]))
         self.constructors = [int.from_bytes(self.code(at, 8), "little") for at in constructors]
-        self.names = sorted((at, name) for name, at in self.functions.items())
 
     def _relocate(self, relocation, symbols):
         kind, value = relocation["r_info_type"], BASE + relocation["r_addend"]
@@ -191,8 +191,8 @@ class Image:
 
     def place(self, at):
         """An address as a reader knows it."""
-        below = [(start, name) for start, name in self.names if start <= at]
-        start, name = max(below) if below else (BASE, "the object")
+        start, name = max(((start, name) for name, start in self.functions.items() if start <= at),
+                          default=(BASE, "the object"))
         return f"{name}+{at - start:#x} ({at - BASE:#x})"
 
 
