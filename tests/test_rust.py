@@ -89,7 +89,8 @@ def write_vectors(folder, counted_first):
                           for variant, password, salt, rounds, key in lines("keys.txt") if variant == bits])]:
             write_blobs(folder / f"{name}_{bits}.blb", rows, counted_first)
         # What `hash_serialization_test` saves.
-        (folder / f"states_{bits}.bin").write_bytes(bytes(textbook.saved(int(bits), [0x13] * 65)))
+        hasher = textbook.start_of(int(bits)), 0, []
+        (folder / f"states_{bits}.bin").write_bytes(bytes(textbook.saved(int(bits), [hasher], [0x13] * 65)))
     streams = [(bits.encode(), bytes.fromhex(digest)) for bits, digest in lines("streams.txt")]
     write_blobs(folder / "streams.blb", streams, counted_first)
 
