@@ -1,24 +1,23 @@
 -- What a check finds of the files of some lines.
-use Rattle.std.proofs.Common.{◌≡◌, ◌≢◌, ◌⊎◌, ℕ, zero, suc, ◌+◌, ◌<◌, ◌≤◌, ◌-◌, ◌^◌, List, [], ◌∷◌, ◌++◌, flat_map, length, take, drop, get_or, Option, Bool, false, true, refl, sym, ap, ◌∙◌, inl, inr, arith, append_assoc}
-use Rattle.std.specs.Prelude.{IsTrue}
+use Rattle.std.proofs.Common.{◌≡◌, ◌≢◌, ◌⊎◌, ℕ, zero, suc, ◌+◌, ◌<◌, ◌≤◌, ◌-◌, ◌^◌, List, [], ◌∷◌, ◌++◌, flat_map, length, take, drop, get_or, Option, Bool, true, refl, sym, ap, ◌∙◌, inl, inr, arith, append_assoc}
 use Rattle.std.specs.List.{AllZip, list_any}
 use Rattle.std.specs.Io.KnownBytes.{Consumes}
 use Rattle.std.proofs.KnownBytes.{Consumes-nil, Consumes-trans}
 use Rattle.std.proofs.lemmas.Slice.Zip.{AllZip-long}
 use Rattle.std.proofs.lemmas.List.{append-nil, length-append, length-take-le, take_all}
-use Rattle.std.proofs.lemmas.Grind.{flat_map-append}
+use Rattle.std.proofs.lemmas.Grind.{flat_map-append, fold-append}
 use Rattle.std.proofs.Math.Seq.{take-add}
 use Rattle.ripemd.specs.Standard.Hashing.{ripemd}
-use Rattle.ripemd_files.proofs.Types.{Fault, Write, NoMemory, TooManyLines, Line, Layout, Variant, Rules, Cursor, Group, Next, Outcome, Verdict, Options, Tally}
-use Rattle.ripemd_files.specs.declared.list.Next.TheVariants as nexts
+use Rattle.ripemd_files.proofs.Types.{Fault, Write, NoMemory, TooManyLines, Line, Layout, Variant, Rules, Cursor, Group, Outcome, Stage, Verdict, Options, Tally}
+use Rattle.ripemd_files.specs.declared.piece.Stage.TheVariants.{Among, Ended, Failed}
 use Rattle.ripemd_files.specs.Files.{OfFirst, Place, ComesTo, parameters_of}
 use Rattle.ripemd_files.specs.Said.{Explains, Pends, Stops, Tells, Told, written}
 use Rattle.ripemd_files.specs.Splitting.{IsEnded, IsWhole, ListState, lines_of}
 use Rattle.ripemd_files.specs.Checking.{Event, Events, IsEventOf, IsNamed, IsOutcomeOf, IsTally, checked, counted, has_verdict, is_difference, is_match, is_misformatted, is_unreadable, items_of_event, verdict_of}
-use Rattle.ripemd_files.specs.Groups.{ChecksFirst, ChecksLines, ChecksSoFar, EndsAs, ExplainsReading, ReadsGroup, ReportsFirst, StopsReading, goes_on, misformatted_events}
-use Rattle.ripemd_files.specs.Lists.{ChecksList, IsReport, Reaches, Stage, StopsList, among, ended, failed, last_remarks, succeeds}
+use Rattle.ripemd_files.specs.Groups.{ChecksFirst, ChecksLines, ChecksSoFar, EndsAs, ExplainsReading, ReadsGroup, StopsReading, misformatted_events}
+use Rattle.ripemd_files.specs.Lists.{ChecksList, IsReport, Reaches, Reports, StopsList, last_remarks, layout_behind, succeeds}
 use Rattle.ripemd_files.proofs.Cutting.{cut, ended_since, whole_more}
-use Rattle.ripemd_files.proofs.Grouped.{first_of_all}
+use Rattle.ripemd_files.proofs.Grouped.{group_partly, group_reports, reports_more}
 use Rattle.ripemd_files.proofs.Telling.{no_memory, pends_done, pends_more, pends_none, pends_stops, pends_undone, stops_after, stops_for, stops_now, tells_more, tells_none}
 use Rattle.ripemd_files.proofs.Zips.{all_zip_append, all_zip_at, all_zip_next, first_of, take_within}
 
@@ -155,85 +154,76 @@ module _ {File : Type 0} (place : Place File) (options : Options) (lines : List 
   checks_no_more = record { count = start; events = before.events; each = before.are.each; stops = no_memory ⊥ a b _ before.tells }
 
 -- nothing of a list yet
-pub checks_begin : {File : Type 0} (place : Place File) (options : Options) (kinds : Rules) (cursor : Cursor) (list : ListState) (told : Told)
+pub checks_begin : {File : Type 0} (place : Place File) (options : Options) (kinds : Rules) (cursor : Cursor) (list : Option (List ℕ)) (told : Told)
     (tally : Tally) → IsTally [] tally → ChecksSoFar place options kinds cursor cursor list list told told tally
 unfolding lines_of
 checks_begin place options kinds cursor list told tally counted = record {
   bytes = [];
   events = [];
-  consumed = Consumes-nil list.left;
-  works = refl;
+  consumed = Consumes-nil list;
   whole = inl refl;
   numbered = omega arith;
   counts = counted;
   tells = tells_none told;
-  told = λ behind more last report. report;
+  layout = refl;
+  reports = tt;
 }
 
--- how far a check came that goes on so
-abbrev pub stage_of : Next → Stage
-stage_of nexts.More = among
-stage_of nexts.Ended = ended
-stage_of nexts.Failed = failed
-
-is_over : (n : Next) → goes_on n ≡ false → stage_of n ≢ among
-is_over n over same = grind arith
-
 -- a list, after the groups before
-module _ {File : Type 0} {place : Place File} {options : Options} {kinds : Rules} {first now : Cursor} {old read : ListState} {a b : Told}
+module _ {File : Type 0} {place : Place File} {options : Options} {kinds : Rules} {first now : Cursor} {old read : Option (List ℕ)} {a b : Told}
     {tally : Tally} (so_far : ChecksSoFar place options kinds first now old read a b tally) (begins : first.number ≡ 1) where
   -- more of the list was read, and these events come of the first of its lines
-  abbrev report_on : (next : ListState) (bytes rest : List ℕ) (events : List Event) (stage : Stage) (tally : Tally)
-      → Consumes read.left next.left (bytes ++ rest)
-      → IsWhole bytes ⊎ ((rest ≡ []) × IsEnded read.left next.left)
-      → (reports : ReportsFirst place options.ignore_missing kinds now (lines_of bytes) events) → Reaches stage old next reports.back rest
-      → IsTally (so_far.events ++ events) tally
-      → IsReport place options kinds first.layout reports.last old next stage
+  abbrev report_on : (next : Option (List ℕ)) (bytes rest : List ℕ) (lines behind : List (List ℕ)) (events : List Event) (stage : Stage) (tally : Tally)
+      → Consumes read next (bytes ++ rest)
+      → IsWhole bytes ⊎ ((rest ≡ []) × IsEnded read next)
+      → lines_of bytes ≡ lines ++ behind → Reports place options.ignore_missing kinds now.layout now.number lines events
+      → Reaches stage old next behind rest → IsTally (so_far.events ++ events) tally
+      → IsReport place options kinds first.layout old next stage
       (flat_map (items_of_event options) (so_far.events ++ events) ++ last_remarks stage options tally) tally
-  report_on next bytes rest events stage tally consumed ends reports reached counts = record {
-    lines = lines_of so_far.bytes ++ reports.first;
+  report_on next bytes rest lines behind events stage tally consumed ends split reports reached counts = record {
+    lines = lines_of so_far.bytes ++ lines;
     events = so_far.events ++ events;
     read = record {
       bytes = so_far.bytes ++ bytes;
       rest = rest;
-      behind = reports.back;
-      consumed = rw append_assoc (Consumes-trans old.left read.left next.left so_far.bytes (bytes ++ rest) so_far.consumed consumed);
+      behind = behind;
+      consumed = rw append_assoc (Consumes-trans old read next so_far.bytes (bytes ++ rest) so_far.consumed consumed);
       cut = elim ends [
         | inl entire ↦ inl (whole_more so_far.bytes bytes so_far.whole entire)
-        | inr over ↦ inr (over.0, ended_since old.left read.left next.left so_far.bytes so_far.consumed over.1)
+        | inr over ↦ inr (over.0, ended_since old read next so_far.bytes so_far.consumed over.1)
       ];
-      split = rw (cut so_far.bytes bytes so_far.whole, reports.split, append_assoc) refl;
+      split = rw (cut so_far.bytes bytes so_far.whole, split, append_assoc) refl;
       reached = reached;
     };
-    reports = rw begins at (so_far.told reports.first events reports.last reports.reports);
+    reports = rw begins at
+        (reports_more place options.ignore_missing kinds first.layout now.layout first.number now.number (lines_of so_far.bytes) lines so_far.events events
+        so_far.layout so_far.numbered so_far.reports reports);
     counts = counts;
     said = refl;
   }
 
   -- and these were told
-  stopped : (next : ListState) (c : Told) (bytes rest : List ℕ) (events : List Event) (fault : Fault) → Consumes read.left next.left (bytes ++ rest)
-      → IsWhole bytes ⊎ ((rest ≡ []) × IsEnded read.left next.left)
-      → ReportsFirst place options.ignore_missing kinds now (lines_of bytes) events
+  stopped : (next : Option (List ℕ)) (c : Told) (bytes rest : List ℕ) (lines behind : List (List ℕ)) (events : List Event) (fault : Fault)
+      → Consumes read next (bytes ++ rest) → IsWhole bytes ⊎ ((rest ≡ []) × IsEnded read next)
+      → lines_of bytes ≡ lines ++ behind → Reports place options.ignore_missing kinds now.layout now.number lines events
       → Stops (2 ^ 64 - 1 ≤ length (lines_of ((so_far.bytes ++ bytes) ++ rest))) b c (flat_map (items_of_event options) events) fault
       → StopsList place options kinds first.layout old next a c fault
-  stopped next c bytes rest events fault consumed ends reports stops =
+  stopped next c bytes rest lines behind events fault consumed ends split reports stops =
       let (tally, counts) = some_tally (so_far.events ++ events) in
       record {
-        stage = among;
+        stage = Among;
         items = _;
         tally = tally;
-        last = reports.last;
-        report = report_on next bytes rest events among tally consumed ends reports tt counts;
+        report = report_on next bytes rest lines behind events Among tally consumed ends split reports tt counts;
         stops = rw (append-nil, flat_map-append) (stops_after _ a b c _ _ fault so_far.tells stops);
       }
 
   -- reading its next lines ended the run
-  pub stops_reading_list : (next : ListState) {fault : Fault} → StopsReading read.left next.left now.number fault
+  pub stops_reading_list : (next : Option (List ℕ)) {fault : Fault} → StopsReading read next now.number fault
       → StopsList place options kinds first.layout old next a b fault
   unfolding lines_of
   stops_reading_list next {fault} stops =
-      stopped next b [] stops.bytes [] fault stops.consumed (inl (inl refl))
-      (record { first = []; back = []; split = refl; last = now.layout; reports = (refl, refl) })
+      stopped next b [] stops.bytes [] [] [] fault stops.consumed (inl (inl refl)) refl tt
       (stops_now _ b b [] fault (tells_none b) (λ works. explains fault stops.why))
     where
       explains : (fault : Fault) → ExplainsReading now.number stops.bytes fault
@@ -244,16 +234,17 @@ module _ {File : Type 0} {place : Place File} {options : Options} {kinds : Rules
           (rw (append-nil, cut so_far.bytes stops.bytes so_far.whole, length-append) (omega (arith, why, begins, so_far.numbered)), refl)
 
   -- a group was read
-  module _ {next : ListState} {after : Cursor} {group : Group} (reads : ReadsGroup place options.ignore_missing kinds read next now after group) where
-    ends : IsWhole reads.reads.bytes ⊎ ((reads.rest ≡ []) × IsEnded read.left next.left)
-    ends = grind (arith, reads.reads.whole, reads.ended)
+  module _ {next : ListState} {after : Cursor} {group : Group} (reads : ReadsGroup kinds read next now after group) where
+    ends : IsWhole reads.reads.bytes ⊎ ((reads.rest ≡ []) × IsEnded read next.left)
+    ends = grind (arith, reads.ended)
 
     -- and of the first of its lines was told
     pub stops_lines : {lines : List Line} {c : Told} {fault : Fault} → lines ≡ group.lines.items → ChecksFirst place options lines b c fault
-        → StopsList place options kinds first.layout old next a c fault
+        → StopsList place options kinds first.layout old next.left a c fault
     stops_lines {c = c} {fault = fault} are_lines checks =
-        stopped next c reads.reads.bytes reads.rest checks.events fault reads.reads.consumed ends
-        (reads.reads.partly checks.count checks.events (rw are_lines at checks.each)) (stops_for _ b c _ fault checks.stops)
+        let (lines, behind, split, reports) =
+        group_partly place options.ignore_missing kinds reads.reads checks.count checks.events (rw are_lines at checks.each) in
+        stopped next.left c reads.reads.bytes reads.rest lines behind checks.events fault reads.reads.consumed ends split reports (stops_for _ b c _ fault checks.stops)
 
     -- or of all
     module _ {lines : List Line} {c : Told} {counted : Tally} (are_lines : lines ≡ group.lines.items)
@@ -261,21 +252,16 @@ module _ {File : Type 0} {place : Place File} {options : Options} {kinds : Rules
       abbrev found : List Event
       found = checks.events ++ misformatted_events group.misformatted
 
-      each : AllZip (IsEventOf place options.ignore_missing) group.lines.items checks.events
-      each = rw are_lines at checks.are.each
-
       -- what comes of all of its lines
-      abbrev reported : ReportsFirst place options.ignore_missing kinds now (lines_of reads.reads.bytes) found
-      reported =
-          first_of_all place options.ignore_missing kinds now (lines_of reads.reads.bytes) found after.layout
-          (rw (append-nil, append-nil) at (reads.reads.told checks.events each [] [] after.layout (refl, refl)))
+      reported : Reports place options.ignore_missing kinds now.layout now.number (lines_of reads.reads.bytes) found
+      reported = group_reports place options.ignore_missing kinds reads.reads checks.events (rw are_lines at checks.are.each)
 
       -- and the one that says nothing ended the run
       pub stops_misformatted : {d : Told} {fault : Fault}
           → Stops ⊥ c d (flat_map (items_of_event options) (misformatted_events group.misformatted)) fault
-          → StopsList place options kinds first.layout old next a d fault
+          → StopsList place options kinds first.layout old next.left a d fault
       stops_misformatted {d} {fault} stops =
-          stopped next d reads.reads.bytes reads.rest found fault reads.reads.consumed ends reported
+          stopped next.left d reads.reads.bytes reads.rest (lines_of reads.reads.bytes) [] found fault reads.reads.consumed ends (sym (append-nil (lines_of reads.reads.bytes))) reported
           (rw flat_map-append (stops_after _ b c d _ _ fault checks.tells (stops_for _ c d _ fault stops)))
 
       -- or was told and counted, too
@@ -289,70 +275,72 @@ module _ {File : Type 0} {place : Place File} {options : Options} {kinds : Rules
         counted_all : IsTally (so_far.events ++ found) next_tally
         counted_all = rw (← append_assoc) (counts (so_far.events ++ checks.events) (checks.are.counts so_far.events so_far.counts))
 
+        layout_over : after.layout ≡ layout_behind kinds first.layout (lines_of so_far.bytes ++ lines_of reads.reads.bytes)
+        layout_over = rw (fold-append, ← so_far.layout) reads.reads.layout
+
         -- the list goes on
-        pub checks_on : group.next ≡ nexts.More → ChecksSoFar place options kinds first after old next a d next_tally
+        pub checks_on : group.stage ≡ Among → ChecksSoFar place options kinds first after old next.left a d next_tally
         checks_on on =
             let bytes = reads.reads.bytes in
-            let over : EndsAs nexts.More read next bytes reads.rest = rw on at reads.ended in
-            let going : IsTrue (goes_on group.next) = ap goes_on on in
+            let over : EndsAs Among read next.left bytes reads.rest = rw on at reads.ended in
             record {
               bytes = so_far.bytes ++ bytes;
               events = so_far.events ++ found;
-              consumed = rw (over.0, append-nil) at
-                  (Consumes-trans old.left read.left next.left so_far.bytes (bytes ++ reads.rest) so_far.consumed reads.reads.consumed);
-              works = over.1 ∙ so_far.works;
-              whole = whole_more so_far.bytes bytes so_far.whole (reads.reads.whole going);
-              numbered = omega (arith, so_far.numbered, reads.reads.numbered going, ap length (cut so_far.bytes bytes so_far.whole), length-append (lines_of so_far.bytes) (lines_of bytes));
+              consumed = rw (over.1, append-nil) at
+                  (Consumes-trans old read next.left so_far.bytes (bytes ++ reads.rest) so_far.consumed reads.reads.consumed);
+              whole = whole_more so_far.bytes bytes so_far.whole over.0;
+              numbered = omega (arith, so_far.numbered, reads.reads.numbered, ap length (cut so_far.bytes bytes so_far.whole), length-append (lines_of so_far.bytes) (lines_of bytes));
               counts = counted_all;
               tells = told_on;
-              told = λ behind more last report.
-                  rw (cut so_far.bytes bytes so_far.whole, append_assoc, append_assoc, append_assoc)
-                  (so_far.told (lines_of bytes ++ behind) (checks.events ++ (misformatted_events group.misformatted ++ more)) last
-                  (reads.reads.told checks.events each behind more last report));
+              layout = rw (cut so_far.bytes bytes so_far.whole) layout_over;
+              reports = rw (cut so_far.bytes bytes so_far.whole)
+                  (reports_more place options.ignore_missing kinds _ _ _ _ _ _ _ _ so_far.layout so_far.numbered so_far.reports reported);
             }
 
         -- or is over
-        report_at : (n : Next) → group.next ≡ n
-            → IsReport place options kinds first.layout after.layout old next (stage_of n)
-            (flat_map (items_of_event options) (so_far.events ++ found) ++ last_remarks (stage_of n) options next_tally) next_tally
-        report_at n is =
-            report_on next reads.reads.bytes reads.rest found (stage_of n) next_tally reads.reads.consumed ends reported
-            (at n (rw is at reads.ended)) counted_all
-          where
-            at : (n : Next) → EndsAs n read next reads.reads.bytes reads.rest → Reaches (stage_of n) old next [] reads.rest
-            at nexts.More over = tt
-            at nexts.Ended over = (refl, over.0, ended_since old.left read.left next.left so_far.bytes so_far.consumed over.1, over.2 ∙ so_far.works)
-            at nexts.Failed over = (refl, over.1, over.2)
+        reached : (stage : Stage) → EndsAs stage read next.left reads.reads.bytes reads.rest → Reaches stage old next.left [] reads.rest
+        reached Among over = tt
+        reached Ended over = (refl, over.0, ended_since old read next.left so_far.bytes so_far.consumed over.1)
+        reached Failed over = (refl, over.1)
 
-        pub checks_over : {n : Next} {e : Told} {success : Bool} → group.next ≡ n → goes_on n ≡ false
-            → Tells d e (last_remarks (stage_of n) options next_tally) → success ≡ succeeds (stage_of n) options next_tally
+        abbrev report_over : IsReport place options kinds first.layout old next.left next.stage
+            (flat_map (items_of_event options) (so_far.events ++ found) ++ last_remarks next.stage options next_tally) next_tally
+        report_over =
+            report_on next.left reads.reads.bytes reads.rest (lines_of reads.reads.bytes) [] found next.stage next_tally reads.reads.consumed ends
+            (sym (append-nil (lines_of reads.reads.bytes))) reported (reached next.stage (rw reads.stage reads.ended)) counted_all
+
+        pub checks_over : {e : Told} {success : Bool} (stage : Stage) → group.stage ≡ stage → stage ≢ Among
+            → Tells d e (last_remarks stage options next_tally) → success ≡ succeeds stage options next_tally
             → ChecksList place options kinds first.layout after.layout old next a e success
-        checks_over {n} {e} is over said answer = record {
-          stage = stage_of n;
-          items = _;
-          tally = next_tally;
-          report = report_at n is;
-          is_over = is_over n over;
-          tells = tells_more a d e _ _ told_on said;
-          answer = answer;
-        }
+        checks_over {e} stage is over said answer =
+            let same : next.stage ≡ stage = reads.stage ∙ is in
+            record {
+              items = _;
+              tally = next_tally;
+              report = report_over;
+              layout = layout_over;
+              is_over = rw same over;
+              tells = tells_more a d e _ _ told_on (rw same said);
+              answer = rw same answer;
+            }
 
-        pub stops_over : {n : Next} {e : Told} {fault : Fault} → group.next ≡ n → Stops ⊥ d e (last_remarks (stage_of n) options next_tally) fault
-            → StopsList place options kinds first.layout old next a e fault
-        stops_over {n} {e} {fault} is stops = record {
-          stage = stage_of n;
-          items = _;
-          tally = next_tally;
-          last = after.layout;
-          report = report_at n is;
-          stops = stops_for _ a e _ fault (stops_after ⊥ a d e _ _ fault told_on stops);
-        }
+        pub stops_over : {e : Told} {fault : Fault} (stage : Stage) → group.stage ≡ stage → Stops ⊥ d e (last_remarks stage options next_tally) fault
+            → StopsList place options kinds first.layout old next.left a e fault
+        stops_over {e} {fault} stage is stops =
+            let same : next.stage ≡ stage = reads.stage ∙ is in
+            record {
+              stage = next.stage;
+              items = _;
+              tally = next_tally;
+              report = report_over;
+              stops = stops_for _ a e _ fault (stops_after ⊥ a d e _ _ fault told_on (rw same stops));
+            }
 
 -- there is no memory for the first
-pub stops_at_once : {File : Type 0} (place : Place File) (options : Options) (kinds : Rules) (layout : Option Layout) (list : ListState) (told : Told)
+pub stops_at_once : {File : Type 0} (place : Place File) (options : Options) (kinds : Rules) (layout : Option Layout) (list : Option (List ℕ)) (told : Told)
     → StopsList place options kinds layout list list told told NoMemory
 stops_at_once place options kinds layout list told =
     let cursor : Cursor = record { layout = layout; number = 1 } in
     let (tally, counts) = some_tally [] in
     stops_reading_list (checks_begin place options kinds cursor list told tally counts) refl list
-    (record { bytes = []; consumed = Consumes-nil list.left; why = tt })
+    (record { bytes = []; consumed = Consumes-nil list; why = tt })

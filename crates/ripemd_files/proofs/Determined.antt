@@ -1,22 +1,23 @@
 -- Where all is known of a folder, one thing is right.
 use Rattle.std.proofs.Common.{◌≡◌, ◌≢◌, ◌⊎◌, ℕ, ◌+◌, ◌<◌, ◌++◌, List, [], ◌∷◌, length, take, map, flat_map, Option, Some, Bool, true, false, All, refl, sym, ap, subst, ◌∙◌, arith, inl, inr, append_assoc}
 use Rattle.ripemd_files.specs.Lines.{line_of, end_of}
-use Rattle.std.specs.Prelude.{Result, Ok, MatchBool, unwrap_or, Err}
-use Rattle.std.specs.List.{list_all}
+use Rattle.std.specs.Prelude.{Result, Ok, unwrap_or, Err}
+use Rattle.std.specs.List.{AllZip, list_all}
 use Rattle.std.specs.Io.KnownBytes.{Consumes, IsAtEnd}
 use Rattle.std.specs.declared.io.Error.{Error}
 use Rattle.std.proofs.lemmas.List.{append-nil, length-append}
 use Rattle.std.proofs.lemmas.List.Elements.{All-tail, All-head}
 use Rattle.std.proofs.Math.Seq.{take-append_seam}
 use Rattle.ripemd.specs.Standard.Hashing.{ripemd}
-use Rattle.ripemd_files.proofs.Types.{Layout, Standard, Rules, Outcome, Digest, Refused, Broken, Style, Options, Tally, Verdict}
+use Rattle.ripemd_files.proofs.Types.{Layout, Standard, Rules, Outcome, Digest, Refused, Broken, Stage, Style, Options, Tally, Verdict}
+use Rattle.ripemd_files.specs.declared.piece.Stage.TheVariants.{Among, Ended}
 use Rattle.ripemd_files.specs.Checking.{Event, IsTally, checked, misformatted, verdict_of, verdict_of_digest}
-use Rattle.ripemd_files.specs.Determined.{IsKnown, Print, Report, Start, list_before}
-use Rattle.ripemd_files.specs.Lists.{IsEventOn, IsReport, Reports, Stage, WasRead, among, body_of_line, ended, is_passed_over, layout_after}
+use Rattle.ripemd_files.specs.Determined.{IsKnown, Print, Report, Start}
+use Rattle.ripemd_files.specs.Lists.{Entry, IsEventOn, IsReport, WasRead, body_of_line}
 use Rattle.ripemd_files.specs.Printing.{Reading, items_on, was_read, Prints}
 use Rattle.ripemd_files.specs.Files.{Breaks, ComesTo, Gives, Place, parameters_of}
 use Rattle.ripemd_files.specs.Said.{Adds, Item, unreadable, written}
-use Rattle.ripemd_files.specs.Splitting.{ListState, lines_of}
+use Rattle.ripemd_files.specs.Splitting.{lines_of}
 use Rattle.ripemd_files.specs.WorkedChecks.{tally}
 use Rattle.ripemd_files.proofs.Sayings.{one_line}
 
@@ -72,13 +73,6 @@ module _ {File : Type 0} (place : Place File) (contents : List ℕ → Result (L
 
 -- ---- lines of a list
 
--- no event, or one that is determined
-one_or_none : (none : Bool) (Is : Event → Type 0) (xs ys : List Event) → ((e f : Event) → Is e → Is f → e ≡ f)
-    → MatchBool none (xs ≡ []) ((e : Event) × (xs ≡ e ∷ []) × Is e) → MatchBool none (ys ≡ []) ((e : Event) × (ys ≡ e ∷ []) × Is e)
-    → xs ≡ ys
-one_or_none true Is xs ys once a b = cc
-one_or_none false Is xs ys once (e, are, is) (f, others, too) = cc (are, others, once e f is too)
-
 module _ {File : Type 0} (place : Place File) (contents : List ℕ → Result (List ℕ) Error) (known : IsKnown place contents)
     (ignore_missing : Bool) (rules : Rules) where
   one_event : (layout : Option Layout) (number : ℕ) (text : List ℕ) (e f : Event) → IsEventOn place ignore_missing rules layout number text e
@@ -92,17 +86,14 @@ module _ {File : Type 0} (place : Place File) (contents : List ℕ → Result (L
       let second = b.5 ∙ verdict_at place contents known ignore_missing _ other_name b.1 b.2 b.4 in
       cc (one.0, one.1, one.2, first, second)
 
-  -- one list of events comes of the lines of a list
-  one_list : (layout : Option Layout) (number : ℕ) (lines : List (List ℕ)) (es fs : List Event) (last other : Option Layout)
-      → Reports place ignore_missing rules layout number lines es last → Reports place ignore_missing rules layout number lines fs other
-      → (es ≡ fs) × (last ≡ other)
-  one_list layout number [] es fs last other a b = (a.0 ∙ sym b.0, a.1 ∙ sym b.1)
-  one_list layout number (text ∷ rest) es fs last other (first, more, are, on, later) (head, others, be, too, after) =
-      let next = layout_after rules layout text in
-      let here : first ≡ head =
-      one_or_none (is_passed_over text) (IsEventOn place ignore_missing rules next number text) first head (one_event next number text) on too in
-      let behind = one_list next (number + 1) rest more others last other later after in
-      (cc (are, be, here, behind.0), behind.1)
+  -- one list of events comes of entries
+  one_list : (entries : List Entry) (es fs : List Event)
+      → AllZip (λ entry event. IsEventOn place ignore_missing rules entry.layout entry.number entry.text event) entries es
+      → AllZip (λ entry event. IsEventOn place ignore_missing rules entry.layout entry.number entry.text event) entries fs → es ≡ fs
+  one_list [] [] [] a b = refl
+  one_list (entry ∷ entries) (e ∷ es) (f ∷ fs) a b =
+      cc (one_event entry.layout entry.number entry.text e f a.0 b.0, one_list entries es fs a.1 b.1)
+  one_list _ _ _ a b = grind arith
 
 -- ---- what is counted and said
 
@@ -121,41 +112,42 @@ front : (list bytes rest : List ℕ) (left : Option (List ℕ)) → Consumes (So
 front list bytes rest left read = grind (arith, take-append_seam, append_assoc, read)
 
 -- all lines that were read
-module _ (start : Start) {stage : Stage} {left : ListState} {lines : List (List ℕ)} (read : WasRead stage (list_before start) left lines) where
-  all_of : stage ≢ among → lines_of read.bytes ≡ lines
+module _ (list : List ℕ) {stage : Stage} {left : Option (List ℕ)} {lines : List (List ℕ)} (read : WasRead stage (Some list) left lines) where
+  all_of : stage ≢ Among → lines_of read.bytes ≡ lines
   all_of over = grind (arith, append-nil, over, read.split, read.reached)
 
-  lines_to_end : stage ≡ ended → lines_of start.list ≡ lines
+  lines_to_end : stage ≡ Ended → lines_of list ≡ lines
   lines_to_end is = grind (arith, append-nil, is, read.split, read.reached, read.consumed)
 
 -- which are the same if all of the list was read, or as much of it
-same_far : (start : Start) {stage other : Stage} {left right : ListState} {lines more : List (List ℕ)}
-    (a : WasRead stage (list_before start) left lines) (b : WasRead other (list_before start) right more) → stage ≡ other → stage ≢ among → other ≢ among
-    → stage ≡ ended ⊎ (length a.bytes ≡ length b.bytes) → lines ≡ more
-same_far start a b same over too (inl is) = sym (lines_to_end start a is) ∙ lines_to_end start b (sym same ∙ is)
-same_far start a b same over too (inr far) =
-    cc (all_of start a over, all_of start b too, front start.list a.bytes a.rest _ a.consumed, front start.list b.bytes b.rest _ b.consumed, far)
+same_far : (list : List ℕ) {stage other : Stage} {left right : Option (List ℕ)} {lines more : List (List ℕ)}
+    (a : WasRead stage (Some list) left lines) (b : WasRead other (Some list) right more) → stage ≡ other → stage ≢ Among → other ≢ Among
+    → stage ≡ Ended ⊎ (length a.bytes ≡ length b.bytes) → lines ≡ more
+same_far list a b same over too (inl is) = sym (lines_to_end list a is) ∙ lines_to_end list b (sym same ∙ is)
+same_far list a b same over too (inr far) =
+    cc (all_of list a over, all_of list b too, front list a.bytes a.rest _ a.consumed, front list b.bytes b.rest _ b.consumed, far)
 
 module _ {File : Type 0} (place : Place File) (contents : List ℕ → Result (List ℕ) Error) (options : Options) (rules : Rules)
     (first : Option Layout) (start : Start) (known : IsKnown place contents) where
   -- of the same lines one thing is said
-  same_lines : {stage other : Stage} {left right : ListState} {last other_last : Option Layout} {xs ys : List Item} {t u : Tally}
-      (a : IsReport place options rules first last (list_before start) left stage xs t)
-      (b : IsReport place options rules first other_last (list_before start) right other ys u)
-      → stage ≡ other → a.lines ≡ b.lines → (last ≡ other_last) × (t ≡ u) × (xs ≡ ys)
-  same_lines {last = last} {other_last = other_last} {t = t} {u = u} a b both same =
-      let come = one_list place contents known options.ignore_missing rules first 1 a.lines a.events b.events last other_last a.reports (rw same b.reports) in
-      let tally : t ≡ u = one_tally b.events t u (subst (λ es. IsTally es t) come.0 a.counts) b.counts in
-      (come.1, tally, cc (a.said, b.said, come.0, tally, both))
+  same_lines : {stage other : Stage} {left right : Option (List ℕ)} {xs ys : List Item} {t u : Tally}
+      (a : IsReport place options rules first (Some start.list) left stage xs t)
+      (b : IsReport place options rules first (Some start.list) right other ys u)
+      → stage ≡ other → a.lines ≡ b.lines → (t ≡ u) × (xs ≡ ys)
+  same_lines {t = t} {u = u} a b both same =
+      let come = one_list place contents known options.ignore_missing rules _ a.events b.events a.reports (rw same b.reports) in
+      let tally : t ≡ u = one_tally b.events t u (subst (λ es. IsTally es t) come a.counts) b.counts in
+      (tally, cc (a.said, b.said, come, tally, both))
 
-  pub one_report : (one other : Report place options rules first start) → one.checks.stage ≡ other.checks.stage
-      → one.checks.stage ≡ ended ⊎ (length one.checks.report.read.bytes ≡ length other.checks.report.read.bytes)
+  pub one_report : (one other : Report place options rules first start) → one.left.stage ≡ other.left.stage
+      → one.left.stage ≡ Ended ⊎ (length one.checks.report.read.bytes ≡ length other.checks.report.read.bytes)
       → (one.last ≡ other.last) × (one.told.items ≡ other.told.items) × (one.success ≡ other.success)
   one_report one other same far =
       let a = one.checks in
       let b = other.checks in
-      let said = same_lines a.report b.report same (same_far start a.report.read b.report.read same a.is_over b.is_over far) in
-      (said.0, cc (grown _ _ _ a.tells.adds, grown _ _ _ b.tells.adds, said.2), cc (a.answer, b.answer, same, said.1))
+      let lines = same_far start.list a.report.read b.report.read same a.is_over b.is_over far in
+      let said = same_lines a.report b.report same lines in
+      (cc (a.layout, b.layout, lines), cc (grown _ _ _ a.tells.adds, grown _ _ _ b.tells.adds, said.1), cc (a.answer, b.answer, same, said.0))
 
 -- ---- files that are printed
 

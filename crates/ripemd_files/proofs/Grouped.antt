@@ -1,11 +1,11 @@
--- Lines of a list, read one after another.
-use Rattle.std.proofs.Common.{◌≡◌, ℕ, ◌+◌, List, [], ◌∷◌, ◌++◌, length, take, Option, None, Bool, true, false, inl, inr, refl, sym, ap, ◌∙◌, append_assoc, arith}
-use Rattle.std.specs.Prelude.{IsTrue}
+-- Lines of a list, read one after another, and what comes of them.
+use Rattle.std.proofs.Common.{◌≡◌, ℕ, suc, zero, ◌+◌, List, [], ◌∷◌, ◌++◌, length, map, take, Option, Some, None, Bool, inl, inr, refl, sym, ap, ◌∙◌, append_assoc, arith}
 use Rattle.std.specs.List.{AllZip}
 use Rattle.std.specs.Io.KnownBytes.{Consumes}
 use Rattle.std.proofs.KnownBytes.{Consumes-nil, Consumes-trans}
-use Rattle.std.proofs.lemmas.Bool.{cases_lt}
-use Rattle.std.proofs.lemmas.List.{append-nil, length-append, take-append-le, take_all}
+use Rattle.std.proofs.lemmas.Bool.{cases_Bool}
+use Rattle.std.proofs.lemmas.List.{append-nil, length-append, length-map, length-take, take-append-le, take-map, take_min}
+use Rattle.std.proofs.lemmas.Grind.{fold-append}
 use Rattle.ripemd_files.specs.declared.line.Layout.{Layout}
 use Rattle.ripemd_files.specs.declared.line.Line.{Line}
 use Rattle.ripemd_files.specs.declared.list.Rules.{Rules}
@@ -13,136 +13,173 @@ use Rattle.ripemd_files.specs.declared.list.Cursor.{Cursor}
 use Rattle.ripemd_files.specs.declared.piece.Piece.TheVariants as pieces
 use Rattle.ripemd_files.specs.Files.{Place}
 use Rattle.ripemd_files.specs.Splitting.{IsPiece, IsWhole, ReadsOn, lines_of}
-use Rattle.ripemd_files.specs.Checking.{Event, IsEventOf}
+use Rattle.ripemd_files.specs.Checking.{Event, IsEventOf, misformatted}
+use Rattle.ripemd_files.specs.Lists.{Entry, IsEventOn, Reports, entries_of, entry_of, is_passed_over, layout_after, layout_behind}
 use Rattle.ripemd_files.specs.declared.fault.Fault.{Fault}
 use Rattle.ripemd_files.specs.declared.fault.Fault.TheVariants.{NoMemory}
-use Rattle.ripemd_files.specs.Groups.{ExplainsReading, ReadsLines, ReportsFirst, ReportsFrom, StopsReading, Takes, misformatted_events}
+use Rattle.ripemd_files.specs.Groups.{ExplainsReading, ReadsLines, Saying, Says, StopsReading, Takes, misformatted_events, said}
+use Rattle.ripemd_files.specs.Groups.Saying.{names, nothing}
 use Rattle.ripemd_files.proofs.Cutting.{cut, lines_first, lines_last, whole_more}
+use Rattle.ripemd_files.proofs.Zips.{all_zip_append, all_zip_take, all_zip_through}
+
+-- ---- entries
+
+module _ (kinds : Rules) where
+  -- lines, and then others
+  entries-append : (layout : Option Layout) (number : ℕ) (lines more : List (List ℕ)) → entries_of kinds layout number (lines ++ more)
+      ≡ entries_of kinds layout number lines ++ entries_of kinds (layout_behind kinds layout lines) (number + length lines) more
+  entries-append layout number [] more = let at : number ≡ number + 0 = omega arith in ap (λ n. entries_of kinds layout n more) at
+  entries-append layout number (text ∷ lines) more =
+      let at : (number + 1) + length lines ≡ number + length (text ∷ lines) = omega arith in
+      ap (λ l. entry_of kinds layout number text ++ l) (entries-append (layout_after kinds layout text) (number + 1) lines more)
+      ∙ sym (append_assoc (entry_of kinds layout number text) (entries_of kinds (layout_after kinds layout text) (number + 1) lines) _)
+      ∙ ap (λ n. entries_of kinds layout number (text ∷ lines) ++ entries_of kinds (layout_behind kinds layout (text ∷ lines)) n more) at
+
+  onto : (entry : List Entry) (count : ℕ) (some all : List Entry) → some ≡ take count all → entry ++ some ≡ take (length entry + count) (entry ++ all)
+  onto [] count some all same = let at : count ≡ 0 + count = omega arith in same ∙ ap (λ n. take n all) at
+  onto (e ∷ entry) count some all same =
+      let at : suc (length entry + count) ≡ length (e ∷ entry) + count = omega arith in
+      ap (λ l. e ∷ l) (onto entry count some all same) ∙ ap (λ n. take n (e ∷ (entry ++ all))) at
+
+  -- the first entries are those of the first lines
+  first_entries : (count : ℕ) (layout : Option Layout) (number : ℕ) (lines : List (List ℕ)) → (first : List (List ℕ)) × (back : List (List ℕ))
+      × (lines ≡ first ++ back) × (entries_of kinds layout number first ≡ take count (entries_of kinds layout number lines))
+  first_entries zero layout number lines = ([], lines, refl, refl)
+  first_entries (suc count) layout number [] = ([], [], refl, refl)
+  first_entries (suc count) layout number (text ∷ lines) =
+      let on : (n : ℕ) → length (entry_of kinds layout number text) + n ≡ suc count → (first : List (List ℕ)) × (back : List (List ℕ))
+      × (text ∷ lines ≡ first ++ back) × (entries_of kinds layout number first ≡ take (suc count) (entries_of kinds layout number (text ∷ lines))) =
+      λ n all.
+      let (first, back, split, same) = first_entries n (layout_after kinds layout text) (number + 1) lines in
+      (text ∷ first, back, ap (λ l. text ∷ l) split, onto (entry_of kinds layout number text) n _ _ same ∙ ap (λ k. take k (entries_of kinds layout number (text ∷ lines))) all) in
+      elim (cases_Bool (is_passed_over text)) [
+        | inl skipped ↦ on (suc count) (rw skipped (omega arith))
+        | inr counts ↦ on count (rw counts (omega arith))
+      ]
+
+-- ---- events
 
 module _ {File : Type 0} (place : Place File) (ignore_missing : Bool) (kinds : Rules) where
-  -- what comes of all of them
-  abbrev pub first_of_all : (cursor : Cursor) (lines : List (List ℕ)) (events : List Event) (last : Option Layout)
-      → ReportsFrom place ignore_missing kinds cursor lines events last → ReportsFirst place ignore_missing kinds cursor lines events
-  first_of_all cursor lines events last reports =
-      record { first = lines; back = []; split = sym (append-nil lines); last = last; reports = reports }
+  -- what comes of lines, and then of others
+  pub reports_more : (layout behind : Option Layout) (number next : ℕ) (lines more : List (List ℕ)) (events others : List Event)
+      → behind ≡ layout_behind kinds layout lines → next ≡ number + length lines → Reports place ignore_missing kinds layout number lines events
+      → Reports place ignore_missing kinds behind next more others → Reports place ignore_missing kinds layout number (lines ++ more) (events ++ others)
+  reports_more layout behind number next lines more events others is_behind is_next first second =
+      rw entries-append (all_zip_append _ _ _ _ _ first (rw (is_behind, is_next) at second))
 
-  -- nothing yet
-  pub reads_nothing : (old : Option (List ℕ)) (cursor : Cursor) → ReadsLines place ignore_missing kinds old old cursor cursor [] [] true []
-  unfolding lines_of
-  reads_nothing old cursor = record {
-    bytes = [];
-    consumed = Consumes-nil old;
-    whole = λ on. inl refl;
-    numbered = λ on. omega arith;
-    told = λ events zipped behind more last report. rw (none 0 events zipped) report;
-    partly = λ count events zipped. rw (none count events zipped) (first_of_all cursor [] [] cursor.layout (refl, refl));
-  }
-    where
-      none : (count : ℕ) (events : List Event) → AllZip (IsEventOf place ignore_missing) (take count []) events → events ≡ []
-      none count events zipped = grind arith
+  -- what comes of the line that an entry names, or of one that says nothing
+  abbrev IsEventOfSaid : Saying → Event → Type 0
+  IsEventOfSaid (names line) event = IsEventOf place ignore_missing line event
+  IsEventOfSaid (nothing number) event = event ≡ misformatted number
 
-  module _ (old now next : Option (List ℕ)) (before cursor : Cursor) (lines : List Line)
-      (so_far : ReadsLines place ignore_missing kinds old now before cursor lines [] true []) where
-    pub taken : Consumes old now so_far.bytes
-    taken = rw append-nil at so_far.consumed
+  on_entry : (entry : Entry) (what : Saying) (event : Event) → Says kinds entry what → IsEventOfSaid what event
+      → IsEventOn place ignore_missing kinds entry.layout entry.number entry.text event
+  on_entry entry (names line) event taken (outcome, comes, is) = rw is (line.variant, line.digest.items, outcome, taken, comes, refl)
+  on_entry entry (nothing number) event says is = rw is says
 
-    module _ (after : Cursor) (text : List ℕ) (others : List Line) (bad : Option ℕ)
-        (takes : Takes place ignore_missing kinds cursor after text lines others bad) (tail : List ℕ) (is_line : lines_of tail ≡ text ∷ []) where
-      -- its lines are those so far, and this one
-      all_lines : lines_of (so_far.bytes ++ tail) ≡ lines_of so_far.bytes ++ text ∷ []
-      all_lines = cut so_far.bytes tail (so_far.whole refl) ∙ ap (λ l. lines_of so_far.bytes ++ l) is_line
+  of_lines : (lines : List Line) (events : List Event) → AllZip (IsEventOf place ignore_missing) lines events → AllZip IsEventOfSaid (map names lines) events
+  of_lines [] [] zipped = tt
+  of_lines (line ∷ lines) (event ∷ events) zipped = (zipped.0, of_lines lines events zipped.1)
+  of_lines _ _ zipped = absurd (assumption)
 
-      -- what comes of a line, after those before it
-      on : (events : List Event) → AllZip (IsEventOf place ignore_missing) others events → (behind : List (List ℕ)) (more : List Event)
-          (last : Option Layout) → ReportsFrom place ignore_missing kinds after behind more last
-          → ReportsFrom place ignore_missing kinds before (lines_of (so_far.bytes ++ tail) ++ behind) (events ++ (misformatted_events bad ++ more)) last
-      on events zipped behind more last report =
-          let (earlier, own, same, first, go) = takes.told events zipped in
-          rw (same, append_assoc, all_lines, append_assoc)
-          (so_far.told earlier first (text ∷ behind) (own ++ (misformatted_events bad ++ more)) last (go behind more last report))
+  of_said : (lines : List Line) (bad : Option ℕ) (events : List Event) → AllZip (IsEventOf place ignore_missing) lines events
+      → AllZip IsEventOfSaid (said lines bad) (events ++ misformatted_events bad)
+  of_said lines None events zipped = rw append-nil (of_lines lines events zipped)
+  of_said lines (Some number) events zipped = all_zip_append _ _ _ _ _ (of_lines lines events zipped) (refl, tt)
 
-      -- what comes of the first of them
-      some : (count : ℕ) (events : List Event) → AllZip (IsEventOf place ignore_missing) (take count others) events
-          → ReportsFirst place ignore_missing kinds before (lines_of (so_far.bytes ++ tail)) events
-      some count events zipped = elim takes.grown [
-        | inl same ↦ earlier (rw same at zipped)
-        | inr (line, grown, good) ↦ elim (cases_lt (length lines) count) [
-          | inr within ↦ earlier (rw (grown, take-append-le count lines (line ∷ []) within) at zipped)
-          | inl past ↦ all good (rw (take_all count others (omega (arith, past, ap length grown, length-append lines (line ∷ [])))) at zipped)
-        ]
-      ]
-        where
-          earlier : AllZip (IsEventOf place ignore_missing) (take count lines) events
-              → ReportsFirst place ignore_missing kinds before (lines_of (so_far.bytes ++ tail)) events
-          earlier of_those =
-              let first = so_far.partly count events of_those in
-              record {
-                first = first.first;
-                back = first.back ++ text ∷ [];
-                split = grind (arith, all_lines, first.split, append_assoc);
-                last = first.last;
-                reports = first.reports;
-              }
+  named_first : (count : ℕ) (lines : List Line) → take (length (take count lines)) (map names lines) ≡ map names (take count lines)
+  named_first count lines = rw take-map (ap (map names) (rw length-take (take_min count lines)))
 
-          all : bad ≡ None → AllZip (IsEventOf place ignore_missing) others events
-              → ReportsFirst place ignore_missing kinds before (lines_of (so_far.bytes ++ tail)) events
-          all good of_all =
-              first_of_all before _ events after.layout
-              (rw (good, append-nil, append-nil) at (on events of_all [] [] after.layout (refl, refl)))
+  -- the first of what was said
+  said_first : (count : ℕ) (lines : List Line) (bad : Option ℕ) → take (length (take count lines)) (said lines bad) ≡ map names (take count lines)
+  said_first count lines None = named_first count lines
+  said_first count lines (Some number) =
+      take-append-le (length (take count lines)) (map names lines) (nothing number ∷ []) (omega (arith, length-take count lines, length-map lines names))
+      ∙ named_first count lines
 
-      reads : (goes : Bool) → after.number ≡ cursor.number + 1 → Consumes now next tail → (IsTrue goes → IsWhole tail)
-          → ReadsLines place ignore_missing kinds old next before after others (misformatted_events bad) goes []
-      reads goes step read whole = record {
-        bytes = so_far.bytes ++ tail;
-        consumed = rw append-nil (Consumes-trans old now next so_far.bytes tail taken read);
-        whole = λ going. whole_more so_far.bytes tail (so_far.whole refl) (whole going);
-        numbered = λ going. omega (arith, step, so_far.numbered refl, ap length all_lines, length-append (lines_of so_far.bytes) (text ∷ []));
-        told = on;
-        partly = some;
-      }
+  module _ {old new : Option (List ℕ)} {before after : Cursor} {lines : List Line} {bad : Option ℕ} {rest : List ℕ}
+      (reads : ReadsLines kinds old new before after lines bad rest) where
+    -- what comes of all lines of a group
+    pub group_reports : (events : List Event) → AllZip (IsEventOf place ignore_missing) lines events
+        → Reports place ignore_missing kinds before.layout before.number (lines_of reads.bytes) (events ++ misformatted_events bad)
+    group_reports events zipped = all_zip_through _ _ _ _ _ _ on_entry reads.says (of_said lines bad events zipped)
 
-    module _ (after : Cursor) (text : List ℕ) (others : List Line) (bad : Option ℕ)
-        (takes : Takes place ignore_missing kinds cursor after text lines others bad) (step : after.number ≡ cursor.number + 1) where
-      -- a line that ends with a newline
-      pub reads_line : IsPiece 10 now next text pieces.Whole
-          → ReadsLines place ignore_missing kinds old next before after others (misformatted_events bad) true []
-      unfolding lines_of
-      reads_line piece =
-          reads after text others bad takes (text ++ 10 ∷ []) (lines_first text [] piece.1) true step piece.0 (λ going. inr (text, refl))
+    -- or of the first of them
+    pub group_partly : (count : ℕ) (events : List Event) → AllZip (IsEventOf place ignore_missing) (take count lines) events
+        → (first : List (List ℕ)) × (back : List (List ℕ)) × (lines_of reads.bytes ≡ first ++ back)
+        × Reports place ignore_missing kinds before.layout before.number first events
+    group_partly count events zipped =
+        let n = length (take count lines) in
+        let (first, back, split, same) = first_entries kinds n before.layout before.number (lines_of reads.bytes) in
+        let says = rw said_first at (all_zip_take (Says kinds) n _ _ reads.says) in
+        (first, back, split, rw same (all_zip_through _ _ _ _ _ _ on_entry says (of_lines _ events zipped)))
 
-      -- the last line, which ends with the list
-      pub reads_last : IsPiece 10 now next text pieces.Last
-          → ReadsLines place ignore_missing kinds old next before after others (misformatted_events bad) false []
-      reads_last (read, ended, filled, one) =
-          reads after text others bad takes text (lines_last text one filled) false step read (λ never. absurd cc)
+-- ---- reading
 
-    -- a line that can't be counted, or for which there is no memory
-    module _ (text : List ℕ) (fault : Fault) (why : ExplainsReading (cursor.number + 1) [] fault) where
-      stops : (tail : List ℕ) → lines_of tail ≡ text ∷ [] → Consumes now next tail → StopsReading old next before.number fault
-      unfolding lines_of
-      stops tail is_line read = record {
-        bytes = so_far.bytes ++ tail;
-        consumed = Consumes-trans old now next so_far.bytes tail taken read;
-        why = grind (arith, why, so_far.numbered refl, cut so_far.bytes tail (so_far.whole refl), length-append, is_line);
-      }
+-- nothing yet
+pub reads_nothing : (kinds : Rules) (old : Option (List ℕ)) (cursor : Cursor) (lines : List Line) → lines ≡ []
+    → (reads : ReadsLines kinds old old cursor cursor lines None []) × IsWhole reads.bytes
+unfolding lines_of
+reads_nothing kinds old cursor lines empty =
+    (record { bytes = []; consumed = Consumes-nil old; numbered = omega arith; layout = refl; says = rw empty tt }, inl refl)
 
-      pub stops_at_line : IsPiece 10 now next text pieces.Whole → StopsReading old next before.number fault
-      unfolding lines_of
-      stops_at_line piece = stops (text ++ 10 ∷ []) (lines_first text [] piece.1) piece.0
+module _ (kinds : Rules) (old now next : Option (List ℕ)) (before cursor : Cursor) (lines : List Line)
+    (so_far : ReadsLines kinds old now before cursor lines None []) (whole : IsWhole so_far.bytes) where
+  pub taken : Consumes old now so_far.bytes
+  taken = rw append-nil at so_far.consumed
 
-      pub stops_at_last : IsPiece 10 now next text pieces.Last → StopsReading old next before.number fault
-      stops_at_last (read, ended, filled, one) = stops text (lines_last text one filled) read
+  module _ (after : Cursor) (text : List ℕ) (others : List Line) (bad : Option ℕ) (takes : Takes kinds cursor after text lines others bad)
+      (step : after.number ≡ cursor.number + 1) where
+    abbrev reads : (tail : List ℕ) → lines_of tail ≡ text ∷ [] → Consumes now next tail → ReadsLines kinds old next before after others bad []
+    reads tail is_line read =
+        let all_lines = cut so_far.bytes tail whole ∙ ap (λ l. lines_of so_far.bytes ++ l) is_line in
+        record {
+          bytes = so_far.bytes ++ tail;
+          consumed = rw append-nil (Consumes-trans old now next so_far.bytes tail taken read);
+          numbered = omega (arith, step, so_far.numbered, ap length all_lines, length-append (lines_of so_far.bytes) (text ∷ []));
+          layout = rw (all_lines, fold-append, takes.layout, so_far.layout) refl;
+          says =
+              rw (all_lines, entries-append, takes.grown)
+              (all_zip_append _ _ _ _ _ so_far.says (rw append-nil (rw (so_far.layout, so_far.numbered) at takes.says)));
+        }
 
-    pub stops_reading : ReadsOn now next → StopsReading old next before.number NoMemory
-    stops_reading (more, read) = record { bytes = so_far.bytes ++ more; consumed = Consumes-trans old now next so_far.bytes more taken read; why = tt }
+    -- a line that ends with a newline
+    pub reads_line : IsPiece 10 now next text pieces.Whole
+        → (reads : ReadsLines kinds old next before after others bad []) × IsWhole reads.bytes
+    unfolding lines_of
+    reads_line piece =
+        (reads (text ++ 10 ∷ []) (lines_first text [] piece.1) piece.0, whole_more so_far.bytes (text ++ 10 ∷ []) whole (inr (text, refl)))
 
-    -- no line more: the list has ended, or a read of it failed in the middle of one
-    unfoldable pub reads_no_more : (rest : List ℕ) → Consumes now next rest → ReadsLines place ignore_missing kinds old next before cursor lines [] false rest
-    reads_no_more rest read = record {
-      bytes = so_far.bytes;
-      consumed = Consumes-trans old now next so_far.bytes rest taken read;
-      whole = λ never. absurd cc;
-      numbered = λ never. absurd cc;
-      told = so_far.told;
-      partly = so_far.partly;
+    -- the last line, which ends with the list
+    pub reads_last : IsPiece 10 now next text pieces.Last → ReadsLines kinds old next before after others bad []
+    reads_last (read, ended, filled, one) = reads text (lines_last text one filled) read
+
+  -- a line that can't be counted, or for which there is no memory
+  module _ (text : List ℕ) (fault : Fault) (why : ExplainsReading (cursor.number + 1) [] fault) where
+    stops : (tail : List ℕ) → lines_of tail ≡ text ∷ [] → Consumes now next tail → StopsReading old next before.number fault
+    unfolding lines_of
+    stops tail is_line read = record {
+      bytes = so_far.bytes ++ tail;
+      consumed = Consumes-trans old now next so_far.bytes tail taken read;
+      why = grind (arith, why, so_far.numbered, cut so_far.bytes tail whole, length-append, is_line);
     }
+
+    pub stops_at_line : IsPiece 10 now next text pieces.Whole → StopsReading old next before.number fault
+    unfolding lines_of
+    stops_at_line piece = stops (text ++ 10 ∷ []) (lines_first text [] piece.1) piece.0
+
+    pub stops_at_last : IsPiece 10 now next text pieces.Last → StopsReading old next before.number fault
+    stops_at_last (read, ended, filled, one) = stops text (lines_last text one filled) read
+
+  pub stops_reading : ReadsOn now next → StopsReading old next before.number NoMemory
+  stops_reading (more, read) = record { bytes = so_far.bytes ++ more; consumed = Consumes-trans old now next so_far.bytes more taken read; why = tt }
+
+  -- no line more: the list has ended, or a read of it failed in the middle of one
+  unfoldable pub reads_no_more : (rest : List ℕ) → Consumes now next rest → ReadsLines kinds old next before cursor lines None rest
+  reads_no_more rest read = record {
+    bytes = so_far.bytes;
+    consumed = Consumes-trans old now next so_far.bytes rest taken read;
+    numbered = so_far.numbered;
+    layout = so_far.layout;
+    says = so_far.says;
+  }

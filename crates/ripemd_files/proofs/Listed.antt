@@ -1,16 +1,14 @@
 -- What comes of the lines of a list, one after another.
-use Rattle.std.proofs.Common.{◌≡◌, ◌≢◌, ℕ, ◌+◌, List, [], ◌∷◌, ◌++◌, codes, Option, Some, None, unwrap_or, Bool, IsTrue, refl, sym, inl, inr}
+use Rattle.std.proofs.Common.{◌≡◌, ◌≢◌, ℕ, List, [], ◌∷◌, ◌++◌, codes, map, Option, Some, None, unwrap_or, IsTrue, refl, sym}
 use Rattle.std.specs.Prelude.{IsFalse, option_map}
-use Rattle.std.proofs.lemmas.List.{append-nil}
+use Rattle.std.proofs.lemmas.List.{append-nil, map-append}
 use Rattle.ripemd_files.proofs.Types.{Variant, Layout, Standard, Line, Rules, Cursor}
 use Rattle.ripemd_files.specs.Lines.{Says}
-use Rattle.ripemd_files.specs.Files.{Place}
-use Rattle.ripemd_files.specs.Checking.{Event, IsEventOf, misformatted}
-use Rattle.ripemd_files.specs.Lists.{AreEventsOn, IsTaken, IsWanted, body_of_line, is_passed_over, layout_after}
+use Rattle.ripemd_files.specs.Lists.{IsTaken, IsWanted, body_of_line, entry_of, is_passed_over, layout_after}
 use Rattle.ripemd_files.specs.Reading.{said_by, said_of}
 use Rattle.ripemd_files.proofs.Sayings.{found_is_line, line_is_found}
-use Rattle.ripemd_files.proofs.Zips.{all_zip_last}
-use Rattle.ripemd_files.specs.Groups.{IsEntry, ReportsFrom, Takes}
+use Rattle.ripemd_files.specs.Groups.{IsEntry, Takes}
+use Rattle.ripemd_files.specs.Groups.Saying.{names, nothing}
 
 -- ---- what a line says
 
@@ -40,37 +38,21 @@ module _ (kinds : Rules) (layout : Option Layout) (text : List ℕ) (found : Opt
       let says : Says (Some line) variant digest name = rw some at (said variant digest name taken) in
       other (rw says.0 taken.wanted, rw says.2 taken.other)
 
--- ---- what comes of it
+-- ---- where it stands
 
-module _ {File : Type 0} (place : Place File) (ignore_missing : Bool) (kinds : Rules) (before after : Cursor) (text : List ℕ)
-    (next : after.layout ≡ layout_after kinds before.layout text) (step : after.number ≡ before.number + 1) where
-  -- the report goes on with these events
-  goes_on : (own : List Event) → AreEventsOn place ignore_missing kinds after.layout before.number text own
-      → (rest : List (List ℕ)) (more : List Event) (last : Option Layout) → ReportsFrom place ignore_missing kinds after rest more last
-      → ReportsFrom place ignore_missing kinds before (text ∷ rest) (own ++ more) last
-  goes_on own are rest more last report = (own, more, refl, rw next at are, rw (next, step) at report)
+module _ (kinds : Rules) (before after : Cursor) (text : List ℕ) (next : after.layout ≡ layout_after kinds before.layout text) where
+  pub takes_skipped : IsTrue (is_passed_over text) → (lines : List Line) → Takes kinds before after text lines lines None
+  takes_skipped skipped lines = record { found = []; says = rw skipped tt; grown = sym (append-nil (map names lines)); layout = next }
 
-  pub takes_skipped : IsTrue (is_passed_over text) → (lines : List Line) → Takes place ignore_missing kinds before after text lines lines None
-  takes_skipped skipped lines = record {
-    told = λ events zipped. (events, [], sym (append-nil events), zipped, goes_on [] (rw skipped refl));
-    grown = inl refl;
-  }
+  module _ (counts : IsFalse (is_passed_over text)) where
+    one_entry : entry_of kinds before.layout before.number text ≡ record { layout = after.layout; number = before.number; text = text } ∷ []
+    one_entry = rw (next, counts) refl
 
-  pub takes_misformatted : IsFalse (is_passed_over text) → IsEntry kinds after.layout text None → (lines : List Line)
-      → Takes place ignore_missing kinds before after text lines lines (Some before.number)
-  takes_misformatted counts entry lines = record {
-    told = λ events zipped.
-        let on = goes_on (misformatted before.number ∷ []) (rw counts (misformatted before.number, refl, (refl, entry))) in
-        (events, [], sym (append-nil events), zipped, on);
-    grown = inl refl;
-  }
+    pub takes_misformatted : IsEntry kinds after.layout text None → (lines : List Line) → Takes kinds before after text lines lines (Some before.number)
+    takes_misformatted entry lines =
+        record { found = nothing before.number ∷ []; says = rw one_entry ((refl, entry), tt); grown = refl; layout = next }
 
-  pub takes_said : (line : Line) → IsFalse (is_passed_over text) → IsEntry kinds after.layout text (Some line) → (lines : List Line)
-      → Takes place ignore_missing kinds before after text lines (lines ++ line ∷ []) None
-  takes_said line counts entry lines = record {
-    told = λ events zipped.
-        let (earlier, event, same, first, both) = all_zip_last (IsEventOf place ignore_missing) lines line events zipped in
-        let on = goes_on (event ∷ []) (rw counts (event, refl, rw both.2 (line.variant, line.digest.items, both.0, entry, both.1, refl))) in
-        (earlier, event ∷ [], same, first, on);
-    grown = inr (line, refl, refl);
-  }
+    pub takes_said : (line : Line) → IsEntry kinds after.layout text (Some line) → (lines : List Line)
+        → Takes kinds before after text lines (lines ++ line ∷ []) None
+    takes_said line entry lines =
+        record { found = names line ∷ []; says = rw one_entry (entry, tt); grown = map-append names lines (line ∷ []); layout = next }

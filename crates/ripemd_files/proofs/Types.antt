@@ -9,10 +9,10 @@ pub use Rattle.ripemd_files.specs.declared.line.Line.{Line}
 pub use Rattle.ripemd_files.specs.declared.line.Variant.{Variant}
 pub use Rattle.ripemd_files.specs.declared.list.Cursor.{Cursor}
 pub use Rattle.ripemd_files.specs.declared.list.Group.{Group}
-pub use Rattle.ripemd_files.specs.declared.list.Next.{Next}
 pub use Rattle.ripemd_files.specs.declared.list.Rules.{Rules}
 pub use Rattle.ripemd_files.specs.declared.outcome.Outcome.{Outcome}
 pub use Rattle.ripemd_files.specs.declared.outcome.Outcome.TheVariants.{Digest, Refused, Broken}
+pub use Rattle.ripemd_files.specs.declared.piece.Stage.{Stage}
 pub use Rattle.ripemd_files.specs.declared.printing.Style.{Style}
 pub use Rattle.ripemd_files.specs.declared.verdict.Options.{Options}
 pub use Rattle.ripemd_files.specs.declared.verdict.Tally.{Tally}

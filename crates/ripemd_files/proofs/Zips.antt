@@ -45,15 +45,6 @@ all_zip_at R (a ∷ xs) (b ∷ ys) zero x y zipped within = zipped.0
 all_zip_at R (a ∷ xs) (b ∷ ys) (suc i) x y zipped within = all_zip_at R xs ys i x y zipped.1 (omega (arith, within))
 all_zip_at R _ _ i x y zipped within = grind arith
 
--- the last of each
-pub all_zip_last : {A B : Type 0} (R : A → B → Type 0) (xs : List A) (x : A) (zs : List B) → AllZip R (xs ++ x ∷ []) zs
-    → (ys : List B) × (y : B) × (zs ≡ ys ++ y ∷ []) × AllZip R xs ys × R x y
-all_zip_last R [] x (z ∷ []) zipped = ([], z, refl, tt, zipped.0)
-all_zip_last R (a ∷ xs) x (z ∷ zs) zipped =
-    let (ys, y, same, before, both) = all_zip_last R xs x zs zipped.1 in
-    (z ∷ ys, y, ap (λ l. z ∷ l) same, (zipped.0, before), both)
-all_zip_last R _ x _ zipped = absurd (assumption)
-
 -- what belongs to the first items
 pub first_of : {A B : Type 0} (R : A → B → Type 0) (i : ℕ) (xs : List A) (ys : List B) → i ≤ length xs → AllZip R (take i xs) ys
     → (0 < length xs → 0 < length ys) → OfFirst R xs ys
@@ -67,7 +58,7 @@ all_zip_append R [] others [] more first second = second
 all_zip_append R (x ∷ xs) others (y ∷ ys) more first second = (first.0, all_zip_append R xs others ys more first.1 second)
 all_zip_append R _ others _ more first second = absurd first
 
-all_zip_take : {A B : Type 0} (R : A → B → Type 0) (n : ℕ) (xs : List A) (ys : List B) → AllZip R xs ys → AllZip R (take n xs) (take n ys)
+pub all_zip_take : {A B : Type 0} (R : A → B → Type 0) (n : ℕ) (xs : List A) (ys : List B) → AllZip R xs ys → AllZip R (take n xs) (take n ys)
 all_zip_take R (suc n) (x ∷ xs) (y ∷ ys) zipped = (zipped.0, all_zip_take R n xs ys zipped.1)
 all_zip_take R (suc n) [] [] zipped = tt
 all_zip_take R _ _ _ zipped = assumption

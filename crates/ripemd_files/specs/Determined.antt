@@ -21,13 +21,8 @@ pub record IsKnown {File : Type 0} (place : Place File) (contents : List ℕ →
 -- a list of these bytes before a check, and what was told before
 pub record Start : Type 0 where
   pub list : List ℕ
-  pub failed : Bool
   pub items : List Item
   pub failure : Option Error
-
--- the list and the log then
-abbrev pub list_before : Start → ListState
-list_before start = record { left = Some start.list; failed = start.failed }
 
 abbrev pub told_before : Start → Told
 told_before start = record { items = Some start.items; failure = start.failure }
@@ -38,7 +33,7 @@ pub record Report {File : Type 0} (place : Place File) (options : Options) (rule
   pub last : Option Layout
   pub told : Told
   pub success : Bool
-  pub checks : ChecksList place options rules first last (list_before start) left (told_before start) told success
+  pub checks : ChecksList place options rules first last (Some start.list) left (told_before start) told success
 
 -- a print of files of these names: what may be printed of them
 pub record Print {File : Type 0} (place : Place File) (style : Style) (names : List (List ℕ)) (start : Told) : Type 0 where

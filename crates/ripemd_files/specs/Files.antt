@@ -41,16 +41,17 @@ pub record Breaks {File : Type 0} (IsOpened : File → Type 0) (left : File → 
   pub fails : may_fail now error ⊎ ((2 ^ 61 ≤ length bytes) × (error_kind error ≡ FileTooLarge))
 
 -- What a folder is: which files a name opens there, and which errors opening it gives; what an opened file has
--- left, where that is known, and with which errors a read of it may fail.
+-- left, where that is known, whether it may still be read, as not after its end or a failed read, and with which errors that may fail.
 pub record Place (File : Type 0) : Type 1 where
   pub opens : List ℕ → File → Type 0
   pub refuses : List ℕ → Error → Type 0
   pub left : File → Option (List ℕ)
+  pub readable : File → Type 0
   pub may_fail : File → Error → Type 0
 
 -- a folder of which nothing is known
 abbrev pub any_place : {File : Type 0} → Place File
-any_place = record { opens = λ name file. ⊤; refuses = λ name error. ⊤; left = λ file. None; may_fail = λ file error. ⊤ }
+any_place = record { opens = λ name file. ⊤; refuses = λ name error. ⊤; left = λ file. None; readable = λ file. ⊤; may_fail = λ file error. ⊤ }
 
 -- reading the file of a name comes to this digest or error
 abbrev pub ComesTo : {File : Type 0} → Place File → (List ℕ → List ℕ) → List ℕ → Outcome → Type 0

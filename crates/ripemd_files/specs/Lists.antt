@@ -1,5 +1,6 @@
 -- What a check of a list says: what comes of each of its lines, and how it ends.
-use Rattle.std.specs.Prelude.{◌≡◌, ◌≢◌, ◌⊎◌, ◌+◌, ◌-◌, ◌^◌, ◌≤◌, ℕ, List, [], ◌∷◌, ◌++◌, codes, flat_map, length, Option, Some, None, unwrap_or, Bool, true, false, ◌||◌, ◌==◌, if◌then◌else◌, IsTrue, MatchBool, ⊤}
+use Rattle.std.specs.Prelude.{◌≡◌, ◌≢◌, ◌⊎◌, ◌+◌, ◌-◌, ◌^◌, ◌≤◌, ℕ, List, [], ◌∷◌, ◌++◌, codes, flat_map, length, Option, Some, None, unwrap_or, Bool, true, false, ◌||◌, ◌==◌, if◌then◌else◌, IsTrue, ⊤}
+use Rattle.std.specs.List.{AllZip, fold}
 use Rattle.std.specs.Io.BufRead.{strip_last}
 use Rattle.std.specs.Io.KnownBytes.{Consumes}
 use Rattle.ripemd.specs.Standard.Hashing.{ripemd}
@@ -9,6 +10,8 @@ use Rattle.ripemd_files.specs.declared.line.Layout.TheVariants.{Standard}
 use Rattle.ripemd_files.specs.declared.log.Complaint.TheVariants as complaints
 use Rattle.ripemd_files.specs.declared.list.Rules.{Rules}
 use Rattle.ripemd_files.specs.declared.outcome.Outcome.{Outcome}
+use Rattle.ripemd_files.specs.declared.piece.Stage.{Stage}
+use Rattle.ripemd_files.specs.declared.piece.Stage.TheVariants.{Among, Ended, Failed}
 use Rattle.ripemd_files.specs.declared.verdict.Options.{Options}
 use Rattle.ripemd_files.specs.declared.verdict.Tally.{Tally}
 use Rattle.ripemd_files.specs.Lines.{IsLine}
@@ -54,6 +57,29 @@ pub record IsTaken (rules : Rules) (layout : Option Layout) (text : List ℕ) (v
   pub wanted : IsWanted rules.only variant
   pub other : IsTrue rules.from_input → name ≢ codes "-"
 
+-- ---- entries
+
+-- a line that is not passed over: the layout of its list there, its number, and its text
+pub record Entry : Type 0 where
+  pub layout : Option Layout
+  pub number : ℕ
+  pub text : List ℕ
+
+-- the entry of the line of a number, if it is one
+abbrev pub entry_of : Rules → Option Layout → ℕ → List ℕ → List Entry
+entry_of rules layout number text =
+    if is_passed_over text then [] else record { layout = layout_after rules layout text; number = number; text = text } ∷ []
+
+-- the entries among the lines from one of this number on
+abbrev pub entries_of : Rules → Option Layout → ℕ → List (List ℕ) → List Entry
+entries_of rules layout number [] = []
+entries_of rules layout number (text ∷ rest) =
+    entry_of rules layout number text ++ entries_of rules (layout_after rules layout text) (number + 1) rest
+
+-- the layout of a list after some lines
+abbrev pub layout_behind : Rules → Option Layout → List (List ℕ) → Option Layout
+layout_behind rules layout lines = fold (layout_after rules) layout lines
+
 -- ---- events
 
 -- what comes of the line of a number: its file is read, and has a verdict; or it says nothing that counts
@@ -64,84 +90,68 @@ IsEventOn place ignore_missing rules layout number text (checked name verdict) =
     (variant : Variant) × (digest : List ℕ) × (outcome : Outcome) × IsTaken rules layout text variant digest name
     × ComesTo place (ripemd (parameters_of variant)) name outcome × (verdict ≡ verdict_of ignore_missing digest outcome)
 
--- of a line that is passed over nothing comes, and of all others one event
-abbrev pub AreEventsOn : {File : Type 0} → Place File → Bool → Rules → Option Layout → ℕ → List ℕ → List Event → Type 0
-AreEventsOn place ignore_missing rules layout number text events =
-    MatchBool (is_passed_over text) (events ≡ [])
-    ((event : Event) × (events ≡ event ∷ []) × IsEventOn place ignore_missing rules layout number text event)
-
--- what comes of the lines from one of this number on, and the layout of the list before and after them
-abbrev pub Reports : {File : Type 0} → Place File → Bool → Rules → Option Layout → ℕ → List (List ℕ) → List Event → Option Layout → Type 0
-Reports place ignore_missing rules layout number [] events last = (events ≡ []) × (last ≡ layout)
-Reports place ignore_missing rules layout number (text ∷ rest) events last =
-    (first : List Event) × (others : List Event) × (events ≡ first ++ others)
-    × AreEventsOn place ignore_missing rules (layout_after rules layout text) number text first
-    × Reports place ignore_missing rules (layout_after rules layout text) (number + 1) rest others last
+-- one event comes of each entry among the lines from one of this number on
+abbrev pub Reports : {File : Type 0} → Place File → Bool → Rules → Option Layout → ℕ → List (List ℕ) → List Event → Type 0
+Reports place ignore_missing rules layout number lines events =
+    AllZip (λ entry event. IsEventOn place ignore_missing rules entry.layout entry.number entry.text event) (entries_of rules layout number lines) events
 
 -- ---- checks
 
--- how far a check came: to some line, to the end of the list, or to a read of it that failed
-pub data Stage : Type 0 where
-  among : Stage
-  ended : Stage
-  failed : Stage
-
--- What was read has these lines and others after them, and then what is no whole line. To the end all was read, and no read
--- failed; where one did, nothing stands after these lines but the front of one.
-abbrev pub Reaches : Stage → (old new : ListState) → (behind : List (List ℕ)) → (rest : List ℕ) → Type 0
-Reaches among old new behind rest = ⊤
-Reaches ended old new behind rest = (behind ≡ []) × (rest ≡ []) × IsEnded old.left new.left × (new.failed ≡ old.failed)
-Reaches failed old new behind rest = (behind ≡ []) × IsOneLine rest × (new.failed ≡ true)
+-- What was read has these lines and others after them, and then what is no whole line. To the end all was read; where a read
+-- failed, nothing stands after these lines but the front of one.
+abbrev pub Reaches : Stage → (old new : Option (List ℕ)) → (behind : List (List ℕ)) → (rest : List ℕ) → Type 0
+Reaches Among old new behind rest = ⊤
+Reaches Ended old new behind rest = (behind ≡ []) × (rest ≡ []) × IsEnded old new
+Reaches Failed old new behind rest = (behind ≡ []) × IsOneLine rest
 
 -- these lines were read from a list
-pub record WasRead (stage : Stage) (old new : ListState) (lines : List (List ℕ)) : Type 0 where
+pub record WasRead (stage : Stage) (old new : Option (List ℕ)) (lines : List (List ℕ)) : Type 0 where
   pub bytes : List ℕ
   pub rest : List ℕ
   pub behind : List (List ℕ)
-  pub consumed : Consumes old.left new.left (bytes ++ rest)
-  pub cut : IsWhole bytes ⊎ ((rest ≡ []) × IsEnded old.left new.left)
+  pub consumed : Consumes old new (bytes ++ rest)
+  pub cut : IsWhole bytes ⊎ ((rest ≡ []) × IsEnded old new)
   pub split : lines_of bytes ≡ lines ++ behind
   pub reached : Reaches stage old new behind rest
 
 -- what is remarked at the end
 abbrev pub last_remarks : Stage → Options → Tally → List Item
-last_remarks among options tally = []
-last_remarks ended options tally = closing_remarks options tally
-last_remarks failed options tally = about_list complaints.Unreadable ∷ []
+last_remarks Among options tally = []
+last_remarks Ended options tally = closing_remarks options tally
+last_remarks Failed options tally = about_list complaints.Unreadable ∷ []
 
 -- these lines were read and checked, and this is told of them: what came of each, and then what was counted
-pub record IsReport {File : Type 0} (place : Place File) (options : Options) (rules : Rules) (first last : Option Layout)
-    (old new : ListState) (stage : Stage) (items : List Item) (tally : Tally) : Type 0 where
+pub record IsReport {File : Type 0} (place : Place File) (options : Options) (rules : Rules) (first : Option Layout)
+    (old new : Option (List ℕ)) (stage : Stage) (items : List Item) (tally : Tally) : Type 0 where
   pub lines : List (List ℕ)
   pub events : List Event
   pub read : WasRead stage old new lines
-  pub reports : Reports place options.ignore_missing rules first 1 lines events last
+  pub reports : Reports place options.ignore_missing rules first 1 lines events
   pub counts : IsTally events tally
   pub said : items ≡ flat_map (items_of_event options) events ++ last_remarks stage options tally
 
 -- a check succeeds if all of the list was read, and its counts say so
 abbrev pub succeeds : Stage → Options → Tally → Bool
-succeeds among options tally = false
-succeeds ended options tally = is_success options tally
-succeeds failed options tally = false
+succeeds Among options tally = false
+succeeds Ended options tally = is_success options tally
+succeeds Failed options tally = false
 
 -- a list was checked, to its end or to a read of it that failed
 pub record ChecksList {File : Type 0} (place : Place File) (options : Options) (rules : Rules) (first last : Option Layout)
-    (old new : ListState) (before after : Told) (success : Bool) : Type 0 where
-  pub stage : Stage
+    (old : Option (List ℕ)) (new : ListState) (before after : Told) (success : Bool) : Type 0 where
   pub items : List Item
   pub tally : Tally
-  pub report : IsReport place options rules first last old new stage items tally
-  pub is_over : stage ≢ among
+  pub report : IsReport place options rules first old new.left new.stage items tally
+  pub layout : last ≡ layout_behind rules first report.lines
+  pub is_over : new.stage ≢ Among
   pub tells : Tells before after items
-  pub answer : success ≡ succeeds stage options tally
+  pub answer : success ≡ succeeds new.stage options tally
 
 -- or the run ended before, when the first part of a report was told
 pub record StopsList {File : Type 0} (place : Place File) (options : Options) (rules : Rules) (first : Option Layout)
-    (old new : ListState) (before after : Told) (fault : Fault) : Type 0 where
+    (old new : Option (List ℕ)) (before after : Told) (fault : Fault) : Type 0 where
   pub stage : Stage
   pub items : List Item
   pub tally : Tally
-  pub last : Option Layout
-  pub report : IsReport place options rules first last old new stage items tally
+  pub report : IsReport place options rules first old new stage items tally
   pub stops : Stops (2 ^ 64 - 1 ≤ length (lines_of (report.read.bytes ++ report.read.rest))) before after items fault

@@ -1,11 +1,13 @@
 -- How a list of lines is split.
-use Rattle.std.specs.Prelude.{◌≡◌, ◌≢◌, ◌⊎◌, ℕ, ◌==◌, Bool, true, false, if◌then◌else◌, List, [], ◌∷◌, ◌++◌, Option, IfSome}
+use Rattle.std.specs.Prelude.{◌≡◌, ◌≢◌, ◌⊎◌, ℕ, ◌==◌, false, if◌then◌else◌, List, [], ◌∷◌, ◌++◌, Option, IfSome}
 use Rattle.std.specs.List.{list_any, onto_first}
 use Rattle.std.specs.Io.KnownBytes.{Consumes, IsAtEnd}
 use Rattle.std.specs.Io.Buffered.{reader_remaining}
 use Rattle.ripemd_files.specs.declared.piece.List.{List as Reader}
 use Rattle.ripemd_files.specs.declared.piece.Piece.{Piece}
 use Rattle.ripemd_files.specs.declared.piece.Piece.TheVariants.{Whole, Last, Nothing, Failed}
+use Rattle.ripemd_files.specs.declared.piece.Stage.{Stage}
+use Rattle.ripemd_files.specs.declared.piece.Stage.TheVariants as stages
 
 -- the lines of a list, without the newlines that end them; after the last newline there is none
 unfoldable pub lines_of : List ℕ → List (List ℕ)
@@ -14,10 +16,10 @@ lines_of (byte ∷ rest) = if byte == 10 then [] ∷ lines_of rest else onto_fir
 
 -- ---- as they are read
 
--- what is left of a list, where that is known, and whether a read of it failed
+-- what is left of a list, where that is known, and how far it was read
 pub record ListState : Type 0 where
   pub left : Option (List ℕ)
-  pub failed : Bool
+  pub stage : Stage
 
 -- if it was known what is left, nothing is left now
 abbrev pub IsEnded : Option (List ℕ) → Option (List ℕ) → Type 0
@@ -42,10 +44,12 @@ IsPiece byte old new text Last = Consumes old new text × IsEnded old new × (te
 IsPiece byte old new text Nothing = Consumes old new [] × IsEnded old new
 IsPiece byte old new text (Failed error) = Consumes old new text × IsWithout byte text
 
--- whether a read failed
-abbrev pub is_failure : Piece → Bool
-is_failure (Failed error) = true
-is_failure _ = false
+-- how far a text is read with a piece
+abbrev pub stage_after : Piece → Stage
+stage_after Whole = stages.Among
+stage_after Last = stages.Ended
+stage_after Nothing = stages.Ended
+stage_after (Failed error) = stages.Failed
 
 -- some bytes of the list were read
 abbrev pub ReadsOn : Option (List ℕ) → Option (List ℕ) → Type 0
@@ -53,4 +57,4 @@ ReadsOn old new = (bytes : List ℕ) × Consumes old new bytes
 
 -- the state of a list that is read through a buffer
 abbrev pub state_of : {R : Type 0} → (R → Option (List ℕ)) → Reader R → ListState
-state_of remaining list = record { left = reader_remaining remaining list.reader; failed = list.failed }
+state_of remaining list = record { left = reader_remaining remaining list.reader; stage = list.stage }

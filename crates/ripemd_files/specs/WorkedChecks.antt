@@ -246,7 +246,7 @@ pub record PrintedErrors (style : Style) (error : Error) : Type 0 where
 
 -- every name opens a file of these bytes, of which a read may fail as said
 abbrev pub one_file : List ℕ → (List ℕ → Error → Type 0) → Place (List ℕ)
-one_file bytes may_fail = record { opens = λ name file. file ≡ bytes; refuses = λ name error. ⊥; left = Some; may_fail = may_fail }
+one_file bytes may_fail = record { opens = λ name file. file ≡ bytes; refuses = λ name error. ⊥; left = Some; readable = λ file. ⊤; may_fail = may_fail }
 
 pub record KnownFolders (error : Error) : Type 0 where
   pub one : IsKnown (one_file (codes "hi") (λ file error. ⊥)) (λ name. Ok (codes "hi"))

@@ -10,7 +10,7 @@ ghost use Rattle.ripemd_files.specs.declared.printing.Style.{Style};
 ghost use Rattle.ripemd_files.specs.declared.verdict.Options.{Options};
 ghost use Rattle.ripemd_files.specs.declared.verdict.Tally.{Tally};
 ghost use Rattle.ripemd_files.specs.Determined.{IsKnown, Print, Report, Start};
-ghost use Rattle.ripemd_files.specs.Lists.{ended};
+ghost use Rattle.ripemd_files.specs.declared.piece.Stage.TheVariants.{Ended};
 ghost use Rattle.ripemd_files.specs.Said.{Item};
 ghost use Rattle.ripemd_files.specs.Contents.{IsDigest};
 ghost use Rattle.ripemd_files.specs.Checking.{Event};
@@ -23,8 +23,8 @@ pub fn one_report<F: Folder>(_folder: &F)
     // Reports that read the list to its end, or equally far, agree.
     ensures { (contents : List ℕ → Result (List ℕ) Error) (options : Options) (rules : Rules) (first : Option Layout) (start : Start)
         → IsKnown (F.place _folder.now) contents → (one other : Report (F.place _folder.now) options rules first start)
-        → one.checks.stage ≡ other.checks.stage
-        → one.checks.stage ≡ ended ⊎ (length one.checks.report.read.bytes ≡ length other.checks.report.read.bytes)
+        → one.left.stage ≡ other.left.stage
+        → one.left.stage ≡ Ended ⊎ (length one.checks.report.read.bytes ≡ length other.checks.report.read.bytes)
         → (one.last ≡ other.last) × (one.told.items ≡ other.told.items) × (one.success ≡ other.success) }
 {}
 

@@ -1,8 +1,9 @@
 //! The check of a list.
 
-ghost use Rattle.std.specs.Prelude.{◌≡◌, ◌&&◌, not, ◌<◌, ◌++◌, [], ◌∷◌, false, flat_map, get_or, length, IfErr, IfOk, IsErr, None, OnOk, List};
+ghost use Rattle.std.specs.Prelude.{◌≡◌, ◌&&◌, not, ◌<◌, ◌++◌, [], ◌∷◌, flat_map, get_or, length, IfErr, IfOk, IsErr, None, OnOk, List};
 ghost use Rattle.std.specs.List.{AllZip};
 ghost use Rattle.ripemd_batch.specs.Lanes.{targets};
+ghost use Rattle.ripemd_files.specs.declared.piece.Stage.TheVariants.{Among};
 ghost use Rattle.ripemd_files.specs.Files.{OfFirst};
 ghost use Rattle.ripemd_files.specs.Said.{Pends, Stops, Tells, about_list, written};
 ghost use Rattle.ripemd_files.specs.Lists.{ChecksList, StopsList};
@@ -13,16 +14,16 @@ use crate::digests::read_digests;
 use crate::fault::Fault;
 use crate::folder::Folder;
 use crate::line::{Layout, Line, Variant};
-use crate::list::{Cursor, Next, Rules, read_group};
+use crate::list::{Cursor, Rules, read_group};
 use crate::log::{Complaint, Log};
 use crate::outcome::Outcome;
-use crate::piece::ReadList;
+use crate::piece::{ReadList, Stage};
 use crate::printing::{new_buffer, put, remark_unreadable};
 use crate::verdict::{Options, Tally, Verdict};
 use crate::writing::push_text;
 use std::alloc::{AllocError, Global};
 
-/// Checks a list of which no read has failed: reads it, and the files that its lines name, writes a line for each
+/// Checks a list that may still be read: reads it, and the files that its lines name, writes a line for each
 /// file, and remarks on unreadable files, misformatted lines, and counts. Whether the check succeeds.
 ///
 /// `layout` holds the layout that the first untagged line of this or an earlier list decides.
@@ -45,12 +46,11 @@ pub fn check_list<F: Folder, R: ReadList, L: Log>(
     log: &mut L,
 ) -> Result<bool, Fault>
     requires told { (L.told log.old).failure ≡ None }
-    requires works { (R.state reader.old).failed ≡ false }
-    requires readable { R.is_readable reader.old }
+    requires readable { (R.state reader.old).stage ≡ Among }
     ensures ok { IfOk result (ChecksList (F.place folder.now) options rules layout.old layout.new
-        (R.state reader.old) (R.state reader.new) (L.told log.old) (L.told log.new)) }
+        (R.state reader.old).left (R.state reader.new) (L.told log.old) (L.told log.new)) }
     ensures err { IfErr result (StopsList (F.place folder.now) options rules layout.old
-        (R.state reader.old) (R.state reader.new) (L.told log.old) (L.told log.new)) }
+        (R.state reader.old).left (R.state reader.new).left (L.told log.old) (L.told log.new)) }
     ensures layout { IsErr result → layout.new ≡ layout.old }
 {
     let mut buffer = new_buffer(alloc)?;
@@ -86,16 +86,15 @@ fn check_groups<F: Folder, R: ReadList, L: Log>(
     requires told { (L.told log.old).failure ≡ None }
     requires room { 0 < length buffer.old }
     requires start { cursor.old.number ≡ 1 }
-    requires works { (R.state reader.old).failed ≡ false }
-    requires readable { R.is_readable reader.old }
+    requires readable { (R.state reader.old).stage ≡ Among }
     ensures ok { IfOk result (ChecksList (F.place folder.now) options rules cursor.old.layout cursor.new.layout
-        (R.state reader.old) (R.state reader.new) (L.told log.old) (L.told log.new)) }
+        (R.state reader.old).left (R.state reader.new) (L.told log.old) (L.told log.new)) }
     ensures err { IfErr result (StopsList (F.place folder.now) options rules cursor.old.layout
-        (R.state reader.old) (R.state reader.new) (L.told log.old) (L.told log.new)) }
+        (R.state reader.old).left (R.state reader.new).left (L.told log.old) (L.told log.new)) }
 {
     let mut tally = Tally::new();
     'groups: loop {
-        let group = read_group(alloc, folder, options.ignore_missing, rules, cursor, reader)?;
+        let group = read_group(alloc, rules, cursor, reader)?;
         check_lines(
             alloc,
             folder,
@@ -106,13 +105,13 @@ fn check_groups<F: Folder, R: ReadList, L: Log>(
             log,
         )?;
         check_misformatted(options, group.misformatted, &mut tally, log)?;
-        match group.next {
-            Next::More => {}
-            Next::Ended => {
+        match group.stage {
+            Stage::Among => {}
+            Stage::Ended => {
                 let success = close(options, &tally, log)?;
                 return Ok(success);
             }
-            Next::Failed => {
+            Stage::Failed => {
                 remark(log, Complaint::Unreadable)?;
                 return Ok(false);
             }

@@ -37,11 +37,11 @@ enum Content<T> {
 
 // Reads until the file ends or the buffer is full. How many bytes.
 fn fill<F: Folder>(folder: &F, file: &mut F::File, buffer: &mut [u8]) -> Result<usize, io::Error>
-    requires readable { F.is_readable folder.now file.old }
+    requires readable { (F.place folder.now).readable file.old }
     ensures ok { IfOk result (λ count. (count ≤ length buffer.new)
         × Consumes ((F.place folder.now).left file.old) ((F.place folder.now).left file.new) (take count buffer.new)
         × (count < length buffer.new → IsAtEnd ((F.place folder.now).left file.new))
-        × (count ≡ length buffer.new → F.is_readable folder.now file.new)) }
+        × (count ≡ length buffer.new → (F.place folder.now).readable file.new)) }
     ensures err { IfErr result (λ error. (bytes : List ℕ) × (now : F.File) × Consumes ((F.place folder.now).left file.old) ((F.place folder.now).left now) bytes
         × (F.place folder.now).may_fail now error) }
     ensures room { length buffer.new ≡ length buffer.old }
@@ -64,7 +64,7 @@ fn hash_rest<D: Digest, F: Folder>(
     file: &mut F::File,
     buffer: &mut [u8],
 ) -> Result<D::Output, io::Error>
-    requires readable { F.is_readable folder.now file.old }
+    requires readable { (F.place folder.now).readable file.old }
     requires room { 0 < length buffer.old }
     ensures ok { IfOk result (λ digest. (rest : List ℕ) × Consumes ((F.place folder.now).left file.old) ((F.place folder.now).left file.new) rest
         × IsAtEnd ((F.place folder.now).left file.new) × (length (buffer.old ++ rest) < 2 ^ 61)

@@ -1,6 +1,6 @@
 //! Where names are opened as files.
 
-ghost use Rattle.std.specs.Prelude.{◌<◌, ℕ, List, IfOk, IfErr, ⊤};
+ghost use Rattle.std.specs.Prelude.{◌<◌, IfOk, IfErr};
 ghost use Rattle.std.specs.Io.{ReadsAtMost};
 ghost use Rattle.std.specs.Io.KnownBytes.{ReadConsumes};
 ghost use Rattle.ripemd_files.specs.Files.{Place};
@@ -15,13 +15,10 @@ pub trait Folder {
     // The folder as contracts see it.
     ghost place: { Self → Place Self.File };
 
-    // Whether a file may still be read: not after a failed read or its end.
-    ghost is_readable: { Self → Self.File → Type 0 } = { λ folder file. ⊤ };
-
     /// Opens the file of a name.
     fn open(&self, name: &[u8]) -> io::Result<Self::File>
         ensures ok { IfOk result ((place self.now).opens name.now) }
-        ensures readable { IfOk result (is_readable self.now) }
+        ensures readable { IfOk result (place self.now).readable }
         ensures err { IfErr result ((place self.now).refuses name.now) };
 
     /// Whether the file of a name seems, before it is opened, to be a regular one of less than 64 KiB, for which
@@ -32,9 +29,9 @@ pub trait Folder {
     /// Reads bytes of a file to the front of the buffer, and answers how many: 0 at its end. No file is read after
     /// that, or after a failed read.
     fn read(&self, file: &mut Self::File, buffer: &mut [u8]) -> io::Result<usize>
-        requires readable { is_readable self.now file.old }
+        requires readable { (place self.now).readable file.old }
         ensures bound { ReadsAtMost result buffer.new }
         ensures bytes { ReadConsumes ((place self.now).left file.old) ((place self.now).left file.new) result buffer.new }
-        ensures readable { IfOk result (λ count. 0 < count → is_readable self.now file.new) }
+        ensures readable { IfOk result (λ count. 0 < count → (place self.now).readable file.new) }
         ensures err { IfErr result ((place self.now).may_fail file.old) };
 }

@@ -2,13 +2,13 @@
 
 ghost use Rattle.std.specs.Prelude.{◌≡◌, ◌≢◌, ◌↔◌, ◌+◌, ◌<◌, ◌^◌, ◌++◌, ◌∷◌, [], codes, false, length, IfErr, IfOk, IsFalse, IsTrue, OnOk};
 ghost use Rattle.ripemd_files.specs.Lists.{IsTaken, IsWanted, body_of_line, is_passed_over, layout_after};
-ghost use Rattle.ripemd_files.specs.Groups.{ExplainsReading, goes_on, IsEntry, ReadsGroup, StopsReading, Takes};
+ghost use Rattle.ripemd_files.specs.declared.piece.Stage.TheVariants.{Among};
+ghost use Rattle.ripemd_files.specs.Groups.{ExplainsReading, IsEntry, ReadsGroup, StopsReading, Takes};
 
 use crate::digests::GROUP;
 use crate::fault::Fault;
-use crate::folder::Folder;
 use crate::line::{Layout, Line, Variant};
-use crate::piece::{Piece, ReadList};
+use crate::piece::{Piece, ReadList, Stage};
 use crate::reading::read_line;
 use std::alloc::{AllocError, Global};
 
@@ -28,20 +28,12 @@ pub(crate) struct Cursor {
     pub number: u64,
 }
 
-// How a list goes on.
-#[derive(Clone, Copy)]
-pub(crate) enum Next {
-    More,
-    Ended,
-    Failed,
-}
-
-// Some lines, the number of a misformatted one after them, and how the list goes on.
+// Some lines, the number of a misformatted one after them, and how far the list was read with them.
 #[derive(Drop)]
 pub(crate) struct Group {
     pub lines: Vec<Line>,
     pub misformatted: Option<u64>,
-    pub next: Next,
+    pub stage: Stage,
 }
 
 // A line without a carriage return at its end.
@@ -111,16 +103,14 @@ fn read_entry(
 }
 
 // Adds what the next line says to `lines`. Its number, if it is misformatted.
-fn take_line<F: Folder>(
+fn take_line(
     alloc: Global,
-    _folder: &F,
-    ignore_missing: bool,
     rules: Rules,
     cursor: &mut Cursor,
     text: &[u8],
     lines: &mut Vec<Line>,
 ) -> Result<Option<u64>, Fault>
-    ensures takes { IfOk result (Takes (F.place _folder.now) ignore_missing rules cursor.old cursor.new text.now lines.old.items lines.new.items) }
+    ensures takes { IfOk result (Takes rules cursor.old cursor.new text.now lines.old.items lines.new.items) }
     ensures advances { OnOk result (cursor.new.number ≡ cursor.old.number + 1) }
     ensures bound { OnOk result (cursor.new.number < 2 ^ 64) }
     ensures err { IfErr result (ExplainsReading (cursor.old.number + 1) []) }
@@ -157,20 +147,14 @@ fn is_group<R: ReadList>(lines: &[Line], reader: &R) -> bool
 }
 
 // Reads lines until there are enough, one is misformatted, or the next is not at hand.
-#[tactic(auto, using(crate::proofs::Grouped::reads_nothing))]
-pub(crate) fn read_group<F: Folder, R: ReadList>(
+pub(crate) fn read_group<R: ReadList>(
     alloc: Global,
-    folder: &F,
-    ignore_missing: bool,
     rules: Rules,
     cursor: &mut Cursor,
     reader: &mut R,
 ) -> Result<Group, Fault>
-    requires works { (R.state reader.old).failed ≡ false }
-    requires readable { R.is_readable reader.old }
-    ensures ok { IfOk result (ReadsGroup (F.place folder.now) ignore_missing rules (R.state reader.old) (R.state reader.new)
-        cursor.old cursor.new) }
-    ensures readable { IfOk result (λ group. IsTrue (goes_on group.next) → R.is_readable reader.new) }
+    requires readable { (R.state reader.old).stage ≡ Among }
+    ensures ok { IfOk result (ReadsGroup rules (R.state reader.old).left (R.state reader.new) cursor.old cursor.new) }
     ensures err { IfErr result (StopsReading (R.state reader.old).left (R.state reader.new).left cursor.old.number) }
 {
     let mut lines = Vec::with_capacity(alloc, GROUP)?;
@@ -181,48 +165,34 @@ pub(crate) fn read_group<F: Folder, R: ReadList>(
                 return Ok(Group {
                     lines,
                     misformatted: None,
-                    next: Next::Ended,
+                    stage: Stage::Ended,
                 });
             }
             Piece::Failed(_) => {
                 return Ok(Group {
                     lines,
                     misformatted: None,
-                    next: Next::Failed,
+                    stage: Stage::Failed,
                 });
             }
             Piece::Last => {
-                let misformatted = take_line(
-                    alloc,
-                    folder,
-                    ignore_missing,
-                    rules,
-                    cursor,
-                    text.as_slice(),
-                    &mut lines,
-                )?;
+                let misformatted =
+                    take_line(alloc, rules, cursor, text.as_slice(), &mut lines)?;
                 return Ok(Group {
                     lines,
                     misformatted,
-                    next: Next::Ended,
+                    stage: Stage::Ended,
                 });
             }
             Piece::Whole => {
-                let misformatted = take_line(
-                    alloc,
-                    folder,
-                    ignore_missing,
-                    rules,
-                    cursor,
-                    text.as_slice(),
-                    &mut lines,
-                )?;
+                let misformatted =
+                    take_line(alloc, rules, cursor, text.as_slice(), &mut lines)?;
                 match misformatted {
                     Some(number) => {
                         return Ok(Group {
                             lines,
                             misformatted: Some(number),
-                            next: Next::More,
+                            stage: Stage::Among,
                         });
                     }
                     None => {}
@@ -233,6 +203,6 @@ pub(crate) fn read_group<F: Folder, R: ReadList>(
     Ok(Group {
         lines,
         misformatted: None,
-        next: Next::More,
+        stage: Stage::Among,
     })
 }

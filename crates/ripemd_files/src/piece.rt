@@ -1,10 +1,10 @@
 //! Texts, read piece by piece: lists by lines.
 
-ghost use Rattle.std.specs.Prelude.{◌≡◌, false, IfErr, IfOk, ⊤};
+ghost use Rattle.std.specs.Prelude.{◌≡◌, IfErr, IfOk};
 ghost use Rattle.std.specs.Io.Buffered.{reader_remaining};
 ghost use Rattle.std.specs.Io.BufRead.{ends_with_byte, strip_last};
-ghost use Rattle.ripemd_files.specs.Splitting.{IsPiece, ListState, ReadsOn, is_failure};
-ghost use Rattle.ripemd_files.specs.declared.piece.Piece.TheVariants.{Whole};
+ghost use Rattle.ripemd_files.specs.Splitting.{IsPiece, ListState, ReadsOn, stage_after};
+ghost use Rattle.ripemd_files.specs.declared.piece.Stage.TheVariants.{Among};
 
 use std::alloc::AllocError;
 use std::io;
@@ -21,6 +21,30 @@ pub enum Piece {
     Nothing,
     /// The front of a piece, which may be empty: a read failed with this error.
     Failed(io::Error),
+}
+
+/// How far a text was read.
+#[derive(Clone, Copy, PartialEq, Eq, Debug)]
+pub enum Stage {
+    /// More may follow.
+    Among,
+    /// To its end.
+    Ended,
+    /// To a read that failed.
+    Failed,
+}
+
+impl Piece {
+    // How far a text is read with this piece.
+    fn stage(self) -> Stage
+        ensures { result ≡ stage_after self }
+    {
+        match self {
+            Piece::Whole => Stage::Among,
+            Piece::Last | Piece::Nothing => Stage::Ended,
+            Piece::Failed(_) => Stage::Failed,
+        }
+    }
 }
 
 /// Replaces `text` by the next piece, without the byte `end` that ends it.
@@ -67,11 +91,8 @@ fn pop(text: &mut Vec<u8>, end: u8) -> bool
 
 /// A list, as it is read.
 pub trait ReadList {
-    // What is left of it, and whether a read failed.
+    // What is left of it, and how far it was read.
     ghost state: { Self → ListState };
-
-    // Whether it may still be read: not after its end.
-    ghost is_readable: { Self → Type 0 } = { λ list. ⊤ };
 
     /// Whether the next line is at hand, so that reading it does not wait. Before a read that may wait, what earlier
     /// lines say is written.
@@ -83,11 +104,9 @@ pub trait ReadList {
     ///
     /// `AllocError` if memory is exhausted.
     fn read_line(&mut self, text: &mut Vec<u8>) -> Result<Piece, AllocError>
-        requires works { (state self.old).failed ≡ false }
-        requires readable { is_readable self.old }
+        requires readable { (state self.old).stage ≡ Among }
         ensures piece { IfOk result (IsPiece 10 (state self.old).left (state self.new).left text.new.items) }
-        ensures failed { IfOk result (λ piece. (state self.new).failed ≡ is_failure piece) }
-        ensures readable { IfOk result (λ piece. piece ≡ Whole → is_readable self.new) }
+        ensures stage { IfOk result (λ piece. (state self.new).stage ≡ stage_after piece) }
         ensures err { IfErr result (λ _. ReadsOn (state self.old).left (state self.new).left) };
 }
 
@@ -95,20 +114,20 @@ pub trait ReadList {
 #[derive(Drop)]
 pub struct List<R> {
     reader: BufReader<R>,
-    failed: bool,
+    stage: Stage,
 }
 
 impl<R: Read> List<R> {
     ghost use Rattle.ripemd_files.specs.Splitting.{state_of};
 
-    /// A list of which no read has failed. Its buffer must have room.
+    /// A list of which nothing was read. Its buffer must have room.
     pub fn new(reader: BufReader<R>) -> List<R>
-        ensures works { (state_of R.remaining result).failed ≡ false }
+        ensures stage { (state_of R.remaining result).stage ≡ Among }
         ensures left { (state_of R.remaining result).left ≡ reader_remaining R.remaining reader }
     {
         List {
             reader,
-            failed: false,
+            stage: Stage::Among,
         }
     }
 }
@@ -124,7 +143,7 @@ impl<R: Read> ReadList for List<R> {
 
     fn read_line(&mut self, text: &mut Vec<u8>) -> Result<Piece, AllocError> {
         let piece = read_piece(&mut self.reader, b'\n', text)?;
-        self.failed = matches!(piece, Piece::Failed(_));
+        self.stage = piece.stage();
         Ok(piece)
     }
 }

@@ -1,7 +1,8 @@
 //! Checks of lists in memory. The digests are the authors'.
 
-ghost use Rattle.std.specs.Prelude.{◌≡◌, false, None};
+ghost use Rattle.std.specs.Prelude.{◌≡◌, None};
 ghost use Rattle.ripemd_files.specs.Splitting.{state_of};
+ghost use Rattle.ripemd_files.specs.declared.piece.Stage.TheVariants.{Among};
 
 use crate::doubles::{Bytes, Calls, Memory, Page, list_of};
 use ripemd_files::checking::check_list;
@@ -50,7 +51,7 @@ fn check(
     calls: Calls,
     page: &mut Page,
 ) -> Result<bool, Fault>
-    requires list { (state_of (λ bytes. None) list).failed ≡ false }
+    requires list { (state_of (λ bytes. None) list).stage ≡ Among }
     requires page { page.old.failure ≡ None }
 {
     let memory = Memory {

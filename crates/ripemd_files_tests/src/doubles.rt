@@ -1,9 +1,9 @@
 //! A folder, a list and a log in memory, which fail when they are told to.
 
-ghost use Rattle.std.specs.Prelude.{◌≡◌, false, IfErr, IfOk, None, OnOk, Some};
+ghost use Rattle.std.specs.Prelude.{◌≡◌, false, IfErr, IfOk, None, OnOk, Some, ⊤};
 ghost use Rattle.ripemd_files.specs.Splitting.{state_of};
+ghost use Rattle.ripemd_files.specs.declared.piece.Stage.TheVariants.{Among};
 ghost use Rattle.std.specs.Io.{ReadsAtMost};
-ghost use Rattle.ripemd_files.specs.Files.{any_place};
 
 use ripemd_files::folder::Folder;
 use ripemd_files::log::{Complaint, Log};
@@ -50,22 +50,27 @@ pub struct Memory<'a> {
     pub calls: Calls,
 }
 
-/// What an opened file has left.
+/// What an opened file has left, and whether it was read to its end or to a failed read.
 #[derive(Drop)]
 pub struct Opened<'a> {
     rest: &'a [u8],
+    is_over: bool,
 }
 
 impl<'a> Folder for Memory<'a> {
     type File = Opened<'a>;
 
-    ghost place = { λ memory. any_place };
+    ghost place = { λ memory. record { opens = λ name file. ⊤; refuses = λ name error. ⊤; left = λ file. None; readable = λ file. file.is_over ≡ false;
+        may_fail = λ file error. ⊤ } };
 
     fn open(&self, name: &[u8]) -> io::Result<Opened<'a>> {
         self.calls.make()?;
         for (known, bytes) in self.files {
             if **known == *name {
-                return Ok(Opened { rest: bytes });
+                return Ok(Opened {
+                    rest: bytes,
+                    is_over: false,
+                });
             }
         }
         Err(io::Error::from(ErrorKind::NotFound))
@@ -81,8 +86,11 @@ impl<'a> Folder for Memory<'a> {
     }
 
     fn read(&self, file: &mut Opened<'a>, buffer: &mut [u8]) -> io::Result<usize> {
+        file.is_over = true;
         self.calls.make()?;
-        take(&mut file.rest, buffer)
+        let count = take(&mut file.rest, buffer)?;
+        file.is_over = count == 0;
+        Ok(count)
     }
 }
 
@@ -114,7 +122,7 @@ pub fn list_of(
     at_hand: usize,
     failing: usize,
 ) -> io::Result<List<Bytes<'_>>>
-    ensures { IfOk result (λ list. (state_of (λ bytes. None) list).failed ≡ false) }
+    ensures { IfOk result (λ list. (state_of (λ bytes. None) list).stage ≡ Among) }
 {
     let bytes = Bytes {
         rest,

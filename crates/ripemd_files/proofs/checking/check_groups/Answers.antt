@@ -1,5 +1,5 @@
-use Rattle.std.proofs.Common.{rules, arith, ap, refl}
-use Rattle.ripemd_files.specs.Groups.{goes_on}
+use Rattle.std.proofs.Common.{rules, arith, refl, ◌∙◌}
+use Rattle.ripemd_files.specs.declared.piece.Stage.TheVariants.{Ended, Failed}
 use Rattle.ripemd_files.proofs.Checked.{checks_begin, checks_on, checks_over, stops_lines, stops_misformatted, stops_over, stops_reading_list}
 use Rattle.ripemd_files.proofs.checking.check_groups.Goals as goal
 
@@ -13,9 +13,9 @@ groups-init g c = record {
 pub groups-preserved : goal.groups-preserved
 groups-preserved g c = record {
   so_far = checks_on c.groups.invariant.so_far c.requires.start c.in_ok-group.ensures.ok c.as_slice.ensures.value c.in_ok-check_lines.ensures.ok
-      c.in_ok-check_misformatted.ensures.told c.in_ok-check_misformatted.ensures.counts c.in-More.is;
-  readable = c.in_ok-group.ensures.readable (search (rules, ap goes_on c.in-More.is));
-  bounded = c.in_ok-group.ensures.ok.bounded (search (rules, ap goes_on c.in-More.is));
+      c.in_ok-check_misformatted.ensures.told c.in_ok-check_misformatted.ensures.counts c.in-Among.is;
+  readable = c.in_ok-group.ensures.ok.stage ∙ c.in-Among.is;
+  bounded = c.in_ok-group.ensures.ok.bounded c.in-Among.is;
 }
 
 pub returns-in_err-group-clause-err : goal.returns-in_err-group-clause-err
@@ -31,21 +31,21 @@ returns-in_err-check_misformatted-clause-err g c =
 pub returns-in-Ended-clause-ok : goal.returns-in-Ended-clause-ok
 returns-in-Ended-clause-ok g c =
     checks_over c.groups.invariant.so_far c.requires.start c.in_ok-group.ensures.ok c.as_slice.ensures.value c.in_ok-check_lines.ensures.ok
-    c.in_ok-check_misformatted.ensures.told c.in_ok-check_misformatted.ensures.counts c.in-Ended.is refl c.in_ok-success-in-Ended.ensures.told c.in_ok-success-in-Ended.ensures.success
+    c.in_ok-check_misformatted.ensures.told c.in_ok-check_misformatted.ensures.counts Ended c.in-Ended.is (search rules) c.in_ok-success-in-Ended.ensures.told c.in_ok-success-in-Ended.ensures.success
 
 pub returns-in_err-success-in-Ended-clause-err : goal.returns-in_err-success-in-Ended-clause-err
 returns-in_err-success-in-Ended-clause-err g c =
     let stops = stops_over c.groups.invariant.so_far c.requires.start c.in_ok-group.ensures.ok c.as_slice.ensures.value c.in_ok-check_lines.ensures.ok
-    c.in_ok-check_misformatted.ensures.told c.in_ok-check_misformatted.ensures.counts c.in-Ended.is c.in_err-success-in-Ended.ensures.err in
+    c.in_ok-check_misformatted.ensures.told c.in_ok-check_misformatted.ensures.counts Ended c.in-Ended.is c.in_err-success-in-Ended.ensures.err in
     search (rules, stops)
 
 pub returns-in-Failed-clause-ok : goal.returns-in-Failed-clause-ok
 returns-in-Failed-clause-ok g c =
     checks_over c.groups.invariant.so_far c.requires.start c.in_ok-group.ensures.ok c.as_slice.ensures.value c.in_ok-check_lines.ensures.ok
-    c.in_ok-check_misformatted.ensures.told c.in_ok-check_misformatted.ensures.counts c.in-Failed.is refl c.in_ok-remark-in-Failed.ensures.told refl
+    c.in_ok-check_misformatted.ensures.told c.in_ok-check_misformatted.ensures.counts Failed c.in-Failed.is (search rules) c.in_ok-remark-in-Failed.ensures.told refl
 
 pub returns-in_err-remark-in-Failed-clause-err : goal.returns-in_err-remark-in-Failed-clause-err
 returns-in_err-remark-in-Failed-clause-err g c =
     let stops = stops_over c.groups.invariant.so_far c.requires.start c.in_ok-group.ensures.ok c.as_slice.ensures.value c.in_ok-check_lines.ensures.ok
-    c.in_ok-check_misformatted.ensures.told c.in_ok-check_misformatted.ensures.counts c.in-Failed.is c.in_err-remark-in-Failed.ensures.err in
+    c.in_ok-check_misformatted.ensures.told c.in_ok-check_misformatted.ensures.counts Failed c.in-Failed.is c.in_err-remark-in-Failed.ensures.err in
     search (rules, stops)

@@ -7,7 +7,7 @@ invariant-loop-count g l = record {
   same : length l.buffer ≡ length l.initial.buffer;
   within : l.count ≤ length l.buffer;
   taken : Consumes ((g.F.Folder.place l.folder).left l.initial.file) ((g.F.Folder.place l.folder).left l.file) (take l.count l.buffer);
-  readable : g.F.Folder.is_readable l.folder l.file;
+  readable : (g.F.Folder.place l.folder).readable l.file;
 }
 
 abbrev pub decreases-loop-count : goal.decreases-loop-count

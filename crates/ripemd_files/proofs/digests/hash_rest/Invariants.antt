@@ -7,7 +7,7 @@ abbrev pub invariant-loop-length : goal.invariant-loop-length
 invariant-loop-length g l = record {
   hashed : Hashed ((g.F.Folder.place l.folder).left l.initial.file) ((g.F.Folder.place l.folder).left l.file)
       (λ message. IsHashing g.D.Digest.start g.D.Digest.step message (g.D.HashMeaning.meaning l.hasher)) l.initial.buffer l.length;
-  readable : g.F.Folder.is_readable l.folder l.file;
+  readable : (g.F.Folder.place l.folder).readable l.file;
 }
 
 abbrev pub decreases-loop-length : goal.decreases-loop-length

@@ -19,5 +19,5 @@ comes_to bytes_of place hash name _ _ is follows = absurd follows
 
 pub returns : goal.returns
 returns g c =
-    first_through _ _ _ _ _ _ (comes_to _ _ _) c.in_ok-contents.ensures
+    first_through _ _ _ _ _ _ (comes_to _ (g.F.Folder.place c.args.folder.now) _) c.in_ok-contents.ensures
     (all_first _ _ _ (rw c.as_slice-3.ensures.value at c.in_ok-outcomes.ensures))

@@ -1,18 +1,18 @@
-use Rattle.std.proofs.Common.{rules, refl}
+use Rattle.std.proofs.Common.{rules}
 use Rattle.ripemd_files.proofs.Listed.{takes_misformatted, takes_said, takes_skipped}
 use Rattle.ripemd_files.proofs.list.take_line.Goals as goal
 
 pub returns-then-is_skipped-clause-takes : goal.returns-then-is_skipped-clause-takes
-returns-then-is_skipped-clause-takes g c =
-    takes_skipped _ _ _ c.args.cursor.now _ c.args.text.now (search rules) refl (search rules) _
+returns-then-is_skipped-clause-takes c =
+    takes_skipped _ c.args.cursor.now _ c.args.text.now (search rules) (search rules) _
 
 pub returns-in-None-clause-takes : goal.returns-in-None-clause-takes
-returns-in-None-clause-takes g c =
-    takes_misformatted _ _ _ c.args.cursor.now _ c.args.text.now c.read_entry.ensures.layout refl (search rules)
+returns-in-None-clause-takes c =
+    takes_misformatted _ c.args.cursor.now _ c.args.text.now c.read_entry.ensures.layout (search rules)
     (rw c.in-None.is at c.in_ok-read_entry.ensures.entry) _
 
 pub returns-in_ok-push_line-in-Some-clause-takes : goal.returns-in_ok-push_line-in-Some-clause-takes
-returns-in_ok-push_line-in-Some-clause-takes g c =
+returns-in_ok-push_line-in-Some-clause-takes c =
     rw c.in_ok-push_line-in-Some.ensures
-    (takes_said _ _ _ c.args.cursor.now _ c.args.text.now c.read_entry.ensures.layout refl c.in-Some.line (search rules)
+    (takes_said _ c.args.cursor.now _ c.args.text.now c.read_entry.ensures.layout (search rules) c.in-Some.line
     (rw c.in-Some.is at c.in_ok-read_entry.ensures.entry) _)
