@@ -1,31 +1,34 @@
 -- What arguments say, one after another.
-use Rattle.std.proofs.Common.{◌≡◌, List, ◌∷◌, ◌++◌, ℕ, Bool, map, drop, get_or, length, ◌<◌, ◌+◌, vec_items, refl, sym, ap, ◌∙◌, append_assoc, Global}
-use Rattle.std.specs.Prelude.{Vec}
-use Rattle.std.proofs.lemmas.List.{drop_more}
+use Rattle.std.proofs.Common.{◌≡◌, List, [], ◌∷◌, ◌++◌, Result, Ok, IsErr, refl, arith}
+use mathlib.Core.List.{reverse_aux}
 use Rattle.rmdsum.specs.declared.arguments.Next.{Next}
+use Rattle.rmdsum.specs.declared.arguments.Stop.{Stop}
+use Rattle.rmdsum.specs.declared.request.Request.{Request}
+use Rattle.rmdsum.specs.declared.request.Settings.{Settings}
 use Rattle.rmdsum.specs.Words.{Said}
-use Rattle.rmdsum.specs.Arguments.{Reading, added, then_reads, reading, says}
-use Rattle.rmdsum.specs.Arguments.Reading.{Goes, Stops}
+use Rattle.rmdsum.specs.Asked.{Asks, Holds}
+use Rattle.rmdsum.specs.Arguments.{Reading, then_reads, Answers, Reads}
 
-added_twice : (first second : List Said) (given : Reading) → added first (added second given) ≡ added (first ++ second) given
-added_twice first second (Goes words next) = ap (λ all. Goes all next) (sym (append_assoc first second words))
-added_twice first second (Stops why) = refl
+turned : (words more earlier : List Said) → reverse_aux (words ++ more) earlier ≡ reverse_aux more (reverse_aux words earlier)
+turned [] more earlier = refl
+turned (word ∷ words) more earlier = turned words more (word ∷ earlier)
 
--- what stands after an argument that was read
-pub added_read : (before after : List Said) (given : Reading) (next : Next) (rest : Next → Reading)
-    → added before given ≡ Goes after next → added before (then_reads given rest) ≡ added after (rest next)
-added_read before after (Goes words first) next rest read =
-    added_twice before words (rest first) ∙ cc read
-added_read before after (Stops why) next rest read = cc read
+-- from here the rest is read as the whole is from the start
+abbrev pub ReadsOn : Reading → Settings → Reading → Settings → Type 0
+ReadsOn whole start rest now = (after : Settings) (result : Result Next Stop) → Reads rest now after result → Reads whole start after result
 
--- one argument more
-pub one_more : (last : Bool) (whole : Reading) (before after : List Said) (now next : Next) (arguments : List (Vec ℕ Global)) (i : ℕ)
-    (argument : Vec ℕ Global) → i < length arguments → get_or arguments i argument ≡ argument
-    → whole ≡ added before (reading last now (map vec_items (drop i arguments)))
-    → added before (says last now (vec_items argument)) ≡ Goes after next
-    → whole ≡ added after (reading last next (map vec_items (drop (i + 1) arguments)))
-one_more last whole before after now next arguments i argument within is was read =
-    was ∙ ap (λ list. added before (reading last now (map vec_items list))) (drop_more arguments i argument within)
-    ∙ ap (λ first. added before (reading last now (map vec_items (first ∷ drop (i + 1) arguments)))) is
-    ∙ added_read before after (says last now (vec_items argument)) next
-    (λ following. reading last following (map vec_items (drop (i + 1) arguments))) read
+-- what is read after what was read
+pub then_read : (given : Reading) (rest : Next → Reading) (before now : Settings) (next : Next)
+    → Reads given before now (Ok next) → ReadsOn (then_reads given rest) before (rest next) now
+then_read given rest before now next reads after result more = grind (arith, turned)
+
+-- or nothing is read after it
+pub then_stops : (given : Reading) (rest : Next → Reading) (before after : Settings) (result : Result Next Stop)
+    → IsErr result → Reads given before after result → Reads (then_reads given rest) before after result
+then_stops given rest before after result fails reads = grind arith
+
+-- what was read is asked for
+pub asked : (given : Reading) (before after : Settings) (next : Next) (request : Request)
+    → Reads given before after (Ok next) → Holds [] before → ((words : List Said) → Holds words after → Asks words request)
+    → Answers given (Ok request)
+asked given before after next request reads holds asks = grind arith

@@ -1,5 +1,6 @@
 -- What the program's arguments say, by the rules of `getopt_long`.
-use Rattle.std.specs.Prelude.{◌≡◌, ℕ, ◌*◌, ◌==◌, Bool, true, false, if◌then◌else◌, List, [], ◌∷◌, ◌++◌, map, reverse, Option, Some, None, bytes_eq, Result, Ok, Err, ⊤}
+use Rattle.std.specs.Prelude.{◌≡◌, ℕ, ◌*◌, ◌==◌, Bool, true, false, if◌then◌else◌, List, [], ◌∷◌, ◌++◌, reverse, Option, Some, None, bytes_eq, Result, Ok, Err, ⊤}
+use mathlib.Core.List.{reverse_aux}
 use Rattle.std.specs.Fmt.{decimal}
 use Rattle.ripemd_files.specs.Lines.{bits_of, size_of}
 use Rattle.ripemd_files.specs.declared.line.Variant.{Variant}
@@ -22,10 +23,10 @@ use Rattle.rmdsum.specs.declared.request.Request.{Request}
 use Rattle.rmdsum.specs.declared.request.Request.TheVariants as requests
 use Rattle.rmdsum.specs.declared.request.Refusal.TheVariants as refusals
 use Rattle.rmdsum.specs.Options.{by_letter, by_name}
-use Rattle.rmdsum.specs.Words.{Said, said}
-use Rattle.rmdsum.specs.declared.request.Word.{Word}
+use Rattle.rmdsum.specs.declared.request.Settings.{Settings}
+use Rattle.rmdsum.specs.Words.{Said}
 use Rattle.rmdsum.specs.Words.Said.{Sets, Hashes, NamedIn, Names}
-use Rattle.rmdsum.specs.Asked.{Asks, IsRefused}
+use Rattle.rmdsum.specs.Asked.{Asks, IsRefused, Holds}
 
 -- ---- the names of the variants
 
@@ -163,14 +164,6 @@ reading last next (argument ∷ arguments) = then_reads (says last next argument
 
 -- ---- the answer
 
--- these words are added to what was said
-abbrev pub Reads : Reading → List Said → List Said → Next → Type 0
-Reads given before after next = added before given ≡ Goes after next
-
--- these words are said, and no value is missing
-abbrev pub Says : Reading → List Word → Type 0
-Says given words = (next : Next) × (given ≡ Goes (map said words) next)
-
 -- the reason that a misuse names, if arguments alone give it
 abbrev pub why_of : Misuse → Why
 why_of (misuses.UnknownLong text) = UnknownLong text.items
@@ -191,9 +184,12 @@ Answers (Stops AsksVersion) (Ok requests.Version) = ⊤
 Answers (Stops why) (Ok request) = true ≡ false
 Answers (Stops why) (Err misuse) = why_of misuse ≡ why
 
--- no more arguments are read for this reason; or memory is exhausted
-abbrev pub IsStop : Reading → Stop → Type 0
-IsStop given stops.Help = given ≡ Stops AsksHelp
-IsStop given stops.Version = given ≡ Stops AsksVersion
-IsStop given (stops.Misuse misuse) = given ≡ Stops (why_of misuse)
-IsStop given stops.OutOfMemory = ⊤
+-- what was read is added to what the settings hold, of which the last comes first, and this is next, or why nothing is; or memory is exhausted
+abbrev pub Reads : Reading → Settings → Settings → Result Next Stop → Type 0
+Reads (Goes words next) before after (Ok now) = (next ≡ now) × ((earlier : List Said) → Holds earlier before → Holds (reverse_aux words earlier) after)
+Reads (Goes words next) before after (Err stop) = stop ≡ stops.OutOfMemory
+Reads (Stops why) before after (Ok now) = true ≡ false
+Reads (Stops why) before after (Err stops.Help) = why ≡ AsksHelp
+Reads (Stops why) before after (Err stops.Version) = why ≡ AsksVersion
+Reads (Stops why) before after (Err (stops.Misuse misuse)) = why ≡ why_of misuse
+Reads (Stops why) before after (Err stops.OutOfMemory) = ⊤

@@ -1,5 +1,5 @@
 -- Options with their values, and operands: what arguments say.
-use Rattle.std.specs.Prelude.{ℕ, Bool, false, List, [], ◌∷◌, ◌++◌, Option, Some, None, bytes_eq, vec_items}
+use Rattle.std.specs.Prelude.{ℕ, Bool, false, List, [], ◌∷◌, ◌++◌, Option, Some, None, bytes_eq}
 use Rattle.std.specs.List.{list_any}
 use Rattle.std.specs.Option.{option_or}
 use Rattle.ripemd_files.specs.declared.line.Variant.{Variant}
@@ -10,8 +10,6 @@ use Rattle.rmdsum.specs.declared.request.Mode.{Mode}
 use Rattle.rmdsum.specs.declared.request.Mode.TheVariants as modes
 use Rattle.rmdsum.specs.declared.request.Telling.{Telling}
 use Rattle.rmdsum.specs.declared.request.Telling.TheVariants as tellings
-use Rattle.rmdsum.specs.declared.request.Word.{Word}
-use Rattle.rmdsum.specs.declared.request.Word.TheVariants.{Set, Hash, NamesIn, File}
 
 -- an option without a value, a hash, the name of a file that has names, the name of a file
 pub data Said : Type 0 where
@@ -19,12 +17,6 @@ pub data Said : Type 0 where
   Hashes : Variant → Said
   NamedIn : List ℕ → Said
   Names : List ℕ → Said
-
-abbrev pub said : Word → Said
-said (Set flag) = Sets flag
-said (Hash variant) = Hashes variant
-said (NamesIn file) = NamedIn (vec_items file)
-said (File name) = Names (vec_items name)
 
 -- this option is set, which its name tells
 abbrev pub sets : Flag → Said → Bool

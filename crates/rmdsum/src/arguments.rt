@@ -1,14 +1,12 @@
 //! What the arguments of the program ask for.
 
-ghost use Rattle.std.specs.Prelude.{◌≡◌, [], ◌∷◌, IfOk, IfErr, map, vec_items};
+ghost use Rattle.std.specs.Prelude.{◌≡◌, IfOk, map, vec_items};
 ghost use Rattle.rmdsum.specs.declared.arguments.Stop.TheVariants.{OutOfMemory};
 ghost use Rattle.rmdsum.specs.declared.arguments.Next.TheVariants.{Any};
-ghost use Rattle.rmdsum.specs.Words.{said};
-ghost use Rattle.rmdsum.specs.Arguments.Reading.{Goes};
-ghost use Rattle.rmdsum.specs.Arguments.{variant_named, Answers, Reads, IsStop, Says, reading, says, any_says, option_says, long_says, letters_say, flag_says, value_says};
+ghost use Rattle.rmdsum.specs.Arguments.{variant_named, Answers, Reads, reading, says, long_says, letters_say, flag_says, value_says};
 
 use crate::refusals::Misuse;
-use crate::request::{Refusal, Request, Word, request_of};
+use crate::request::{Mode, Refusal, Request, Settings, Telling};
 use crate::switches::{Flag, Found, Parameter, Switch, around_equals, find_long, find_short};
 use ripemd_files::Variant;
 use std::alloc::{AllocError, Global};
@@ -82,6 +80,7 @@ fn argument(env: &impl Env, alloc: Global, place: usize) -> Result<Option<Vec<u8
 
 /// What the arguments after the program's name ask for, by the rules of `getopt_long` and `sha256sum`. Long names may
 /// be cut short. Options may follow operands, but with `operands_last` the first operand ends them.
+#[tactic(auto, using(crate::proofs::Readings::asked))]
 pub fn parse(
     alloc: Global,
     operands_last: bool,
@@ -89,34 +88,39 @@ pub fn parse(
 ) -> Result<Result<Request, Misuse>, AllocError>
     ensures { IfOk result (Answers (reading operands_last Any (map vec_items arguments.now))) }
 {
-    let words = match read_all(alloc, operands_last, arguments) {
-        Ok(words) => words,
+    let mut settings = Settings::new(alloc);
+    match read_all(alloc, operands_last, arguments, &mut settings) {
+        Ok(_) => {}
         Err(Stop::Help) => return Ok(Ok(Request::Help)),
         Err(Stop::Version) => return Ok(Ok(Request::Version)),
         Err(Stop::Misuse(misuse)) => return Ok(Err(misuse)),
         Err(Stop::OutOfMemory) => return Err(AllocError),
-    };
-    match request_of(alloc, words) {
+    }
+    match settings.request(alloc) {
         Ok(request) => Ok(Ok(request)),
         Err(Refusal::Misuse(misuse)) => Ok(Err(misuse)),
         Err(Refusal::OutOfMemory) => Err(AllocError),
     }
 }
 
-// What the arguments say.
-fn read_all(alloc: Global, operands_last: bool, arguments: &[Vec<u8>]) -> Result<Vec<Word>, Stop>
-    ensures ok { IfOk result (λ words. Says (reading operands_last Any (map vec_items arguments.now)) words.items) }
-    ensures err { IfErr result (IsStop (reading operands_last Any (map vec_items arguments.now))) }
+// Adds what the arguments say.
+#[tactic(auto, using(std::proofs::lemmas::Grind::common_steps, crate::proofs::Readings::then_read, crate::proofs::Readings::then_stops))]
+fn read_all(
+    alloc: Global,
+    operands_last: bool,
+    arguments: &[Vec<u8>],
+    settings: &mut Settings,
+) -> Result<Next, Stop>
+    ensures { Reads (reading operands_last Any (map vec_items arguments.now)) settings.old settings.new result }
 {
-    let mut words = Vec::new(alloc);
     let mut next = Next::Any;
     for argument in arguments {
-        next = read(alloc, operands_last, next, argument.as_slice(), &mut words)?;
+        next = read(alloc, operands_last, next, argument.as_slice(), settings)?;
     }
     match next {
         Next::Value(parameter) => Err(Stop::Misuse(Misuse::MissingValue(parameter))),
         Next::ShortValue(_, letter) => Err(Stop::Misuse(Misuse::MissingShortValue(letter))),
-        Next::Any | Next::Operand => Ok(words),
+        Next::Any | Next::Operand => Ok(next),
     }
 }
 
@@ -126,98 +130,63 @@ fn read(
     operands_last: bool,
     next: Next,
     argument: &[u8],
-    words: &mut Vec<Word>,
+    settings: &mut Settings,
 ) -> Result<Next, Stop>
-    ensures ok { IfOk result (Reads (says operands_last next argument.now) (map said words.old.items) (map said words.new.items)) }
-    ensures err { IfErr result (IsStop (says operands_last next argument.now)) }
+    ensures { Reads (says operands_last next argument.now) settings.old settings.new result }
 {
-    match next {
-        Next::Operand => {
-            add(
-                Word::File(Vec::from_slice(alloc, argument)?),
-                Next::Operand,
-                words,
-            )
+    match (next, argument) {
+        (Next::Value(parameter) | Next::ShortValue(parameter, _), _) => {
+            add_parameter(alloc, parameter, argument, settings)
         }
-        Next::Value(parameter) | Next::ShortValue(parameter, _) => {
-            add_parameter(alloc, parameter, argument, words)
+        (Next::Any, [b'-', b'-']) => Ok(Next::Operand),
+        (Next::Any, [b'-', b'-', text @ ..]) => read_long(alloc, text, settings),
+        (Next::Any, [b'-', letters @ ..]) if !letters.is_empty() => {
+            read_short(alloc, letters, settings)
         }
-        Next::Any => read_any(alloc, operands_last, argument, words),
-    }
-}
-
-// Adds what an option or an operand says.
-fn read_any(
-    alloc: Global,
-    operands_last: bool,
-    argument: &[u8],
-    words: &mut Vec<Word>,
-) -> Result<Next, Stop>
-    ensures ok { IfOk result (Reads (any_says operands_last argument.now) (map said words.old.items) (map said words.new.items)) }
-    ensures err { IfErr result (IsStop (any_says operands_last argument.now)) }
-{
-    match argument {
-        [b'-', text @ ..] if !text.is_empty() => read_option(alloc, text, words),
         _ => {
-            let next = if operands_last {
-                Next::Operand
-            } else {
-                Next::Any
-            };
-            add(Word::File(Vec::from_slice(alloc, argument)?), next, words)
+            let name = Vec::from_slice(alloc, argument)?;
+            settings.names.push(name).map_err(|_| Stop::OutOfMemory)?;
+            Ok(if operands_last { Next::Operand } else { next })
         }
-    }
-}
-
-// `text` follows the hyphen.
-fn read_option(alloc: Global, text: &[u8], words: &mut Vec<Word>) -> Result<Next, Stop>
-    ensures ok { IfOk result (Reads (option_says text.now) (map said words.old.items) (map said words.new.items)) }
-    ensures err { IfErr result (IsStop (option_says text.now)) }
-{
-    match text {
-        [b'-'] => Ok(Next::Operand),
-        [b'-', name @ ..] => read_long(alloc, name, words),
-        _ => read_short(alloc, text, words),
     }
 }
 
 // `text` follows `--`.
-fn read_long(alloc: Global, text: &[u8], words: &mut Vec<Word>) -> Result<Next, Stop>
-    ensures ok { IfOk result (Reads (long_says text.now) (map said words.old.items) (map said words.new.items)) }
-    ensures err { IfErr result (IsStop (long_says text.now)) }
+fn read_long(alloc: Global, text: &[u8], settings: &mut Settings) -> Result<Next, Stop>
+    ensures { Reads (long_says text.now) settings.old settings.new result }
 {
     let (name, value) = around_equals(text);
     match find_long(name) {
         Found::Nothing => Err(Stop::Misuse(Misuse::UnknownLong(Vec::from_slice(alloc, text)?))),
         Found::Several => Err(Stop::Misuse(Misuse::Ambiguous(Vec::from_slice(alloc, text)?))),
         Found::One(Switch::Flag(flag)) => match value {
-            None => add_flag(flag, words),
+            None => add_flag(flag, settings),
             Some(_) => Err(Stop::Misuse(Misuse::UnwantedValue(flag))),
         },
         Found::One(Switch::Parameter(parameter)) => match value {
             None => Ok(Next::Value(parameter)),
-            Some(value) => add_parameter(alloc, parameter, value, words),
+            Some(value) => add_parameter(alloc, parameter, value, settings),
         },
     }
 }
 
 // `letters` follow the hyphen. A value follows its letter, or is the next argument.
-fn read_short(alloc: Global, letters: &[u8], words: &mut Vec<Word>) -> Result<Next, Stop>
-    ensures ok { IfOk result (Reads (letters_say letters.now) (map said words.old.items) (map said words.new.items)) }
-    ensures err { IfErr result (IsStop (letters_say letters.now)) }
+#[tactic(auto, using(std::proofs::lemmas::Grind::common_steps, crate::proofs::Readings::then_read))]
+fn read_short(alloc: Global, letters: &[u8], settings: &mut Settings) -> Result<Next, Stop>
+    ensures { Reads (letters_say letters.now) settings.old settings.new result }
 {
     for (place, letter) in letters.iter().enumerate() {
         match find_short(*letter) {
             None => return Err(Stop::Misuse(Misuse::UnknownShort(*letter))),
             Some(Switch::Flag(flag)) => {
-                add_flag(flag, words)?;
+                add_flag(flag, settings)?;
             }
             Some(Switch::Parameter(parameter)) => {
                 let value = &letters[place + 1..];
                 if value.is_empty() {
                     return Ok(Next::ShortValue(parameter, *letter));
                 }
-                return add_parameter(alloc, parameter, value, words);
+                return add_parameter(alloc, parameter, value, settings);
             }
         }
     }
@@ -225,51 +194,49 @@ fn read_short(alloc: Global, letters: &[u8], words: &mut Vec<Word>) -> Result<Ne
 }
 
 // `--help` and `--version` end the reading.
-fn add_flag(flag: Flag, words: &mut Vec<Word>) -> Result<Next, Stop>
-    ensures ok { IfOk result (Reads (flag_says flag) (map said words.old.items) (map said words.new.items)) }
-    ensures err { IfErr result (IsStop (flag_says flag)) }
+fn add_flag(flag: Flag, settings: &mut Settings) -> Result<Next, Stop>
+    ensures { Reads (flag_says flag) settings.old settings.new result }
 {
     match flag {
-        Flag::Help => Err(Stop::Help),
-        Flag::Version => Err(Stop::Version),
-        _ => add(Word::Set(flag), Next::Any, words),
+        Flag::Help => return Err(Stop::Help),
+        Flag::Version => return Err(Stop::Version),
+        Flag::Check => settings.check = true,
+        Flag::IgnoreMissing => settings.ignore_missing = true,
+        Flag::Quiet => settings.telling = Some(Telling::Quiet),
+        Flag::Status => settings.telling = Some(Telling::Status),
+        Flag::Warn => settings.telling = Some(Telling::Warn),
+        Flag::Strict => settings.strict = true,
+        Flag::Tag => {
+            settings.tag = true;
+            settings.mode = Some(Mode::Binary);
+        }
+        Flag::Zero => settings.zero = true,
+        Flag::Binary => settings.mode = Some(Mode::Binary),
+        Flag::Text => settings.mode = Some(Mode::Text),
+        Flag::Progress => settings.progress = true,
     }
+    Ok(Next::Any)
 }
 
 fn add_parameter(
     alloc: Global,
     parameter: Parameter,
     value: &[u8],
-    words: &mut Vec<Word>,
+    settings: &mut Settings,
 ) -> Result<Next, Stop>
-    ensures ok { IfOk result (Reads (value_says parameter value.now) (map said words.old.items) (map said words.new.items)) }
-    ensures err { IfErr result (IsStop (value_says parameter value.now)) }
+    ensures { Reads (value_says parameter value.now) settings.old settings.new result }
 {
     match parameter {
         Parameter::Algorithm => match find_variant(value) {
-            Some(variant) => add(Word::Hash(variant), Next::Any, words),
+            Some(variant) => settings.variant = Some(variant),
             None => {
                 let name = Vec::from_slice(alloc, value)?;
-                Err(Stop::Misuse(Misuse::UnknownVariant(name)))
+                return Err(Stop::Misuse(Misuse::UnknownVariant(name)));
             }
         },
-        Parameter::FilesFrom => add(
-            Word::NamesIn(Vec::from_slice(alloc, value)?),
-            Next::Any,
-            words,
-        ),
+        Parameter::FilesFrom => settings.names_in = Some(Vec::from_slice(alloc, value)?),
     }
-}
-
-// Adds a word, and returns `next`.
-fn add(word: Word, next: Next, words: &mut Vec<Word>) -> Result<Next, Stop>
-    ensures ok { IfOk result (Reads (Goes (said word ∷ []) next) (map said words.old.items) (map said words.new.items)) }
-    ensures err { IfErr result (λ stop. stop ≡ OutOfMemory) }
-{
-    match words.push(word) {
-        Ok(()) => Ok(next),
-        Err(_) => Err(Stop::OutOfMemory),
-    }
+    Ok(Next::Any)
 }
 
 // The variant of this name.

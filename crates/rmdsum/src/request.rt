@@ -1,9 +1,8 @@
-//! What the program is to do, by the words of its arguments.
+//! What the program is to do, by what its arguments say.
 
-ghost use Rattle.std.specs.Prelude.{◌≡◌, List, [], ◌∷◌, IfOk, IfErr, OnOk, map, reverse, option_map, vec_items, codes};
+ghost use Rattle.std.specs.Prelude.{◌≡◌, List, [], ◌∷◌, IfOk, IfErr, map, option_map, vec_items, codes};
 ghost use Rattle.rmdsum.specs.declared.request.Refusal.TheVariants.{OutOfMemory};
-ghost use Rattle.rmdsum.specs.Words.{Said, said};
-ghost use Rattle.rmdsum.specs.Words.Said.{Sets};
+ghost use Rattle.rmdsum.specs.Words.{Said};
 ghost use Rattle.rmdsum.specs.Asked.{Holds, Asks, IsRefused, IsExtra, conflict, excluded, needs_check, form_of, options_of, AreNames, or_input};
 
 use crate::refusals::Misuse;
@@ -12,19 +11,6 @@ use ripemd_files::printing::Style;
 use ripemd_files::verdict::Options;
 use ripemd_files::{Ending, Form, Variant};
 use std::alloc::{AllocError, Global};
-
-/// An option with its value, or an operand.
-#[derive(Debug, Drop)]
-pub enum Word {
-    /// An option without a value.
-    Set(Flag),
-    /// The hash.
-    Hash(Variant),
-    /// The file of names.
-    NamesIn(Vec<u8>),
-    /// The name of a file.
-    File(Vec<u8>),
-}
 
 /// What the program is to do.
 #[derive(Debug, Drop)]
@@ -97,24 +83,24 @@ impl From<AllocError> for Refusal {
     }
 }
 
-/// What some words say together.
+/// What was said together.
 #[derive(Drop)]
 pub struct Settings {
-    variant: Option<Variant>,
-    check: bool,
-    mode: Option<Mode>,
-    tag: bool,
-    zero: bool,
-    telling: Option<Telling>,
-    ignore_missing: bool,
-    strict: bool,
-    progress: bool,
-    names_in: Option<Vec<u8>>,
-    names: Vec<Vec<u8>>,
+    pub variant: Option<Variant>,
+    pub check: bool,
+    pub mode: Option<Mode>,
+    pub tag: bool,
+    pub zero: bool,
+    pub telling: Option<Telling>,
+    pub ignore_missing: bool,
+    pub strict: bool,
+    pub progress: bool,
+    pub names_in: Option<Vec<u8>>,
+    pub names: Vec<Vec<u8>>,
 }
 
 impl Settings {
-    /// The settings before any word.
+    /// The settings before anything is said.
     pub fn new(alloc: Global) -> Settings
         ensures { Holds [] result }
     {
@@ -130,41 +116,6 @@ impl Settings {
             progress: false,
             names_in: None,
             names: Vec::new(alloc),
-        }
-    }
-
-    /// Adds a word.
-    pub fn add(&mut self, word: Word) -> Result<(), AllocError>
-        ensures { (words : List Said) → Holds words self.old → OnOk result (Holds (said word ∷ words) self.new) }
-    {
-        match word {
-            Word::Set(flag) => self.set(flag),
-            Word::Hash(variant) => self.variant = Some(variant),
-            Word::NamesIn(file) => self.names_in = Some(file),
-            Word::File(name) => self.names.push(name)?,
-        }
-        Ok(())
-    }
-
-    fn set(&mut self, flag: Flag)
-        ensures { (words : List Said) → Holds words self.old → Holds (Sets flag ∷ words) self.new }
-    {
-        match flag {
-            Flag::Check => self.check = true,
-            Flag::IgnoreMissing => self.ignore_missing = true,
-            Flag::Quiet => self.telling = Some(Telling::Quiet),
-            Flag::Status => self.telling = Some(Telling::Status),
-            Flag::Warn => self.telling = Some(Telling::Warn),
-            Flag::Strict => self.strict = true,
-            Flag::Tag => {
-                self.tag = true;
-                self.mode = Some(Mode::Binary);
-            }
-            Flag::Zero => self.zero = true,
-            Flag::Binary => self.mode = Some(Mode::Binary),
-            Flag::Text => self.mode = Some(Mode::Text),
-            Flag::Progress => self.progress = true,
-            Flag::Help | Flag::Version => {}
         }
     }
 
@@ -269,18 +220,6 @@ impl Settings {
             progress: self.progress,
         })
     }
-}
-
-/// What some words ask for.
-pub fn request_of(alloc: Global, words: Vec<Word>) -> Result<Request, Refusal>
-    ensures ok { IfOk result (Asks (reverse (map said words.items))) }
-    ensures err { IfErr result (IsRefused (reverse (map said words.items))) }
-{
-    let mut settings = Settings::new(alloc);
-    for word in words {
-        settings.add(word)?;
-    }
-    settings.request(alloc)
 }
 
 fn choose_names(
