@@ -176,8 +176,7 @@ pub(crate) fn read_group<R: ReadList>(
                 });
             }
             Piece::Last => {
-                let misformatted =
-                    take_line(alloc, rules, cursor, text.as_slice(), &mut lines)?;
+                let misformatted = take_line(alloc, rules, cursor, text.as_slice(), &mut lines)?;
                 return Ok(Group {
                     lines,
                     misformatted,
@@ -185,8 +184,7 @@ pub(crate) fn read_group<R: ReadList>(
                 });
             }
             Piece::Whole => {
-                let misformatted =
-                    take_line(alloc, rules, cursor, text.as_slice(), &mut lines)?;
+                let misformatted = take_line(alloc, rules, cursor, text.as_slice(), &mut lines)?;
                 match misformatted {
                     Some(number) => {
                         return Ok(Group {

@@ -60,8 +60,13 @@ pub struct Opened<'a> {
 impl<'a> Folder for Memory<'a> {
     type File = Opened<'a>;
 
-    ghost place = { λ memory. record { opens = λ name file. ⊤; refuses = λ name error. ⊤; left = λ file. None; readable = λ file. file.is_over ≡ false;
-        may_fail = λ file error. ⊤ } };
+    ghost place = { λ memory. record {
+      opens = λ name file. ⊤;
+      refuses = λ name error. ⊤;
+      left = λ file. None;
+      readable = λ file. file.is_over ≡ false;
+      may_fail = λ file error. ⊤;
+    } };
 
     fn open(&self, name: &[u8]) -> io::Result<Opened<'a>> {
         self.calls.make()?;

@@ -74,7 +74,7 @@ returns-in-Some-clause-ok g c =
     let piece = rw c.in-Whole.is at c.in_ok-read_line.ensures.piece in
     let line = c.in_ok-misformatted-in-Whole.ensures in
     let (reads, whole) = reads_line _ _ _ _ _ _ _ c.lines.invariant.reads c.lines.invariant.whole _ _ _ (Some c.in-Some.number)
-        (rw (c.as_slice-in-Whole.ensures.value, c.in-Some.is) at line.takes) line.advances piece in
+    (rw (c.as_slice-in-Whole.ensures.value, c.in-Some.is) at line.takes) line.advances piece in
     record {
       rest = [];
       reads = reads;
@@ -89,7 +89,7 @@ lines-preserved g c =
     let piece = rw c.in-Whole.is at c.in_ok-read_line.ensures.piece in
     let line = c.in_ok-misformatted-in-Whole.ensures in
     let (reads, whole) = reads_line _ _ _ _ _ _ _ c.lines.invariant.reads c.lines.invariant.whole _ _ _ None
-        (rw (c.as_slice-in-Whole.ensures.value, c.in-None.is) at line.takes) line.advances piece in
+    (rw (c.as_slice-in-Whole.ensures.value, c.in-None.is) at line.takes) line.advances piece in
     record {
       reads = reads;
       whole = whole;
