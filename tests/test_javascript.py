@@ -1,8 +1,11 @@
 """Tries the package for JavaScript as npm installs it: its tests under Node.js, its types, the programs of
 docs/JAVASCRIPT.md, and its sizes. Nothing is downloaded."""
+import fcntl
 import gzip
 import json
+import select
 import shutil
+import subprocess
 
 import pytest
 from conftest import DATA, ROOT, need, programs, run, site, version
@@ -118,6 +121,16 @@ def test_tests_of_the_package(project, name):
                env={"NATTIZHU_DATA": str(DATA)}).stdout
     assert "# fail 0\n" in said and "# skipped 0\n" in said
     assert int(said.split("# pass ")[1].split()[0]) >= 2
+
+
+def test_a_build_that_waits_says_so():
+    with (ROOT / "crates.txt").open() as lock:
+        fcntl.flock(lock, fcntl.LOCK_EX)
+        with subprocess.Popen([ROOT / "build/crate", "ripemd_js"], stderr=subprocess.PIPE, text=True) as build:
+            told, _, _ = select.select([build.stderr], [], [], 60)
+            fcntl.flock(lock, fcntl.LOCK_UN)
+            assert build.stderr.read() == "make: waiting for another build\n" and told
+    assert build.returncode == 0
 
 
 @pytest.mark.parametrize("resolution, module", [("node16", "node16"), ("node", "esnext")])
