@@ -56,6 +56,12 @@ ripemd160.create().verify(bytes);
 // @ts-expect-error
 ripemd160.each(bytes);
 // @ts-expect-error
+ripemd160.list('abc');
+// @ts-expect-error
+hmac.list(ripemd160, text, 'abc');
+// @ts-expect-error
+ripemd160.create().digest('hex');
+// @ts-expect-error
 ripemd160.load(text);
 // @ts-expect-error
 ripemd160.outputLen = 7;
