@@ -56,7 +56,7 @@ export interface Hasher extends HashFunction {
   /** The digests of records of `size` bytes that lie one after another. An Error where the last is not whole. */
   each(records: Uint8Array, size: number): Uint8Array[];
   /** The digests of messages. */
-  list(messages: Iterable<Input>): Uint8Array[];
+  list(messages: Iterable<Input> & object): Uint8Array[];
 }
 
 export interface HmacFunction {
@@ -71,7 +71,7 @@ export interface HmacFunction {
   /** The tags of records of `size` bytes that lie one after another. */
   each(hash: HashFunction, key: Input, records: Uint8Array, size: number): Uint8Array[];
   /** The tags of messages. */
-  list(hash: HashFunction, key: Input, messages: Iterable<Input>): Uint8Array[];
+  list(hash: HashFunction, key: Input, messages: Iterable<Input> & object): Uint8Array[];
 }
 
 export interface Pbkdf2Options {

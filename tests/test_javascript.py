@@ -1,11 +1,14 @@
 """Tries the package for JavaScript as npm installs it: its tests under Node.js, its types, the programs of
 docs/JAVASCRIPT.md, and its sizes. Nothing is downloaded."""
+import fcntl
 import gzip
 import json
+import select
 import shutil
+import subprocess
 
 import pytest
-from conftest import DATA, ROOT, need, programs, run, site, version
+from conftest import DATA, ROOT, fences, need, programs, run, site, version
 
 TESTS = sorted(path.name for path in (ROOT / "js/test").glob("*.test.js"))
 PAGE = programs("docs/JAVASCRIPT.md", "js")
@@ -52,6 +55,12 @@ ripemd160.create().digestInto('abc');
 ripemd160.create().verify(bytes);
 // @ts-expect-error
 ripemd160.each(bytes);
+// @ts-expect-error
+ripemd160.list('abc');
+// @ts-expect-error
+hmac.list(ripemd160, text, 'abc');
+// @ts-expect-error
+ripemd160.create().digest('hex');
 // @ts-expect-error
 ripemd160.load(text);
 // @ts-expect-error
@@ -120,15 +129,34 @@ def test_tests_of_the_package(project, name):
     assert int(said.split("# pass ")[1].split()[0]) >= 2
 
 
+def test_commands_of_the_page(archive, tmp_path):
+    """They install the package, and run the first program under a name by which each Node.js takes it for a module."""
+    shutil.copy(archive, tmp_path)
+    text, printed = PAGE[0]
+    (tmp_path / "program.mjs").write_text(text)
+    commands = dict(fences("docs/JAVASCRIPT.md"))["sh"]
+    offline = {"npm_config_offline": "true", "npm_config_cache": str(tmp_path / "cache")}
+    assert run("sh", "-ec", commands, cwd=tmp_path, env=offline).stdout.endswith(printed)
+
+
+def test_a_build_that_waits_says_so():
+    with (ROOT / "crates.txt").open() as lock:
+        fcntl.flock(lock, fcntl.LOCK_EX)
+        with subprocess.Popen([ROOT / "build/crate", "ripemd_js"], stderr=subprocess.PIPE, text=True) as build:
+            told, _, _ = select.select([build.stderr], [], [], 60)
+            fcntl.flock(lock, fcntl.LOCK_UN)
+            assert build.stderr.read() == "make: waiting for another build\n" and told
+    assert build.returncode == 0
+
+
 @pytest.mark.parametrize("resolution, module", [("node16", "node16"), ("node", "esnext")])
 def test_types(project, tmp_path, resolution, module):
     need("tsc", "node-typescript")
     (tmp_path / "node_modules").symlink_to(project / "node_modules")
-    (tmp_path / "package.json").write_text('{"type": "module"}')
-    (tmp_path / "uses.ts").write_text(USES)
+    (tmp_path / "uses.mts").write_text(USES)
     options = {"strict": True, "noUncheckedIndexedAccess": True, "noEmit": True, "target": "es2021", "types": [],
                "lib": ["es2021", "dom"], "module": module, "moduleResolution": resolution}
-    (tmp_path / "tsconfig.json").write_text(json.dumps({"compilerOptions": options, "files": ["uses.ts"]}))
+    (tmp_path / "tsconfig.json").write_text(json.dumps({"compilerOptions": options, "files": ["uses.mts"]}))
     run("tsc", cwd=tmp_path)
 
 

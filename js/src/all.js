@@ -1,8 +1,8 @@
 // The hash functions, HMAC (RFC 2104) and PBKDF2 (RFC 8018) in the form of @noble/hashes 1.x, over an engine (`run`)
 // with the larger module.
 import { AT, IN, OUT, PIECE, STATE, big } from './engine.js';
-import { Hash, bitsOf, final, hasher, init, loaded, update } from './hash.js';
-import { abytes, anumber, toBytes } from './input.js';
+import { Hash, append, bitsOf, final, hasher, init, loaded, update } from './hash.js';
+import { abytes, anumber, part, toBytes } from './input.js';
 import { otherTasks, pieces, stream } from './pieces.js';
 
 const VARIANTS = [128, 160, 256, 320];
@@ -31,18 +31,25 @@ const hmacKind = (bits, size = bits / 8, n = BigInt(size)) => ({
 });
 
 function ahash(hash) {
-  if (!bitsOf.has(hash)) throw new Error('Hash should be wrapped by utils.createHasher');
+  if (!bitsOf.has(hash)) throw new Error('hash function of nattizhu expected, such as ripemd160');
   return bitsOf.get(hash);
 }
 
 // What `action` makes of each record of `size` bytes.
 function ofEach(records, size, action) {
   const bytes = abytes(records);
-  anumber(size);
+  anumber('size', size, 1);
   if (bytes.length % size !== 0) throw new Error(`records of ${size} bytes expected, got length=${bytes.length}`);
   const results = [];
-  for (let i = 0; i < bytes.length; i += size) results.push(action(bytes.subarray(i, i + size)));
+  for (let i = 0; i < bytes.length; i += size) results.push(action(part(bytes, i, i + size)));
   return results;
+}
+
+// What `action` makes of each message. A text is one message, not a list of its characters.
+function ofList(messages, action) {
+  if (typeof messages === 'string' || typeof messages?.[Symbol.iterator] !== 'function')
+    throw new Error('array or other iterable of messages expected');
+  return Array.from(messages, (message) => action(message));
 }
 
 // What `action` gives; an Error, where there is not enough memory for it.
@@ -60,7 +67,7 @@ export function over(run) {
     const hash = hasher(run, hashKind(bits));
     return Object.assign(hash, {
       each: (records, size) => ofEach(records, size, hash),
-      list: (messages) => Array.from(messages, (message) => hash(message)),
+      list: (messages) => ofList(messages, hash),
     });
   });
   const kinds = new Map(VARIANTS.map((bits) => [bits, hmacKind(bits)]));
@@ -81,7 +88,7 @@ export function over(run) {
   });
 
   // As much of a tag as shows that it is too long.
-  const cut = (size, tag) => tag.subarray(0, size + 1);
+  const cut = (size, tag) => part(tag, 0, Math.min(size + 1, tag.length));
 
   class Hmac extends Hash {
     verify(tag) {
@@ -128,23 +135,33 @@ export function over(run) {
 
   hmac.load = (hash, saved) => loaded(Hmac, run, kinds.get(ahash(hash)), saved);
 
-  // The tags of messages under one key.
-  function underOne(hash, key) {
-    ahash(hash);
-    const bytes = toBytes(key);
-    return (message) => hmac(hash, bytes, message);
+  // What `action` makes of what gives the tag of a message under one key, which is hashed and masked once.
+  function underOne(hash, key, action) {
+    const bits = ahash(hash), kind = kinds.get(bits), keyed = init(run, kind, fitting(bits, toBytes(key)));
+    try {
+      return action((message) => {
+        const bytes = toBytes(message);
+        return run(Math.min(bytes.length, PIECE), true, (calls, memory, output) => {
+          memory.set(keyed, STATE);
+          append(kind, calls, memory, bytes);
+          kind.final(calls);
+          return output(kind.size);
+        });
+      });
+    } finally {
+      keyed.fill(0);
+    }
   }
 
-  hmac.each = (hash, key, records, size) => ofEach(records, size, underOne(hash, key));
+  hmac.each = (hash, key, records, size) => underOne(hash, key, (tagOf) => ofEach(records, size, tagOf));
 
-  hmac.list = (hash, key, messages) => Array.from(messages, underOne(hash, key));
+  hmac.list = (hash, key, messages) => underOne(hash, key, (tagOf) => ofList(messages, tagOf));
 
-  function checked(hash, password, salt, { c, dkLen = 32, asyncTick = 10 } = {}) {
-    const bits = ahash(hash);
-    for (const number of [c, dkLen, asyncTick]) anumber(number);
-    if (c < 1) throw new Error('iterations (c) should be >= 1');
-    if (c > MOST) throw new Error(`iterations (c) should be <= ${MOST}`);
-    if (dkLen < 1) throw new Error('dkLen should be >= 1');
+  function checked(hash, password, salt, options) {
+    const bits = ahash(hash), { c, dkLen = 32, asyncTick = 10 } = options ?? {};
+    anumber('iterations (c)', c, 1, MOST);
+    anumber('dkLen', dkLen, 1);
+    anumber('asyncTick', asyncTick);
     const long = toBytes(password), saltBytes = toBytes(salt), key = inMemory(() => new Uint8Array(dkLen));
     return { bits, password: fitting(bits, long), salt: saltBytes, c, key, asyncTick };
   }

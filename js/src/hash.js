@@ -1,7 +1,7 @@
 // Hash functions in the form of @noble/hashes 1.x, over an engine (`run`). A kind says how the module is called for
 // one function: `size` bytes of a digest or a tag, `length` of a state, whether it is `keyed`, and the calls.
 import { IN, OUT, PIECE, STATE, big } from './engine.js';
-import { abytes, toBytes } from './input.js';
+import { abytes, part, toBytes } from './input.js';
 
 /** How many bits the digests of a hash function of this package have. */
 export const bitsOf = new WeakMap();
@@ -13,14 +13,19 @@ export const init = (run, kind, key = new Uint8Array(0)) => run(key.length, kind
   return memory.slice(STATE, STATE + kind.length);
 });
 
-/** Appends bytes to a state. */
-export const update = (run, kind, state, bytes) => run(Math.min(bytes.length, PIECE), kind.keyed, (calls, memory) => {
-  memory.set(state, STATE);
+/** Appends bytes to the state in its place. */
+export function append(kind, calls, memory, bytes) {
   for (let i = 0; i < bytes.length; i += PIECE) {
-    const piece = bytes.subarray(i, i + PIECE);
+    const piece = part(bytes, i, Math.min(i + PIECE, bytes.length));
     memory.set(piece, IN);
     kind.update(calls, big(piece.length));
   }
+}
+
+/** Appends bytes to a state. */
+export const update = (run, kind, state, bytes) => run(Math.min(bytes.length, PIECE), kind.keyed, (calls, memory) => {
+  memory.set(state, STATE);
+  append(kind, calls, memory, bytes);
   state.set(memory.subarray(STATE, STATE + kind.length));
 });
 
@@ -70,7 +75,8 @@ export class Hash {
     return this;
   }
 
-  digest() {
+  digest(encoding) {
+    if (encoding !== undefined) throw new Error('digest() takes no encoding, and returns bytes');
     this.#check();
     const digest = final(this.#run, this.#kind, this.#state);
     this.destroy();

@@ -2,19 +2,22 @@ const encoder = new TextEncoder();
 const NONE = new Uint8Array(0);
 const PLAIN = Uint8Array.prototype, BUFFER = globalThis.Buffer?.prototype;
 const { hasOwnProperty } = PLAIN;
-// What an array itself says of where its bytes are: a property of an object, or of a class, may say something else.
-const [bufferOf, offsetOf, lengthOf] = ['buffer', 'byteOffset', 'length'].map((name) =>
+// What an array itself says of its kind and of where its bytes are: a property of an object, or of a class, may say
+// something else, and a Proxy says nothing.
+export const [kindOf, bufferOf, offsetOf, lengthOf] = [Symbol.toStringTag, 'buffer', 'byteOffset', 'length'].map((name) =>
   Object.getOwnPropertyDescriptor(Object.getPrototypeOf(PLAIN), name).get);
-const seen = (array) => lengthOf.call(array)
-  ? new Uint8Array(bufferOf.call(array), offsetOf.call(array), lengthOf.call(array)) : NONE;
+
+/** A part of an array, without the array's own `subarray`. */
+export const part = (array, from, to) => new Uint8Array(bufferOf.call(array), offsetOf.call(array) + from, to - from);
+
+const seen = (array) => (lengthOf.call(array) ? part(array, 0, lengthOf.call(array)) : NONE);
 
 /**
  * The same bytes, after the checks of @noble/hashes; none, where the array has lost its buffer. Those of another class
  * than these, or with a `length` of their own, are seen as a plain array, so that nothing of theirs is used.
  */
 export function abytes(given, length) {
-  if (!(given instanceof Uint8Array || (ArrayBuffer.isView(given) && given.constructor.name === 'Uint8Array')))
-    throw new Error('Uint8Array expected');
+  if (kindOf.call(given) !== 'Uint8Array') throw new Error('Uint8Array expected');
   const prototype = Object.getPrototypeOf(given);
   const isPlain = (prototype === PLAIN || prototype === BUFFER) && !hasOwnProperty.call(given, 'length');
   const bytes = isPlain ? given : seen(given);
@@ -23,9 +26,11 @@ export function abytes(given, length) {
   return bytes.length ? bytes : NONE;
 }
 
-/** The check of @noble/hashes. */
-export function anumber(n) {
-  if (!Number.isSafeInteger(n) || n < 0) throw new Error(`positive integer expected, got ${n}`);
+/** The checks of @noble/hashes, which also name what is wrong. */
+export function anumber(name, n, least = 0, most = Infinity) {
+  if (!Number.isSafeInteger(n) || n < 0) throw new Error(`${name}: positive integer expected, got ${n}`);
+  if (n < least) throw new Error(`${name} should be >= ${least}`);
+  if (n > most) throw new Error(`${name} should be <= ${most}`);
 }
 
 /** The bytes of a message: of a text, its UTF-8. */

@@ -1,4 +1,4 @@
-// What is refused, with the errors of @noble/hashes 1.8. Nothing has changed after an error.
+// What is refused, with errors like those of @noble/hashes 1.8. Nothing has changed after an error.
 import assert from 'node:assert/strict';
 import test from 'node:test';
 import { hmac, pbkdf2, pbkdf2Async, pieces, ripemd128, ripemd160, stream } from 'nattizhu';
@@ -7,7 +7,9 @@ import { load } from 'nattizhu/load.js';
 import { digestOf, hex, tagOf } from './help.js';
 
 const NO_BYTES = [undefined, null, 7, 7n, true, {}, [1, 2], new ArrayBuffer(3), new Uint16Array(3), new DataView(new ArrayBuffer(3)),
-  Symbol('x'), () => {}];
+  Symbol('x'), () => {}, new Proxy(new Uint8Array(3), {}),
+  new Proxy(Buffer.alloc(3), { get: (bytes, name) => (name === 'length' ? 5 : bytes[name]) }),
+  Object.create(Uint8Array.prototype, { length: { value: 5 } }), Object.setPrototypeOf(new Uint16Array(3), Uint8Array.prototype)];
 const NO_HASHES = [undefined, null, 'ripemd160', {}, () => {}, digestOf, ripemd160.create(),
   Object.assign(() => {}, { create() {}, outputLen: 20, blockLen: 64 })];
 const text = 'what do ya want for nothing?', key = 'Jefe';
@@ -47,7 +49,8 @@ test('lengths that arrays do not have', async () => {
   }
   const own = (property) => Object.defineProperty(bytes(), 'length', property);
   let last = 1000;
-  for (const data of [new Longer(1000).fill(7), own({ value: 5000 }), own({ value: 3 }), own({ get: () => last++ }),
+  const longer = Object.assign(bytes(), { subarray: () => new Uint8Array(5000) });
+  for (const data of [new Longer(1000).fill(7), longer, own({ value: 5000 }), own({ value: 3 }), own({ get: () => last++ }),
     Object.defineProperty(Buffer.from(bytes()), 'length', { value: 100000 }), own({ value: Infinity })]) {
     for (const one of [ripemd160, alone]) {
       assert.equal(hex(one(data)), right);
@@ -55,11 +58,27 @@ test('lengths that arrays do not have', async () => {
     }
     assert.equal(hex(await stream(ripemd160.create(), [data])), right);
     assert.equal(hex(hmac(ripemd160, data, data)), tagOf(bytes(), bytes()));
-    assert.equal(ripemd160.each(data, 500).length, 2);
+    assert.deepEqual(ripemd160.each(data, 500).map(hex), Array(2).fill(digestOf(bytes().subarray(500))));
+    assert(hmac.verify(ripemd160, data, data, hmac(ripemd160, data, data)));
     refused(() => ripemd160.load(data), 'Uint8Array expected of length 92, got length=1000');
   }
   const place = Object.defineProperty(new Uint8Array(3), 'length', { value: 20 });
   refused(() => ripemd160.create().digestInto(place), 'digestInto() expects output buffer of length at least 20');
+});
+
+test('no list of messages', () => {
+  for (const messages of ['abc', '', undefined, null, 5, {}, { length: 1, 0: 'abc' }]) {
+    for (const list of [() => ripemd160.list(messages), () => hmac.list(ripemd160, key, messages)])
+      refused(list, 'array or other iterable of messages expected');
+  }
+});
+
+test('encodings', () => {
+  const hash = ripemd160.create().update('abc'), mac = hmac.create(ripemd160, key).update(text);
+  for (const one of [hash, mac, alone.create()])
+    refused(() => one.digest('hex'), 'digest() takes no encoding, and returns bytes');
+  assert.equal(hex(hash.digest(undefined)), digestOf('abc'));
+  assert.equal(hex(mac.digest()), tagOf(key, text));
 });
 
 test('places of the wrong length', () => {
@@ -105,7 +124,7 @@ test('copies into another function', () => {
 });
 
 test('no hash function', async () => {
-  const message = 'Hash should be wrapped by utils.createHasher';
+  const message = 'hash function of nattizhu expected, such as ripemd160';
   for (const hash of NO_HASHES) {
     for (const action of [() => hmac(hash, key, text), () => hmac.create(hash, key), () => hmac.load(hash, new Uint8Array(184)),
       () => hmac.verify(hash, key, text, new Uint8Array(20)), () => hmac.each(hash, key, new Uint8Array(3), 1),
@@ -116,18 +135,18 @@ test('no hash function', async () => {
 });
 
 test('numbers', async () => {
-  const options = [[{}, 'positive integer expected, got undefined'], [undefined, 'positive integer expected, got undefined'],
-    [{ c: '1' }, 'positive integer expected, got 1'], [{ c: 1.5 }, 'positive integer expected, got 1.5'],
-    [{ c: -1 }, 'positive integer expected, got -1'], [{ c: NaN }, 'positive integer expected, got NaN'],
+  const options = [...[{}, undefined, null, 5, { c: '1' }, { c: 1.5 }, { c: -1 }, { c: NaN }].map((given) =>
+    [given, `iterations (c): positive integer expected, got ${given?.c}`]),
     [{ c: 0 }, 'iterations (c) should be >= 1'], [{ c: 2 ** 32 }, 'iterations (c) should be <= 4294967295'],
-    [{ c: 1, dkLen: 0 }, 'dkLen should be >= 1'], [{ c: 1, dkLen: -1 }, 'positive integer expected, got -1'],
-    [{ c: 1, dkLen: 1.5 }, 'positive integer expected, got 1.5'], [{ c: 1, dkLen: '20' }, 'positive integer expected, got 20'],
+    [{ c: 1, dkLen: 0 }, 'dkLen should be >= 1'], ...[-1, 1.5, '20'].map((dkLen) =>
+      [{ c: 1, dkLen }, `dkLen: positive integer expected, got ${dkLen}`]),
     [{ c: 1, dkLen: 2 ** 53 - 1 }, 'the key does not fit in memory']];
   for (const [given, message] of options) {
     refused(() => pbkdf2(ripemd160, 'password', 'salt', given), message);
     await rejected(pbkdf2Async(ripemd160, 'password', 'salt', given), message);
   }
-  await rejected(pbkdf2Async(ripemd160, 'password', 'salt', { c: 1, asyncTick: -1 }), 'positive integer expected, got -1');
+  await rejected(pbkdf2Async(ripemd160, 'password', 'salt', { c: 1, asyncTick: -1 }),
+    'asyncTick: positive integer expected, got -1');
   refused(() => pbkdf2(ripemd160, 'password', 'salt', { c: 1, dkLen: 2 ** 32 }), 'the key does not fit in memory');
   assert.equal(hex(pbkdf2(ripemd160, 'password', '\x12\x34\x56\x78', { c: 5, dkLen: 16 })), '7a3d7c03e7266bf83d78fb29d2641f56');
 });
@@ -135,11 +154,12 @@ test('numbers', async () => {
 test('records that are not whole', () => {
   const records = new Uint8Array(10);
   for (const each of [(size) => ripemd160.each(records, size), (size) => hmac.each(ripemd160, key, records, size)]) {
-    for (const size of [3, 11, 0]) refused(() => each(size), `records of ${size} bytes expected, got length=10`);
-    for (const size of [-1, 2.5, undefined, '5']) refused(() => each(size), `positive integer expected, got ${size}`);
+    for (const size of [3, 11]) refused(() => each(size), `records of ${size} bytes expected, got length=10`);
+    for (const size of [-1, 2.5, undefined, '5']) refused(() => each(size), `size: positive integer expected, got ${size}`);
+    refused(() => each(0), 'size should be >= 1');
     assert.equal(each(5).length, 2);
   }
-  refused(() => ripemd160.each(new Uint8Array(0), 0), 'records of 0 bytes expected, got length=0');
+  refused(() => ripemd160.each(new Uint8Array(0), 0), 'size should be >= 1');
 });
 
 test('no sources', async () => {

@@ -4,14 +4,15 @@ import test from 'node:test';
 import { randomBytes } from 'node:crypto';
 import { digestOf, hex, keyOf, tagOf } from './help.js';
 
-const instances = [];
-let trap;
+const instances = [], KEY_LENGTH = 54321;
+let trap, keys = 0;
 const { Instance } = WebAssembly;
 WebAssembly.Instance = function (...given) {
   const { exports } = new Instance(...given);
   instances.push(exports);
   const trapping = (call) => (...words) => {
     if (trap) throw trap;
+    if (words.includes(BigInt(KEY_LENGTH))) keys += 1;
     return call(...words);
   };
   return { exports: Object.fromEntries(Object.entries(exports).map(([name, one]) =>
@@ -65,6 +66,15 @@ test('between the turns of a key, the memory has nothing of it', async () => {
   assert.equal(hex(await key), keyOf('password', 'salt', 2000, 32));
 });
 
+test('a key for many texts is taken once', () => {
+  const key = randomBytes(KEY_LENGTH), texts = ['a', 'b', 'c'];
+  for (const call of [() => hmac.list(ripemd160, key, texts), () => hmac.each(ripemd160, key, Buffer.from('abc'), 1)]) {
+    keys = 0;
+    assert.deepEqual(call().map(hex), texts.map((text) => tagOf(key, text)));
+    assert.equal(keys, 1, `${call}`);
+  }
+});
+
 test('a key is gone after a long message', () => {
   const key = randomBytes(40);
   for (const hash of [ripemd160, alone]) hash(randomBytes(200000));
@@ -80,6 +90,8 @@ test('states are overwritten', async () => {
     () => hmac.create(ripemd160, key).digestInto(new Uint8Array(20)), () => hmac(ripemd160, key, long),
     () => assert(hmac.verify(ripemd160, key, long, Buffer.from(tag, 'hex'))),
     () => { const mac = hmac.create(ripemd160, key); mac.verify(key); mac.destroy(); },
+    () => hmac.each(ripemd160, key, long, 10000), () => hmac.list(ripemd160, key, ['abc', long]),
+    () => assert.throws(() => hmac.list(ripemd160, key, ['abc', 7])),
     () => stream(hmac.create(ripemd160, key), ['abc']), () => pbkdf2Async(ripemd160, key, 'salt', { c: 3, dkLen: 50 })];
   for (const call of calls) {
     slices.length = 0;

@@ -105,6 +105,16 @@ test('records and lists', () => {
   assert.deepEqual(ripemd160.list(texts()).map(hex), ['ab', 'cd'].map(digestOf));
 });
 
+test('tags of records and lists', () => {
+  for (const [length, n, size] of [[0, 0, 5], [20, 7, 33], [64, 1, 1], [65, 7, 64], [70000, 3, 100000]]) {
+    const key = randomBytes(length), records = randomBytes(n * size);
+    const list = Array.from({ length: n }, (_, i) => records.subarray(i * size, i * size + size));
+    const tags = list.map((text) => tagOf(key, text));
+    assert.deepEqual(hmac.each(ripemd160, key, records, size).map(hex), tags);
+    assert.deepEqual(hmac.list(ripemd160, key, list.values()).map(hex), tags);
+  }
+});
+
 test('keys', async () => {
   for (const [p, s, c, dkLen] of [[0, 0, 1, 20], [8, 8, 1000, 20], [64, 16, 3, 64], [65, 16, 130, 333],
     [70000, 16, 2, 19], [300, 200000, 2, 100000]]) {

@@ -118,6 +118,27 @@ same('two hashes in turn', LENGTHS.map((length) => (Kind) => {
   return [one.digest('hex'), other.digest('hex')];
 }));
 
+// As some libraries clone a hash: with its properties, of which Buffers and arrays are copied.
+const copied = (value) => (Buffer.isBuffer(value) ? Buffer.from(value) : Array.isArray(value) ? value.slice() : value);
+const copyOf = (hash) => Object.assign(Object.create(Object.getPrototypeOf(hash)),
+  Object.fromEntries(Object.entries(hash).map(([name, value]) => [name, copied(value)])));
+
+same('copies of the properties', LENGTHS.flatMap((length) => LENGTHS.map((more) => (Kind) => {
+  const hash = new Kind().update(Buffer.alloc(length, 7)), [one, other] = [copyOf(hash), copyOf(hash)];
+  one.update(Buffer.alloc(more, 8)).update('abc');
+  return [hash, copyOf(one), one, other.update('d')].map((each) => each.digest('hex'));
+})));
+
+test('lengths that Buffers do not have', () => {
+  for (const length of [3, 200]) {
+    for (const value of [5, 1e9, NaN, -1]) {
+      const data = Buffer.alloc(length), proxy = new Proxy(data, { get: (bytes, name) => (name === 'length' ? value : bytes[name]) });
+      assert.throws(() => new Ours().update(proxy), TypeError);
+      assert.equal(new Ours().update(Object.defineProperty(data, 'length', { value })).digest('hex'), digestOf(Buffer.alloc(length)));
+    }
+  }
+});
+
 same('constructors', [
   (Kind) => [Kind.name, Kind.length, Kind.super_.name, typeof Kind.prototype._update, typeof Kind.prototype._digest],
   (Kind) => Kind(),

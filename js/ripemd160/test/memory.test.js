@@ -12,10 +12,12 @@ WebAssembly.Instance = function (...given) {
 const RIPEMD160 = createRequire(import.meta.url)('ripemd160');
 
 test('a digest leaves nothing in its hash', () => {
+  const left = (hash) => Object.entries(hash).filter(([, value]) => Object(value) !== value || Symbol.iterator in value);
   for (const length of [10, 1000]) {
-    const hash = new RIPEMD160().update(Buffer.alloc(length, 7)).update(Buffer.alloc(10, 7));
-    hash.digest();
-    for (const bytes of [hash._block, hash._state ?? []]) assert(bytes.every((byte) => byte === 0));
+    const [one, other] = [7, 8].map((byte) => new RIPEMD160().update(Buffer.alloc(length, byte)).update(Buffer.alloc(10, byte)));
+    for (const hash of [one, other]) hash.digest();
+    assert.deepEqual(left(one), left(other));
+    assert(one._block.every((byte) => byte === 0));
   }
 });
 
