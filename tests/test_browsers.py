@@ -15,8 +15,8 @@ import time
 import pytest
 from browsers import BROWSERS, lacks
 from conftest import ABC, ROOT, lines, need, run, version
-from test_rmdsum import (BY_HAND, BYTES, DIGESTS, RIPEMD, STOCK, Rooms, draw_files, draw_list, ended, escaped, joined, listed,
-                         tagged, untagged)
+from test_rmdsum import (BY_HAND, BYTES, DIGESTS, RIPEMD, STOCK, Rooms, draw_files, draw_list, ended, escaped, joined,
+                         listed, tagged, untagged)
 
 VARIANTS = (128, 160, 256, 320)
 # The file `big`: 300 MiB whose pieces of 1 MiB begin with their number and are otherwise zeros, and "end". Its
@@ -289,12 +289,12 @@ def as_printed(name):
     return "\\" + escaped(name.encode()).decode() if "\n" in name else name
 
 
-# Lists for any hash, beside those of rmdsum's own tests: each tag as OpenSSL writes it and as BSD does, and names in folders.
+# Lists for any hash: those of rmdsum's own tests, each tag as OpenSSL writes it and as BSD does, and names in folders.
 LISTS = [*BY_HAND,
-         listed(*(joined(lambda hash_, at=at: hash_.tags[at].encode(), middle, lambda hash_: hash_.digests[3].encode())
-                  for at in range(3) for middle in (b"(b)= ", b" (b) = ", b" (a) = "))),
-         listed(b"# a comment", untagged(b"./a", 0), untagged(b"one/folder/b", 3, b" *"), b"", tagged(b"gone/c", 64), b"#",
-                untagged(b"gone/d", 1))]
+         listed(*(joined(lambda hash_, at=at: hash_.tags[at].encode(), name, lambda hash_: hash_.digests[3].encode())
+                  for at in range(3) for name in (b"(b)= ", b" (b) = ", b" (a) = "))),
+         listed(b"# a comment", untagged(b"./a", 0), untagged(b"one/folder/b", 3, b" *"), b"", tagged(b"gone/c ", 64),
+                b"#", untagged(b"gone/d", 1))]
 
 
 def test_lists_as_by_rmdsum(shown, rmdsum, tmp_path):
@@ -358,10 +358,12 @@ def test_drawn_lists(rmdsum, tmp_path):
 
 
 def test_list_among_the_files(shown, files, tmp_path):
-    """It is known by its lines, and is no file that fails; each listed file has a row, and what is chosen later counts."""
-    (tmp_path / "LIST").write_text(f"# made by hand\n{ABC}  abc\n{ONE[1]} *folder/one\n\\{EMPTY[1]}  back\\\\slash\n")
+    """It is known by its lines, and does not fail; each listed file has a row, and what is chosen later counts."""
+    (tmp_path / "LIST").write_text(
+        f"# made by hand\n{ABC}  abc\n{ONE[1]} *folder/one\n\\{EMPTY[1]}  back\\\\slash\n")
     shown.choose(tmp_path / "LIST", files / "abc", files / "empty")
-    assert shown.verdicts(3) == [["this is the list"], ["✓ matches RIPEMD-160"], ["not in the list", "its digest is that of back\\slash"]]
+    assert shown.verdicts(3) == [["this is the list"], ["✓ matches RIPEMD-160"],
+                                 ["not in the list", "its digest is that of back\\slash"]]
     rows = [[name, "RIPEMD-160", verdict] for name, verdict in
             [("abc", "OK"), ("folder/one", "not yet chosen"), ("back\\slash", "not yet chosen")]]
     assert shown.rows() == [rows, "1 of 3 listed files matches; 2 were not chosen"]
@@ -561,19 +563,23 @@ def test_narrow(browser, site):
         return page.documentElement.scrollWidth;""") <= 320
 
 
-def test_package(browser, javascript, site, tmp_path):
-    """A page of another's, under the same policy, imports the package."""
+def test_package(browser, javascript, tmp_path):
+    """A page of another's, whose policy allows what docs/JAVASCRIPT.md says, imports the package, and loads it by URL."""
     shutil.unpack_archive(javascript / f"nattizhu-{version()}.tgz", tmp_path)
     (tmp_path / "own.js").write_text("""import { ripemd160 } from './package/index.js';
-        document.title = Array.from(ripemd160('abc'), (byte) => byte.toString(16).padStart(2, '0')).join('');""")
+        import { load } from './package/load.js';
+        const loaded = await load(new URL('package/nattizhu.wasm', import.meta.url));
+        const hex = (bytes) => Array.from(bytes, (byte) => byte.toString(16).padStart(2, '0')).join('');
+        document.title = [ripemd160, loaded.ripemd160].map((hash) => hex(hash('abc')));""")
     (tmp_path / "index.html").write_text(
-        f'<!doctype html><meta http-equiv="Content-Security-Policy" content="{site.policy}">'
+        '<!doctype html><meta http-equiv="Content-Security-Policy" content="default-src \'none\'; '
+        'script-src \'self\' \'wasm-unsafe-eval\'; connect-src \'self\'; img-src data:">'
         '<link rel="icon" href="data:,"><script type="module" src="own.js"></script>')
     own = Site(tmp_path)
     try:
         browser.go(own.address)
         assert browser.run("""while (!document.title) await new Promise((resolve) => setTimeout(resolve, 20));
-            return document.title;""") == ABC
+            return document.title;""") == f"{ABC},{ABC}"
     finally:
         own.stop()
     assert own.reports == []

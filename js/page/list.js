@@ -25,8 +25,8 @@ function described(body) {
 }
 
 /**
- * The lines of a list, or else the digests that stand alone, as { bits, hex, name }; and what is wrong with other lines.
- * It takes time that is linear in the length of a text.
+ * The lines of a list, or else the digests that stand alone, as { bits, hex, name }, and what is wrong with other lines,
+ * in time that is linear in the length of the text.
  */
 export function read(text) {
   const lines = [], others = [];

@@ -154,16 +154,21 @@ class Card {
       const lines = own.filter((line) => line.bits === bits), match = lines.find(has), name = `RIPEMD-${bits}`;
       const kind = match ? 'matches' : lines.length ? 'differs' : '';
       this.table.tBodies[0].rows[at].className = kind;
+      if (!kind) return [];
       if (match) return said(`✓ matches ${name}${haveOneName(own) ? '' : ` of ${match.name}`}`, kind);
-      return kind ? said(`✗ does not match ${lines.length > 1 ? `any of ${lines.length} digests by ` : ''}${name}`, kind) : [];
+      return said(`✗ does not match ${lines.length > 1 ? `any of ${lines.length} digests by ` : ''}${name}`, kind);
     });
     if (listed.length && !own.length) texts.push(said(this === source ? 'this is the list' : 'not in the list'));
     const other = !own.some(has) && listed.find(has);
     if (other) texts.push(said(`its digest is that of ${other.name}`));
-    if (this.list && this !== source) texts.push(element('button', 'Check by this list', { type: 'button', onclick: () => {
-      this.use();
-      byId('list-title').focus();
-    } }));
+    if (this.list && this !== source) {
+      const use = element('button', 'Check by this list', { type: 'button' });
+      use.onclick = () => {
+        this.use();
+        byId('list-title').focus();
+      };
+      texts.push(use);
+    }
     this.outcome.replaceChildren(this.outcome.firstChild, ...texts);
   }
 }
