@@ -20,13 +20,14 @@ DIRECT = urllib.request.build_opener(urllib.request.ProxyHandler({}))
 
 
 class Browser:
-    """A browser with a fresh profile in a folder. `wasm` says whether it has WebAssembly."""
+    """A browser with a fresh profile in a folder. `wasm` says whether it has WebAssembly, `touch` whether it is
+    touched, as a phone is, and has no mouse."""
 
-    def __init__(self, folder, wasm=True):
+    def __init__(self, folder, wasm=True, touch=False):
         folder.mkdir(parents=True)
         self.process = None
         try:
-            self.start(folder, wasm)
+            self.start(folder, wasm, touch)
         except BaseException:
             self.close()
             raise
@@ -37,7 +38,7 @@ class Browser:
     def __exit__(self, *_):
         self.close()
 
-    def start(self, folder, wasm):
+    def start(self, folder, wasm, touch):
         raise NotImplementedError
 
     def command(self, name, **parameters):
@@ -62,6 +63,11 @@ class Browser:
         found = self.command("FindElement", using="css selector", value=selector)[ELEMENT]
         self.command("ElementSendKeys", id=found, text="\n".join(str(file) for file in files))
 
+    def labels(self, selector):
+        """The accessible names of elements."""
+        return [self.command("GetComputedLabel", id=found[ELEMENT])
+                for found in self.command("FindElements", using="css selector", value=selector)]
+
     def press(self, *keys):
         """Presses keys, named as in KEYS, one after another: "Shift+Tab" is two at once."""
         actions = []
@@ -85,10 +91,10 @@ class Chromium(Browser):
     """Chromium, by chromedriver, over HTTP."""
     NEEDS = ("chromedriver", "chromium-driver")
     PATHS = {"NewSession": "", "Navigate": "/url", "ExecuteAsyncScript": "/execute/async", "FindElement": "/element",
-             "ElementSendKeys": "/element/{id}/value", "PerformActions": "/actions", "TakeScreenshot": "/screenshot",
-             "Cdp": "/goog/cdp/execute"}
+             "FindElements": "/elements", "ElementSendKeys": "/element/{id}/value", "PerformActions": "/actions",
+             "GetComputedLabel": "/element/{id}/computedlabel", "TakeScreenshot": "/screenshot", "Cdp": "/goog/cdp/execute"}
 
-    def start(self, folder, wasm):
+    def start(self, folder, wasm, touch):
         self.address = None
         self.process = subprocess.Popen(["chromedriver", "--port=0"], stdin=subprocess.DEVNULL,
                                         stdout=subprocess.PIPE, stderr=subprocess.DEVNULL, text=True)
@@ -96,7 +102,9 @@ class Chromium(Browser):
             if found := re.search("successfully on port ([0-9]+)", line):
                 self.address = f"http://127.0.0.1:{found[1]}/session"
                 break
-        options = ["--headless=new", "--no-sandbox", "--disable-dev-shm-usage", f"--user-data-dir={folder}/profile"]
+        pointers = f"availablePointerTypes={2 if touch else 4},availableHoverTypes={1 if touch else 2}"
+        options = ["--headless=new", "--no-sandbox", "--disable-dev-shm-usage", f"--user-data-dir={folder}/profile",
+                   f"--blink-settings={pointers}"]
         # Without its compilers V8 has no WebAssembly.
         capabilities = {"goog:chromeOptions": {"args": options + ([] if wasm else ["--js-flags=--jitless"])},
                         "timeouts": {"script": LIMIT * 1000}}
@@ -104,7 +112,7 @@ class Chromium(Browser):
 
     def command(self, name, **parameters):
         path = self.address + self.PATHS[name].format(**parameters)
-        data = None if name == "TakeScreenshot" else json.dumps(parameters).encode()
+        data = None if name in ("TakeScreenshot", "GetComputedLabel") else json.dumps(parameters).encode()
         request = urllib.request.Request(path, data, {"Content-Type": "application/json"})
         try:
             with DIRECT.open(request, timeout=LIMIT + 5) as answer:
@@ -125,9 +133,9 @@ class Firefox(Browser):
                    "datareporting.policy.dataSubmissionEnabled": False, "app.update.enabled": False,
                    "network.captive-portal-service.enabled": False, "network.connectivity-service.enabled": False}
 
-    def start(self, folder, wasm):
+    def start(self, folder, wasm, touch):
         self.socket, self.count = None, 0
-        preferences = {**self.PREFERENCES, "javascript.options.wasm": wasm}
+        preferences = {**self.PREFERENCES, "javascript.options.wasm": wasm, "ui.allPointerCapabilities": 1 if touch else 6}
         (folder / "user.js").write_text("".join(f'user_pref("{name}", {json.dumps(value)});\n'
                                                 for name, value in preferences.items()))
         command = ["firefox-esr", "--headless", "--marionette", "--no-remote", "--profile", folder]

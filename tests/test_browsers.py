@@ -1,11 +1,12 @@
-"""Tries the page that hashes files, and the package on a page of its own, in the browsers that the machine has. The
-page is served from a folder; each request is recorded, and each violation of the page's policy."""
+"""Tries the page that hashes files and checks lists, and the package on a page of its own, in the browsers that the machine
+has. The page is served from a folder; each request is recorded, and each violation of the page's policy."""
 import contextlib
 import functools
 import http.server
 import json
 import os
 import pathlib
+import random
 import re
 import shutil
 import threading
@@ -13,7 +14,9 @@ import time
 
 import pytest
 from browsers import BROWSERS, lacks
-from conftest import ABC, lines, version
+from conftest import ABC, ROOT, lines, need, run, version
+from test_rmdsum import (BY_HAND, BYTES, DIGESTS, RIPEMD, STOCK, Rooms, draw_files, draw_list, ended, escaped, joined,
+                         listed, tagged, untagged)
 
 VARIANTS = (128, 160, 256, 320)
 # The file `big`: 300 MiB whose pieces of 1 MiB begin with their number and are otherwise zeros, and "end". Its
@@ -28,9 +31,13 @@ EMPTY, ONE = ([dict(lines(f"digests-{bits}.txt"))[length] for bits in VARIANTS] 
 
 
 @pytest.fixture(name="page", scope="session")
-def fixture_page(javascript):
-    """The folder of the page."""
-    return javascript / f"nattizhu-{version()}-page"
+def fixture_page(javascript, once):
+    """A folder with the page."""
+    def copy(folder):
+        folder.mkdir()
+        shutil.copy(javascript / f"nattizhu-{version()}.html", folder / "index.html")
+
+    return once("page", copy)
 
 
 class Handler(http.server.SimpleHTTPRequestHandler):
@@ -100,14 +107,30 @@ def fixture_browser(request, tmp_path_factory):
 
 
 class Page:
-    """The page as a browser shows it, and what a user does with it."""
+    """The page at an address as a browser shows it, and what a user does with it."""
 
-    def __init__(self, browser, site):
+    def __init__(self, browser, address):
         self.browser, self.run, self.press = browser, browser.run, browser.press
-        browser.go(site.address)
+        browser.go(address)
 
     def choose(self, *files):
         self.browser.choose("#files", *files)
+
+    def drop(self, *files):
+        """Drops files, each a name and its bytes."""
+        self.run("""const dataTransfer = new DataTransfer(), bytes = (text) => Uint8Array.from(text, (c) => c.charCodeAt(0));
+            for (const [name, text] of args[0]) dataTransfer.items.add(new File([bytes(text)], name));
+            for (const kind of ['dragover', 'drop']) {
+              document.body.dispatchEvent(new DragEvent(kind, { dataTransfer, bubbles: true, cancelable: true }));
+            }""", [[name, data.decode("latin-1")] for name, data in files])
+
+    def rows(self):
+        """Waits until the files of a list are summed up. Returns the name, the function and the verdict of each, and the
+        sum."""
+        return self.run("""const sum = document.getElementById('sum');
+            while (!sum.textContent) await new Promise((resolve) => setTimeout(resolve, 20));
+            const rows = [...document.querySelectorAll('#list tbody tr')];
+            return [rows.map((row) => Array.from(row.cells, (cell) => cell.textContent)), sum.textContent];""")
 
     def expect(self, text):
         """Writes the expected digests, and returns what the page says of them."""
@@ -120,7 +143,7 @@ class Page:
         """Waits until so many files are through. Returns for each its name, what is said, and the digests."""
         return self.run("""for (;;) {
             const cards = [...document.querySelectorAll('article')];
-            const texts = (card, what) => [...card.querySelectorAll(what)].map((found) => found.textContent);
+            const texts = (card, what) => Array.from(card.querySelectorAll(what), (found) => found.textContent);
             if (cards.length === args[0] && cards.every((card) => card.querySelector('.work').hidden)) {
               return cards.map((card) => [...texts(card, 'h3'), texts(card, '.outcome p'), texts(card, 'code')]);
             }
@@ -148,7 +171,7 @@ class Page:
 @pytest.fixture(name="shown")
 def fixture_shown(browser, site, page):
     """The page, which asks for its own files alone and keeps to its policy."""
-    yield Page(browser, site)
+    yield Page(browser, site.address)
     assert set(site.requests) <= {"/", *(f"/{path.relative_to(page)}" for path in page.rglob("*"))}
     assert site.reports == []
 
@@ -219,25 +242,26 @@ EXPECTED = [
     # What is pasted, what is said of it, and of the files abc and one.
     (f"  {ABC.upper()}\n", "1 digest: RIPEMD-160", ["✓ matches RIPEMD-160"], ["✗ does not match RIPEMD-160"]),
     (WRONG, "1 digest: RIPEMD-160", ["✗ does not match RIPEMD-160"], ["✗ does not match RIPEMD-160"]),
-    (f"{WRONG}  folder/abc\n{ONE[1]} *folder\\one", "2 digests: RIPEMD-160",
+    (f"{WRONG}  folder/abc\n{ONE[1]} *folder\\one", "2 listed files: RIPEMD-160",
      ["✗ does not match RIPEMD-160"], ["✓ matches RIPEMD-160"]),
-    (f"RIPEMD160 (abc) = {ABC}\r\nRMD160 (one) = {ONE[1]}", "2 digests: RIPEMD-160",
+    (f"RIPEMD160 (abc) = {ABC}\r\nRMD160 (one) = {ONE[1]}", "2 listed files: RIPEMD-160",
      ["✓ matches RIPEMD-160"], ["✓ matches RIPEMD-160"]),
-    (f"RIPEMD-160(other)= {ABC}", "1 digest: RIPEMD-160",
-     ["✓ matches RIPEMD-160 of other"], ["✗ does not match RIPEMD-160 of other"]),
-    (f"{ABC}  v1/abc\n{WRONG}  v2/abc", "2 digests: RIPEMD-160",
-     ["✓ matches RIPEMD-160 of v1/abc"], ["✗ does not match any of 2 digests by RIPEMD-160"]),
-    (f"{WRONG}\n{ABC}  other", "2 digests: RIPEMD-160",
-     ["✗ does not match RIPEMD-160; the line of other has this digest"], ["✗ does not match RIPEMD-160"]),
-    (f"{ABC}  b\n{WRONG}  c", "2 digests: RIPEMD-160",
-     ["✓ matches RIPEMD-160 of b"], ["✗ does not match any of 2 digests by RIPEMD-160"]),
+    (f"RIPEMD-160(other)= {ABC}", "1 listed file: RIPEMD-160",
+     ["not in the list", "its digest is that of other"], ["not in the list"]),
+    (f"{ABC}  v1/abc\n{WRONG}  v2/abc", "2 listed files: RIPEMD-160",
+     ["✓ matches RIPEMD-160 of v1/abc"], ["not in the list"]),
+    (f"{ONE[1]}  v1/abc\n{WRONG}  v2/abc", "2 listed files: RIPEMD-160",
+     ["✗ does not match any of 2 digests by RIPEMD-160"], ["not in the list", "its digest is that of v1/abc"]),
+    (f"{WRONG}\n{ONE[1]}  abc\n{ABC}  one", "2 listed files: RIPEMD-160; line 1 is a digest without a name",
+     ["✗ does not match RIPEMD-160", "its digest is that of one"],
+     ["✗ does not match RIPEMD-160", "its digest is that of abc"]),
     ("\n".join([ABC, *ONE]), "5 digests: RIPEMD-160, RIPEMD-128, RIPEMD-256, RIPEMD-320",
      ["✗ does not match RIPEMD-128", "✓ matches RIPEMD-160", "✗ does not match RIPEMD-256",
       "✗ does not match RIPEMD-320"],
      [f"✓ matches RIPEMD-{bits}" for bits in VARIANTS]),
     (f"{ABC[1:]}\nhello", "line 1 is no digest: it has 39 digits, not 32, 40, 64 or 80; line 2 is no digest", [], []),
     (f"SHA1 (abc) = {ABC}", "line 1 is no digest by RIPEMD but by SHA1", [], []),
-    (f"RIPEMD128 (abc) = {ABC}", "line 1 is no digest by RIPEMD-128: it has 40 digits", [], []),
+    (f"RIPEMD128 (abc) = {ABC}", "line 1 is no digest by RIPEMD128: it has 40 digits", [], []),
     ("", "", [], []),
 ]
 
@@ -252,9 +276,146 @@ def test_expected_after_and_before(shown, files):
     assert shown.verdicts(3)[2] == ["✓ matches RIPEMD-160"]
 
 
+def checked(program, room):
+    """What rmdsum says of the lines of a list: the names with their verdicts, and the numbers of lines that are none."""
+    done = ended(program, ["-c", "-w", "list"], room)
+    said = [line.rpartition(": ") for line in done.out.decode(errors="replace").split("\n")[:-1]]
+    return ([(name, verdict) for name, _, verdict in said],
+            [*map(int, re.findall(rb"^rmdsum: list: ([0-9]+): improperly", done.error, re.MULTILINE))])
+
+
+def as_printed(name):
+    """A name as rmdsum prints it with a verdict."""
+    return "\\" + escaped(name.encode()).decode() if "\n" in name else name
+
+
+# Lists for any hash: those of rmdsum's own tests, each tag as OpenSSL writes it and as BSD does, and names in folders.
+LISTS = [*BY_HAND,
+         listed(*(joined(lambda hash_, at=at: hash_.tags[at].encode(), name, lambda hash_: hash_.digests[3].encode())
+                  for at in range(3) for name in (b"(b)= ", b" (b) = ", b" (a) = "))),
+         listed(b"# a comment", untagged(b"./a", 0), untagged(b"one/folder/b", 3, b" *"), b"", tagged(b"gone/c ", 64),
+                b"#", untagged(b"gone/d", 1))]
+
+
+def test_lists_as_by_rmdsum(shown, rmdsum, tmp_path):
+    """Each line of a list has the verdict of the program, where a file that is not chosen is missing; and a text of which it
+    takes no line is no list."""
+    (tmp_path / "folder").mkdir()
+    for place, names in [(".", STOCK), ("one/folder", ["b"])]:
+        (tmp_path / place).mkdir(parents=True, exist_ok=True)
+        for name in names:
+            (tmp_path / place / name).write_bytes(BYTES[:STOCK[name]])
+    shown.drop(*((name, BYTES[:length]) for name, length in STOCK.items()))
+    for at, text in enumerate(LISTS):
+        held = text(RIPEMD[str(VARIANTS[at % 4])])
+        (tmp_path / "list").write_bytes(held)
+        wanted, misformatted = checked(rmdsum, tmp_path)
+        shown.expect("")
+        shown.drop(("list", held))
+        said = shown.ended(len(STOCK) + 1 + at)[-1][1]
+        if not wanted:
+            assert said == ["read"] and shown.run("return document.getElementById('list').hidden"), held
+            continue
+        found = [(as_printed(name), "FAILED open or read" if verdict == "not yet chosen" else verdict)
+                 for name, _, verdict in shown.rows()[0]]
+        faults = shown.run("return document.getElementById('reading').textContent").partition("; ")[2]
+        numbers = [*map(int, re.findall("line ([0-9]+) is", faults))]
+        more = sum(map(int, re.findall("([0-9]+) more lines are no digests", faults)))
+        assert (found, numbers, len(numbers) + more) == (wanted, misformatted[:3], len(misformatted)), held
+
+
+def verdict_of(line, room):
+    """The verdict on the file that a line names, whose bytes are the first of BYTES."""
+    path = os.path.join(room, line["name"])
+    if line["name"] != "-" and not os.path.isfile(path):
+        return "FAILED open or read"
+    length = 0 if line["name"] == "-" else os.path.getsize(path)
+    return "OK" if line["hex"] == DIGESTS[str(line["bits"])][length] else "FAILED"
+
+
+def test_drawn_lists(rmdsum, tmp_path):
+    """The page finds in lists of all kinds, good and damaged, what rmdsum finds."""
+    need("node", "nodejs")
+    rng, rooms, texts = random.Random(1), [], []
+    for number in range(400):
+        rooms.append(Rooms(tmp_path / str(number), rmdsum, str(rng.choice(VARIANTS))))
+        files = draw_files(rng, rooms[-1])
+        rooms[-1].list("list", draw_list(rng, files))
+        texts.append((rooms[-1].sides[1][1] / "list").read_bytes())
+    program = f"""import {{ read }} from {json.dumps(str(ROOT / 'js/page/list.js'))};
+        const texts = JSON.parse((await import('fs')).readFileSync(0, 'utf8'));
+        console.log(JSON.stringify(texts.map((text) => read(new TextDecoder('utf-8', {{ ignoreBOM: true }}).decode(
+          Uint8Array.from(text, (c) => c.charCodeAt(0)))))));"""
+    found = json.loads(run("node", "--input-type=module", "-e", program,
+                           input=json.dumps([text.decode("latin-1") for text in texts])).stdout)
+    for room, text, said in zip(rooms, texts, found):
+        wanted, misformatted = checked(rmdsum, room.sides[1][1])
+        assert said["isList"] == bool(wanted), text
+        if wanted:
+            verdicts = [(as_printed(line["name"]), verdict_of(line, room.sides[1][1])) for line in said["lines"]]
+            numbers = [int(re.match("line ([0-9]+) is", fault)[1]) for fault in said["faults"]]
+            assert (verdicts, numbers) == (wanted, misformatted), text
+
+
+def test_list_among_the_files(shown, files, tmp_path):
+    """It is known by its lines, and does not fail; each listed file has a row, and what is chosen later counts."""
+    (tmp_path / "LIST").write_text(
+        f"# made by hand\n{ABC}  abc\n{ONE[1]} *folder/one\n\\{EMPTY[1]}  back\\\\slash\n")
+    shown.choose(tmp_path / "LIST", files / "abc", files / "empty")
+    assert shown.verdicts(3) == [["this is the list"], ["✓ matches RIPEMD-160"],
+                                 ["not in the list", "its digest is that of back\\slash"]]
+    rows = [[name, "RIPEMD-160", verdict] for name, verdict in
+            [("abc", "OK"), ("folder/one", "not yet chosen"), ("back\\slash", "not yet chosen")]]
+    assert shown.rows() == [rows, "1 of 3 listed files matches; 2 were not chosen"]
+    shown.drop(("one", b"1"), ("back\\slash", b""))
+    shown.ended(5)
+    rows[1][2], rows[2][2] = "FAILED", "OK"
+    assert shown.rows() == [rows, "2 of 3 listed files match; 1 does not"]
+    shown.choose(files / "one")
+    shown.ended(6)
+    rows[1][2] = "OK"
+    assert shown.rows() == [rows, "3 of 3 listed files match"]
+    assert shown.expect(f"{WRONG}  abc") == "1 listed file: RIPEMD-160"
+    assert shown.rows() == [[["abc", "RIPEMD-160", "FAILED"]], "0 of 1 listed file matches; 1 does not"]
+    assert shown.verdicts(6)[0] == ["not in the list"]
+
+
+def test_same_name_in_folders(shown):
+    """Of lines for several files of one name, those count that a file matches; one that matches none fails the others."""
+    shown.expect(f"{ABC}  v1/abc\n{ONE[1]}  v2/abc\n{EMPTY[0]}  v2/abc")
+    for data, verdicts in [(b"abc", ["OK", "not yet chosen", "FAILED"]), (b"\0", ["OK", "OK", "FAILED"]),
+                           (b"", ["OK", "OK", "OK"]), (b"x", ["OK", "OK", "OK"])]:
+        shown.drop(("abc", data))
+        assert [verdict for _, _, verdict in shown.rows()[0]] == verdicts
+
+
+def test_a_file_brings_no_list_of_its_own(shown):
+    """One that has lines of a list is compared with what is expected, until the user chooses it as the list."""
+    own = [("abc", f"{ONE[1]}  one\n".encode()), ("one", b"\0")]
+    shown.expect(f"{ABC}  abc")
+    shown.drop(*own)
+    assert shown.verdicts(2) == [["✗ does not match RIPEMD-160"], ["not in the list"]]
+    assert shown.rows() == [[["abc", "RIPEMD-160", "FAILED"]], "0 of 1 listed file matches; 1 does not"]
+    shown.expect("")
+    shown.drop(("LIST", f"{ABC}  abc\n".encode()), *own)
+    assert shown.verdicts(5) == [[]] * 5
+    shown.run("document.querySelectorAll('article')[2].querySelector('.outcome button').click()")
+    assert shown.rows() == [[["abc", "RIPEMD-160", "FAILED"]], "0 of 1 listed file matches; 1 does not"]
+    assert shown.run("return document.activeElement.textContent") == "Listed files"
+
+
+def test_long_lists(shown):
+    """Of 20,000 lines."""
+    begun = time.monotonic()
+    shown.drop(("LIST", f"{ABC}  abc\n".encode() * 20000), ("abc", b"abc"))
+    assert shown.rows()[1] == "20000 of 20000 listed files match"
+    assert time.monotonic() - begun < 20
+
+
 def test_long_lines(shown):
     """The page reads them at once, at each press of a key."""
-    for text in "(" * 100000, " (" * 50000 + "x", "( " * 50000 + "x":
+    for text in ("(" * 100000, " (" * 50000 + "x", "( " * 50000 + "x", "RMD160 (" + ") = " * 50000,
+                 f"\\{ABC}  " + "\\" * 99999):
         begun = time.monotonic()
         assert shown.expect(text) == "line 1 is no digest"
         assert time.monotonic() - begun < 1
@@ -280,7 +441,7 @@ def test_file_that_is_removed(shown, tmp_path, files):
     (tmp_path / "gone").unlink()
     shown.run("document.querySelector('article button').click()")
     _, gone, one = shown.ended(3)
-    assert gone[1][0].startswith("✗ could not be read: ") and gone[2] == []
+    assert gone == ["gone", ["✗ could not be read: it is no longer there"], []]
     assert one[2] == ONE
 
 
@@ -291,17 +452,12 @@ def test_file_that_is_cut(shown, tmp_path, files):
     shown.begun()
     os.truncate(tmp_path / "cut", 2)
     cut, one = shown.ended(2)
-    assert cut[1][0].startswith("✗ could not be read: ") and cut[2] == []
+    assert cut[1][0].startswith("✗ could not be read: it has changed since it was chosen") and cut[2] == []
     assert one[2] == ONE
 
 
 def test_dropped(shown):
-    shown.run("""const dataTransfer = new DataTransfer();
-        dataTransfer.items.add(new File(['abc'], 'abc'));
-        dataTransfer.items.add(new File(['\\0'], 'one'));
-        for (const kind of ['dragover', 'drop']) {
-          document.body.dispatchEvent(new DragEvent(kind, { dataTransfer, bubbles: true, cancelable: true }));
-        }""")
+    shown.drop(("abc", b"abc"), ("one", b"\0"))
     (_, _, abc), (_, _, one) = shown.ended(2)
     assert abc[1] == ABC and one == ONE
 
@@ -319,6 +475,30 @@ def test_folder_dropped(shown, files):
     assert one[2] == ONE
 
 
+def test_from_disk(browser, page, files, tmp_path):
+    """The one file works where no server is."""
+    (tmp_path / "LIST").write_text(f"{ABC}  abc\n{ONE[1]}  one\n")
+    shown = Page(browser, (page / "index.html").as_uri())
+    shown.choose(tmp_path / "LIST", files / "abc")
+    assert shown.rows()[1] == "1 of 2 listed files matches; 1 was not chosen"
+    assert shown.verdicts(2) == [["this is the list"], ["✓ matches RIPEMD-160"]]
+
+
+def test_accessible_names(shown, files):
+    shown.choose(files / "abc", files / "one")
+    shown.ended(2)
+    assert shown.browser.labels("article") == ["abc", "one"]
+
+
+@pytest.mark.parametrize("name", BROWSERS)
+def test_touched(site, tmp_path, name):
+    """Where nothing can be dropped, the page does not speak of it."""
+    for touch in True, False:
+        with start(name, tmp_path / str(touch), touch=touch) as browser:
+            text = Page(browser, site.address).run("return document.body.innerText")
+        assert "Choose files" in text and ("drop them" in text) != touch
+
+
 def test_without_network(shown, site, files):
     shown.choose(files / "one")
     shown.ended(1)
@@ -328,14 +508,15 @@ def test_without_network(shown, site, files):
 
 
 def test_policy(browser, site, page):
-    """Neither the page reaches another server nor a worker that it starts as its own."""
+    """Neither the page reaches another server nor a worker that it starts."""
     other = Site(page)
     reach = f"fetch('{other.address}', {{ mode: 'no-cors' }}).then(() => 'reached', () => 'refused')"
-    site.texts["/worker.js"] = f"{reach}.then((failed) => postMessage({{ failed }}))"
     try:
-        shown = Page(browser, site)
-        assert shown.problem() == "This page does not work: refused."
+        shown = Page(browser, site.address)
         assert shown.run(f"return await {reach}") == "refused"
+        assert shown.run("""const worker = new Worker(URL.createObjectURL(new Blob([args[0]])));
+            return new Promise((resolve) => { worker.onmessage = ({ data }) => resolve(data); });""",
+                         f"{reach}.then(postMessage)") == "refused"
         assert other.requests == []
     finally:
         other.stop()
@@ -382,19 +563,23 @@ def test_narrow(browser, site):
         return page.documentElement.scrollWidth;""") <= 320
 
 
-def test_package(browser, javascript, site, tmp_path):
-    """A page of another's, under the same policy, imports the package."""
+def test_package(browser, javascript, tmp_path):
+    """A page of another's, whose policy allows what docs/JAVASCRIPT.md says, imports the package, and loads it by URL."""
     shutil.unpack_archive(javascript / f"nattizhu-{version()}.tgz", tmp_path)
     (tmp_path / "own.js").write_text("""import { ripemd160 } from './package/index.js';
-        document.title = Array.from(ripemd160('abc'), (byte) => byte.toString(16).padStart(2, '0')).join('');""")
+        import { load } from './package/load.js';
+        const loaded = await load(new URL('package/nattizhu.wasm', import.meta.url));
+        const hex = (bytes) => Array.from(bytes, (byte) => byte.toString(16).padStart(2, '0')).join('');
+        document.title = [ripemd160, loaded.ripemd160].map((hash) => hex(hash('abc')));""")
     (tmp_path / "index.html").write_text(
-        f'<!doctype html><meta http-equiv="Content-Security-Policy" content="{site.policy}">'
+        '<!doctype html><meta http-equiv="Content-Security-Policy" content="default-src \'none\'; '
+        'script-src \'self\' \'wasm-unsafe-eval\'; connect-src \'self\'; img-src data:">'
         '<link rel="icon" href="data:,"><script type="module" src="own.js"></script>')
     own = Site(tmp_path)
     try:
         browser.go(own.address)
         assert browser.run("""while (!document.title) await new Promise((resolve) => setTimeout(resolve, 20));
-            return document.title;""") == ABC
+            return document.title;""") == f"{ABC},{ABC}"
     finally:
         own.stop()
     assert own.reports == []
@@ -403,5 +588,5 @@ def test_package(browser, javascript, site, tmp_path):
 @pytest.mark.parametrize("name", BROWSERS)
 def test_without_webassembly(site, tmp_path, name):
     with start(name, tmp_path / "profile", wasm=False) as browser:
-        said = Page(browser, site).problem()
+        said = Page(browser, site.address).problem()
     assert said == "This page needs WebAssembly, which this browser lacks or has switched off."

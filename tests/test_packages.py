@@ -91,6 +91,7 @@ def test_digests_of_the_files(dist):
     run("sha256sum", "--quiet", "-c", "SHA256SUMS", cwd=dist)
     files = [str(path.relative_to(dist)) for path in dist.rglob("*") if path.is_file()]
     assert sorted(["SHA256SUMS", *(dist / "SHA256SUMS").read_text().split()[1::2]]) == sorted(files)
+    assert f"nattizhu-{version()}.html" in files and not any("/" in name for name in files)
 
 
 def test_crate_of_the_source(dist, cargo, tmp_path):

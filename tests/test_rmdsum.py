@@ -270,12 +270,15 @@ def fixture_rooms(tmp_path, rmdsum):
     return Rooms(tmp_path, rmdsum)
 
 
+# Files, by their names, with their lengths.
+STOCK = {"a": 0, "b": 3, "c": 64, "two words": 200, "back\\slash": 5, "new\nline": 6, "return\r": 7, "-dash": 8, "*star": 9,
+         " blank": 10, "é": 11, "it's": 12, "44": 13, " ": 14}
+
+
 @pytest.fixture(name="stocked")
 def fixture_stocked(rooms):
     """Rooms with some files, and a list of each kind."""
-    for name, length in [("a", 0), ("b", 3), ("c", 64), ("two words", 200), ("back\\slash", 5), ("new\nline", 6),
-                         ("return\r", 7), ("-dash", 8), ("*star", 9), (" blank", 10), ("é", 11), ("it's", 12),
-                         ("44", 13), (" ", 14)]:
+    for name, length in STOCK.items():
         rooms.file(name, length)
     rooms.folder("folder")
 
@@ -1145,7 +1148,7 @@ def test_names_that_are_not_utf8(rooms):
 A, B = untagged(b"a", 0), untagged(b"b", 3)
 
 
-@pytest.mark.parametrize("text", [
+BY_HAND = [
     joined(b""),
     joined(b"\n\n\n"),
     joined(b"# only\n#a\n#comment\n"),
@@ -1197,7 +1200,10 @@ A, B = untagged(b"a", 0), untagged(b"b", 3)
     joined(b"\xef\xbb\xbf", A, b"\n"),
     listed(untagged(b"a ", 0), untagged(b"a", 0, b"   ")),
     listed(untagged(b"folder", 0), untagged(b"missing", 0)),
-])
+]
+
+
+@pytest.mark.parametrize("text", BY_HAND)
 def test_lists_by_hand(stocked, text):
     stocked.list("list-by-hand", text)
     for options in [[], ["-w"], ["--strict"], ["--status"], ["--quiet"], ["--ignore-missing"], ["-w", "--strict"],

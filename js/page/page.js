@@ -1,15 +1,20 @@
 // The page: takes files, has the worker hash them one after another, and compares their digests with the expected
 // ones.
+import { read } from './list.js';
+import program from './worker.txt'; // build/js makes it of worker.js
+
 const VARIANTS = [128, 160, 256, 320];
 const byId = (id) => document.getElementById(id);
+const decoder = new TextDecoder('utf-8', { ignoreBOM: true });
 const cards = [], queue = [];
-let expected = [], current, ready = false;
+// The lines of the list, in groups by the names of their files without folders, and the card that it came by; or, where
+// there is no list, digests that stand alone.
+let listed = [], groups = new Map(), source, bare = [], current, judging, ready = false;
 
 byId('early').remove();
 
-// A worker of a blob is under this page's policy; one of a URL would be under none but its server's.
-const source = `import ${JSON.stringify(new URL('worker.js', import.meta.url).href)};`;
-const worker = new Worker(URL.createObjectURL(new Blob([source], { type: 'text/javascript' })), { type: 'module' });
+// A worker of a blob is under this page's policy.
+const worker = new Worker(URL.createObjectURL(new Blob([program], { type: 'text/javascript' })));
 worker.onerror = (event) => fail(event.message ?? 'its worker does not start');
 worker.onmessage = ({ data }) => {
   if (data.failed) return fail(data.failed);
@@ -29,14 +34,21 @@ function fail(reason) {
 }
 
 function next() {
-  if (!ready || current || !queue.length) return;
-  current = queue.shift();
-  worker.postMessage(current.file);
+  if (!ready || current) return;
+  do current = queue.shift(); while (current && !current.verdict); // those that were cancelled have none
+  if (current) worker.postMessage(current.file);
 }
 
-function take(files) {
-  for (const file of files) queue.push(new Card(file));
-  next();
+// A list among the files is taken if it is the only one and nothing is expected yet: no file that is checked may bring
+// what it is compared with.
+async function take(files) {
+  const lists = [];
+  for (const card of Array.from(files, (file) => new Card(file))) {
+    if (await card.isList()) lists.push(card);
+    queue.push(card);
+    next();
+  }
+  if (lists.length === 1 && !byId('expected').value.trim()) lists[0].use();
 }
 
 const element = (tag, text, set) => Object.assign(document.createElement(tag), { textContent: text }, set);
@@ -62,12 +74,39 @@ class Card {
     this.cancel.ariaLabel = `Cancel ${file.name}`;
     this.cancel.onclick = () => {
       if (this === current) worker.postMessage('cancel');
-      else queue.splice(queue.indexOf(this), 1);
       this.end('cancelled');
     };
+    article.ariaLabel = file.name;
     byId('results').append(article);
     byId('results').hidden = false;
+    this.verdict = 'waiting';
     cards.push(this);
+    judge();
+  }
+
+  // Whether it is a list, by the lines at its front. Its text is kept.
+  async isList() {
+    const text = async (size) => decoder.decode(await this.file.slice(0, size).arrayBuffer());
+    try {
+      const front = this.file.size < 2 ** 24 ? await text(65536) : '';
+      if (!front.includes('\0') && read(front).isList) this.list = await text(this.file.size);
+    } catch { // the worker says why
+    }
+    return this.list !== undefined;
+  }
+
+  use() {
+    byId('expected').value = this.list;
+    expect(this.list, this);
+  }
+
+  // The lines that count for it, and whether it has the digest of one.
+  lines() {
+    return listed.length ? groups.get(this.base) ?? [] : bare;
+  }
+
+  has({ bits, hex }) {
+    return this.digests?.[bits] === hex;
   }
 
   progress({ done, seconds }) {
@@ -76,18 +115,20 @@ class Card {
   }
 
   // Says how it ended, and takes away the bar and the button, whose focus goes to the title.
-  end(text, kind) {
+  end(text, kind, verdict) {
     if (this.work.contains(document.activeElement)) this.title.focus();
     this.work.hidden = true;
     this.outcome.append(said(text, kind));
+    this.verdict = verdict;
+    judge();
   }
 
   // Shows what the worker answered, unless the file was cancelled before.
   answer({ digests, seconds, error }) {
     if (this.work.hidden) return;
-    if (error) return this.end(`✗ could not be read: ${error}`, 'differs');
+    if (error) return this.end(`✗ could not be read: ${error}`, 'differs', 'could not be read');
     const short = seconds < 0.1 || this.file.size < 1e6; // too short for a speed
-    this.end(short ? 'read' : `read in ${seconds.toFixed(1)} s, ${speed(this.file.size, seconds)}`);
+    this.end(short ? 'read' : `read in ${seconds.toFixed(1)} s, ${speed(this.file.size, seconds)}`, '', 'FAILED');
     this.digests = digests;
     for (const bits of VARIANTS) {
       const row = this.table.tBodies[0].insertRow(), name = `RIPEMD-${bits}`;
@@ -104,29 +145,68 @@ class Card {
     this.compare();
   }
 
-  // Says for each variant of which a digest is expected whether it is this file's. Lines with its name count, then
-  // those without a name; if there are neither, all. Where they have several names, it says which one.
+  // Says for each variant of which a digest is expected whether it is this file's, and of which name, if the lines have
+  // several.
   compare() {
     if (!this.digests) return;
-    const own = expected.filter((line) => line.base === this.base);
-    const bare = expected.filter((line) => !line.name);
-    const pools = own.length + bare.length ? [own, bare] : [expected];
-    const named = pools[0] === expected || new Set(own.map((line) => line.name)).size > 1;
-    const verdicts = VARIANTS.flatMap((bits, at) => {
-      const lines = pools.map((pool) => pool.filter((line) => line.bits === bits)).find((pool) => pool.length) ?? [];
-      const match = lines.find((line) => line.hex === this.digests[bits]);
-      const other = !match && expected.find((line) => line.hex === this.digests[bits]);
+    const own = this.lines(), has = (line) => this.has(line);
+    const texts = VARIANTS.flatMap((bits, at) => {
+      const lines = own.filter((line) => line.bits === bits), match = lines.find(has), name = `RIPEMD-${bits}`;
       const kind = match ? 'matches' : lines.length ? 'differs' : '';
       this.table.tBodies[0].rows[at].className = kind;
       if (!kind) return [];
-      const verdict = match ? '✓ matches' : '✗ does not match', name = `RIPEMD-${bits}`;
-      const hint = other ? `; the line of ${other.name ?? 'no name'} has this digest` : '';
-      if (lines.length > 1 && !match) return said(`${verdict} any of ${lines.length} digests by ${name}${hint}`, kind);
-      const of = named ? (match ?? lines[0]).name : undefined;
-      return said(`${verdict} ${name}${of ? ` of ${of}` : ''}${hint}`, kind);
+      if (match) return said(`✓ matches ${name}${haveOneName(own) ? '' : ` of ${match.name}`}`, kind);
+      return said(`✗ does not match ${lines.length > 1 ? `any of ${lines.length} digests by ` : ''}${name}`, kind);
     });
-    this.outcome.replaceChildren(this.outcome.firstChild, ...verdicts);
+    if (listed.length && !own.length) texts.push(said(this === source ? 'this is the list' : 'not in the list'));
+    const other = !own.some(has) && listed.find(has);
+    if (other) texts.push(said(`its digest is that of ${other.name}`));
+    if (this.list && this !== source) {
+      const use = element('button', 'Check by this list', { type: 'button' });
+      use.onclick = () => {
+        this.use();
+        byId('list-title').focus();
+      };
+      texts.push(use);
+    }
+    this.outcome.replaceChildren(this.outcome.firstChild, ...texts);
   }
+}
+
+const KINDS = { OK: 'matches', FAILED: 'differs', 'could not be read': 'differs' };
+const haveOneName = (lines) => lines.every(({ name }) => name === lines[0].name);
+
+// Soon has the rows of the list say what the chosen files show and, when all are through, what that comes to. Browsers
+// do not give folders: a file of which lines have several names counts for those that it matches, or else for all.
+function judge() {
+  byId('sum').textContent = '';
+  judging ??= setTimeout(() => {
+    judging = undefined;
+    for (const line of listed) line.verdict = 'not yet chosen';
+    for (const card of listed.length ? cards.filter(({ verdict }) => verdict) : []) {
+      const own = card.lines(), isSure = haveOneName(own);
+      const matched = new Set(own.filter((line) => card.has(line)).map(({ bits }) => bits));
+      for (const line of own) {
+        if (card.has(line)) line.verdict = 'OK';
+        else if (isSure || (line.verdict !== 'OK' && !matched.has(line.bits))) line.verdict = card.verdict;
+      }
+    }
+    for (const { cell, verdict } of listed) {
+      if (cell.textContent === verdict) continue;
+      cell.textContent = verdict;
+      cell.parentNode.className = KINDS[verdict] ?? '';
+    }
+    const all = listed.length, count = (verdict) => listed.filter((line) => line.verdict === verdict).length;
+    if (!all || count('waiting')) return;
+    const [good, bad, unread, rest] = ['OK', 'FAILED', 'could not be read', 'not yet chosen'].map(count);
+    byId('sum').textContent = [
+      `${good} of ${all} listed ${all > 1 ? 'files' : 'file'} ${good === 1 || all === 1 ? 'matches' : 'match'}`,
+      bad && `${bad} ${bad > 1 ? 'do' : 'does'} not`,
+      unread && `${unread} could not be read`,
+      rest && `${rest} ${rest > 1 ? 'were' : 'was'} not chosen`,
+    ].filter(Boolean).join('; ');
+    byId('sum').className = bad || unread ? 'differs' : rest ? '' : 'matches';
+  }, 50);
 }
 
 async function copied(word, code) {
@@ -140,32 +220,32 @@ async function copied(word, code) {
   setTimeout(() => { word.textContent = 'Copy'; }, 2000);
 }
 
-// A line as { bits, hex, name }, or as a text that says what it is instead, in time that is linear in its length.
-function parse(line) {
-  const end = /\)\s*=\s*([0-9a-f]+)$/i.exec(line), open = line.indexOf('(');
-  const tagged = end && open >= 0 && open < end.index;
-  const plain = /^([0-9a-f]+)(?:\s+\*?(.+))?$/is.exec(line);
-  if (!tagged && !plain) return 'no digest';
-  const [hex, name] = tagged ? [end[1], line.slice(open + 1, end.index)] : [plain[1], plain[2]];
-  const bits = VARIANTS.find((variant) => variant === hex.length * 4), hash = tagged && line.slice(0, open).trim();
-  const by = tagged && /^(?:ripemd|rmd)-?(128|160|256|320)?$/i.exec(hash);
-  if (tagged && !by) return `no digest by RIPEMD but by ${hash}`;
-  if (!bits) return `no digest: it has ${hex.length} digits, not 32, 40, 64 or 80`;
-  if (by?.[1] && +by[1] !== bits) return `no digest by RIPEMD-${by[1]}: it has ${hex.length} digits`;
-  return { bits, hex: hex.toLowerCase(), name, base: name && base(name) };
+// Takes what is expected, of the field or of a card's list.
+function expect(text, card) {
+  const { isList, lines, faults } = read(text);
+  [listed, bare, source] = isList ? [lines, [], card] : [[], lines, undefined];
+  const rows = byId('list').querySelector('tbody');
+  rows.replaceChildren();
+  groups = new Map();
+  for (const line of listed) {
+    const row = element('tr'), key = base(line.name);
+    line.cell = element('td');
+    row.append(element('th', line.name, { scope: 'row' }), element('td', `RIPEMD-${line.bits}`), line.cell);
+    rows.append(row);
+    if (!groups.get(key)?.push(line)) groups.set(key, [line]);
+  }
+  byId('list').hidden = !isList;
+  if (faults.length > 3) faults.splice(3, faults.length, `${faults.length - 3} more lines are no digests`);
+  const what = isList ? 'listed file' : 'digest';
+  const by = [...new Set(lines.map((line) => `RIPEMD-${line.bits}`))].join(', ');
+  if (by) faults.unshift(`${lines.length} ${what}${lines.length > 1 ? 's' : ''}: ${by}`);
+  byId('reading').textContent = faults.join('; ');
+  byId('reading').className = faults.length > (by ? 1 : 0) ? 'differs' : '';
+  for (const each of cards) each.compare();
+  judge();
 }
 
-byId('expected').oninput = () => {
-  const read = byId('expected').value.split('\n').map((line) => line.trim()).map((line) => line && parse(line));
-  expected = read.filter((line) => line.bits);
-  const faults = read.flatMap((line, at) => (line && !line.bits ? `line ${at + 1} is ${line}` : []));
-  if (faults.length > 3) faults.splice(3, faults.length, `${faults.length - 3} more lines are no digests`);
-  const found = [...new Set(expected.map((line) => `RIPEMD-${line.bits}`))].join(', ');
-  if (found) faults.unshift(`${expected.length} ${expected.length > 1 ? 'digests' : 'digest'}: ${found}`);
-  byId('reading').textContent = faults.join('; ');
-  byId('reading').className = read.every((line) => !line || line.bits) ? '' : 'differs';
-  for (const card of cards) card.compare();
-};
+byId('expected').oninput = () => expect(byId('expected').value);
 
 byId('files').onchange = () => {
   take(byId('files').files);
@@ -184,9 +264,11 @@ ondrop = (event) => {
   document.body.classList.remove('dropping');
   if (!bringsFiles(event)) return;
   event.preventDefault();
+  const files = [];
   for (const item of event.dataTransfer.items) {
     const file = item.getAsFile();
     if (item.webkitGetAsEntry()?.isDirectory) new Card(file).end('✗ is a folder: choose the files in it', 'differs');
-    else if (file) take([file]);
+    else if (file) files.push(file);
   }
+  take(files);
 };
