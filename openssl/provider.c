@@ -141,7 +141,7 @@ static int provider_get_params(void *provider, OSSL_PARAM params[]) {
          (!status || OSSL_PARAM_set_int(status, 1));
 }
 
-/* RIPEMD-160 has the names that OpenSSL gives it, the others have alike ones; RIPEMD-320 has no OID. */
+/* RIPEMD-160 has the names that OpenSSL gives it, and the others like ones; RIPEMD-320 has no OID. */
 static OSSL_FUNC_provider_query_operation_fn query_operation;
 static const OSSL_ALGORITHM *query_operation(void *provider, int operation, int *no_cache) {
   static const char ours[] = "provider=nattizhu";
