@@ -169,10 +169,11 @@ def assert_pages(folder):
     assert "SECURITY.md" in places and places <= set(SHIPPED)
 
 
-def assert_page_of_rmdsum(folder):
-    """There is the page to which rmdsum.1 sends its readers, and each link of it leads to a page."""
-    named = re.search(r"^\.I (crates/.*)$", (ROOT / "crates/rmdsum/rmdsum.1").read_text("utf-8"), re.MULTILINE)[1]
-    assert "## Where it differs from coreutils\n" in (folder / named).read_text("utf-8")
+def assert_pages_of_the_programs(folder):
+    """There are the pages to which the manual pages send their readers, and each link of them leads to a page."""
+    for name, head in ("rmdsum", "Where it differs from coreutils"), ("ripemd_sum", "What is only tested"):
+        named = re.search(r"^\.I (crates/.*)$", (ROOT / f"crates/{name}/{name}.1").read_text("utf-8"), re.MULTILINE)[1]
+        assert f"\n## {head}\n" in (folder / named).read_text("utf-8")
     for page in (folder / "crates").rglob("*.md"):
         for target in re.findall(r"\]\(([^)#]+)[^)]*\)", page.read_text("utf-8")):
             assert target.startswith("https:") or (page.parent / target).exists(), (page, target)
@@ -182,7 +183,7 @@ def test_pages_of_the_archives(files, machine):
     [folder] = [path.parent for path in files if path.name == "SECURITY.md"]
     assert_pages(folder)
     if machine == "x86_64":
-        assert_page_of_rmdsum(folder)
+        assert_pages_of_the_programs(folder)
 
 
 def test_pages_of_the_debian_packages(debs, tmp_path):
@@ -193,7 +194,7 @@ def test_pages_of_the_debian_packages(debs, tmp_path):
     for folder in folders:
         assert_pages(folder)
     [deb] = [deb for deb in debs if deb.name.startswith("nattizhu_")]
-    assert_page_of_rmdsum(tmp_path / deb.stem / "usr/share/doc/nattizhu")
+    assert_pages_of_the_programs(tmp_path / deb.stem / "usr/share/doc/nattizhu")
 
 
 @pytest.fixture(name="shell", scope="module")
