@@ -24,6 +24,8 @@ def lines_of(names):
 
 
 def main():
+    if len(sys.argv) != 2:
+        sys.exit("usage: find FOLDER -type f -print0 | cluster.py SCHEDULER")
     names = sys.stdin.buffer.read().split(b"\0")[:-1]
     parts = [names[at:at + PART] for at in range(0, len(names), PART)]
     failed = False
