@@ -13,8 +13,6 @@ import sys
 
 import distributed
 
-PART = 100
-
 
 def lines_of(names):
     """What rmdsum prints of some files, and what it complains of."""
@@ -27,7 +25,7 @@ def main():
     if len(sys.argv) != 2:
         sys.exit("usage: find FOLDER -type f -print0 | cluster.py SCHEDULER")
     names = sys.stdin.buffer.read().split(b"\0")[:-1]
-    parts = [names[at:at + PART] for at in range(0, len(names), PART)]
+    parts = [names[at:at + 100] for at in range(0, len(names), 100)]
     failed = False
     with distributed.Client(sys.argv[1]) as client:
         for part in client.map(lines_of, parts, pure=False):

@@ -25,8 +25,7 @@ class BdistWheel(bdist_wheel):
         with open(module, "rb") as file:
             needed = re.findall(rb"\0GLIBC_2\.(\d+)", file.read())
         *tag, platform = super().get_tag()
-        return *tag, platform.replace(
-            "linux", f"manylinux_2_{max(map(int, needed))}")
+        return *tag, platform.replace("linux", f"manylinux_2_{max(map(int, needed))}")
 
 
 setup(
