@@ -130,12 +130,12 @@ def test_oldest_c_library(files, name, needed):
 
 
 def test_tag_of_the_wheel(dist, files, machine):
-    """It names the oldest C library that has what the module needs; that needs no other."""
+    """It names the oldest C library that has what the module needs; that needs no other library."""
     need("objdump", "binutils")
     modules = [path for path in files if path.name == "_nattizhu.abi3.so"] or pytest.skip("there is no wheel")
     said = run("objdump", "-p", *modules).stdout
     newest = max(map(int, re.findall(r"\bGLIBC_2\.(\d+)", said)))
-    assert re.findall("NEEDED +(.*)", said) == ["libc.so.6"]
+    assert re.findall("NEEDED +(?!ld-linux)(.*)", said) == ["libc.so.6"]
     assert [path.name for path in dist.glob(f"*_{machine}.whl")] == [
         f"nattizhu-{version()}-cp311-abi3-manylinux_2_{newest}_{machine}.whl"]
 
