@@ -135,7 +135,7 @@ def test_tag_of_the_wheel(dist, files, machine):
     modules = [path for path in files if path.name == "_nattizhu.abi3.so"] or pytest.skip("there is no wheel")
     said = run("objdump", "-p", *modules).stdout
     newest = max(map(int, re.findall(r"\bGLIBC_2\.(\d+)", said)))
-    assert re.findall("NEEDED +(?!ld-linux)(.*)", said) == ["libc.so.6"]
+    assert re.findall(r"NEEDED +\b(?!ld-linux)(.*)", said) == ["libc.so.6"]
     assert [path.name for path in dist.glob(f"*_{machine}.whl")] == [
         f"nattizhu-{version()}-cp311-abi3-manylinux_2_{newest}_{machine}.whl"]
 
