@@ -1,4 +1,4 @@
-"""The speed of calls from Python beside those of hashlib and hmac, as a table in Markdown."""
+"""The speed of calls from Python beside those of hashlib and hmac, and of Cryptodome, as a table in Markdown."""
 import hashlib
 import hmac
 import threading
@@ -6,9 +6,14 @@ import timeit
 
 import nattizhu
 
+try:
+    from Cryptodome.Hash import HMAC, RIPEMD160
+except ImportError:
+    RIPEMD160 = None
+
 KEY, SHORT, LONG = bytes(20), bytes(32), bytes(2**20)
 RECORDS = SHORT * 8192
-THERE = "ripemd160" in hashlib.algorithms_available
+THERE = ["ripemd160" in hashlib.algorithms_available, RIPEMD160 is not None]
 
 
 def least(calls, times, turns=300):
@@ -17,12 +22,12 @@ def least(calls, times, turns=300):
     return [min(each) / times * 1e9 for each in zip(*slices)]
 
 
-def row(what, unit, ours, theirs, times, scale=round):
-    if theirs and THERE:
-        first, second = least([ours, theirs], times)
-        print(f"| {what}, {unit} | {scale(first)} | {scale(second)} | {second / first:.2f} |")
-    else:
-        print(f"| {what}, {unit} | {scale(*least([ours], times))} | | |")
+def row(what, unit, times, ours, *others, scale=round):
+    found = {place: call for place, call in enumerate(others) if THERE[place]}
+    first, *rest = least([ours, *found.values()], times)
+    cells = {place: f"{scale(time)} |" for place, time in zip(found, rest)}
+    print(f"| {what}, {unit} | {scale(first)} |", *(cells.get(place, "|") for place in range(len(THERE))),
+          f"{min(rest) / first:.2f} |" if rest else "|")
 
 
 def speed(ns):
@@ -45,17 +50,18 @@ def four_threads(make):
 
 
 ours = nattizhu.ripemd160()
-theirs = hashlib.new("ripemd160") if THERE else None
-print("| | nattizhu | hashlib, hmac | how many times as fast |")
-print("|---|---|---|---|")
-row("digest of 32 bytes", "ns", lambda: nattizhu.ripemd160(SHORT).digest(),
-    lambda: hashlib.new("ripemd160", SHORT).digest(), 500)
-row("tag of 32 bytes", "ns", lambda: nattizhu.hmac_digest(KEY, SHORT, "ripemd160"),
-    lambda: hmac.digest(KEY, SHORT, "ripemd160"), 500)
-row("update of 1 byte", "ns", lambda: ours.update(b"x"), lambda: theirs.update(b"x"), 5000)
-row("digest of 1 MiB", "MB/s", lambda: nattizhu.ripemd160(LONG).digest(),
-    lambda: hashlib.new("ripemd160", LONG).digest(), 1, speed)
-row("8,192 records of 32 bytes", "ns each", lambda: nattizhu.digest_each("ripemd160", RECORDS, 32),
-    None, 1, lambda ns: round(ns / 8192))
+theirs = [hashlib.new("ripemd160") if THERE[0] else None, RIPEMD160.new() if THERE[1] else None]
+print("| | nattizhu | hashlib, hmac | Cryptodome | times as fast as the faster of these |")
+print("|---|---|---|---|---|")
+row("digest of 32 bytes", "ns", 500, lambda: nattizhu.ripemd160(SHORT).digest(),
+    lambda: hashlib.new("ripemd160", SHORT).digest(), lambda: RIPEMD160.new(SHORT).digest())
+row("tag of 32 bytes", "ns", 500, lambda: nattizhu.hmac_digest(KEY, SHORT, "ripemd160"),
+    lambda: hmac.digest(KEY, SHORT, "ripemd160"), lambda: HMAC.new(KEY, SHORT, RIPEMD160).digest())
+row("update of 1 byte", "ns", 5000, lambda: ours.update(b"x"), lambda: theirs[0].update(b"x"), lambda: theirs[1].update(b"x"))
+row("digest of 1 MiB", "MB/s", 1, lambda: nattizhu.ripemd160(LONG).digest(),
+    lambda: hashlib.new("ripemd160", LONG).digest(), lambda: RIPEMD160.new(LONG).digest(), scale=speed)
+row("8,192 records of 32 bytes", "ns each", 1, lambda: nattizhu.digest_each("ripemd160", RECORDS, 32),
+    scale=lambda ns: round(ns / 8192))
+makers = [lambda data: hashlib.new("ripemd160", data), lambda data: RIPEMD160.new(data)]
 print("| 64 MiB by each of four threads, of the time of one |", four_threads(nattizhu.ripemd160), "|",
-      four_threads(lambda data: hashlib.new("ripemd160", data)) if THERE else "", "| |")
+      *(f"{four_threads(make)} |" if there else "|" for make, there in zip(makers, THERE)), "|")

@@ -141,15 +141,15 @@ static int provider_get_params(void *provider, OSSL_PARAM params[]) {
          (!status || OSSL_PARAM_set_int(status, 1));
 }
 
-/* The names of RIPEMD-160 are those that OpenSSL gives it; RIPEMD-320 has no OID. */
+/* RIPEMD-160 has the names that OpenSSL gives it, and the others like ones; RIPEMD-320 has no OID. */
 static OSSL_FUNC_provider_query_operation_fn query_operation;
 static const OSSL_ALGORITHM *query_operation(void *provider, int operation, int *no_cache) {
   static const char ours[] = "provider=nattizhu";
   static const OSSL_ALGORITHM digests[] = {
-      {"RIPEMD-128:RIPEMD128:1.3.36.3.2.2", ours, functions_128, NULL},
+      {"RIPEMD-128:RIPEMD128:RMD128:1.3.36.3.2.2", ours, functions_128, NULL},
       {"RIPEMD-160:RIPEMD160:RIPEMD:RMD160:1.3.36.3.2.1", ours, functions_160, NULL},
-      {"RIPEMD-256:RIPEMD256:1.3.36.3.2.3", ours, functions_256, NULL},
-      {"RIPEMD-320:RIPEMD320", ours, functions_320, NULL},
+      {"RIPEMD-256:RIPEMD256:RMD256:1.3.36.3.2.3", ours, functions_256, NULL},
+      {"RIPEMD-320:RIPEMD320:RMD320", ours, functions_320, NULL},
       {NULL, NULL, NULL, NULL}};
   (void)provider;
   *no_cache = 0;

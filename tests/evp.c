@@ -27,10 +27,10 @@ static const struct variant {
   size_t size;
   const char *names[NAMES + 1];
 } ALL[VARIANTS] = {
-    {128, 16, {"RIPEMD-128", "RIPEMD128", "1.3.36.3.2.2"}},
+    {128, 16, {"RIPEMD-128", "RIPEMD128", "RMD128", "1.3.36.3.2.2"}},
     {160, 20, {"RIPEMD-160", "RIPEMD160", "RIPEMD", "RMD160", "1.3.36.3.2.1"}},
-    {256, 32, {"RIPEMD-256", "RIPEMD256", "1.3.36.3.2.3"}},
-    {320, 40, {"RIPEMD-320", "ripemd320"}},
+    {256, 32, {"RIPEMD-256", "RIPEMD256", "RMD256", "1.3.36.3.2.3"}},
+    {320, 40, {"RIPEMD-320", "ripemd320", "rmd320"}},
 };
 
 static const char *folder, *data;

@@ -48,7 +48,7 @@ def test_vectors_from_python(arm64, tmp_path):
     made = run("build/wheel", tmp_path, arm64, ARM64, status=None)
     if made.returncode:
         pytest.skip(made.stderr.strip())
-    for wheel in tmp_path.glob("nattizhu-*-linux_aarch64.whl"):
+    for wheel in tmp_path.glob("nattizhu-*_aarch64.whl"):
         shutil.unpack_archive(wheel, tmp_path / "package", "zip")
     compared = run("qemu-aarch64", tmp_path / "python", ROOT / "tests/vectors.py", DATA,
                    env={"PYTHONPATH": tmp_path / "package"}).stdout

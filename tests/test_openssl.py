@@ -24,6 +24,10 @@ SHARED = ["-std=c99", "-fPIC", "-shared", "-Wl,-rpath,$ORIGIN/..", "-I", CRATE, 
 # The least number of cases that each part of tests/evp.c has to try.
 PARTS = {"vectors": 160000, "choices": 8, "signatures": 12, "functions": 1400, "threads": 1100}
 
+# The digests of "abc" that the authors published.
+PUBLISHED = ["c14a12199c66e4ba84636b0f69144c77", ABC,
+             "afbd6e228b9d8cbbcef5ca2d03e6dba10ac0bc7dcbe4680e1e42d2e975459b65",
+             "de4c01b3054f8930a79d09ae738e92301e5a17085beffdc1b8d116713e74f82fa942d64cdbc4682d"]
 # The messages of tests/data, by variant and length, with their digests.
 DIGESTS = {(bits, int(length)): digest for bits in ("128", "160", "256", "320")
            for length, digest in lines(f"digests-{bits}.txt")}
@@ -220,6 +224,11 @@ def test_digests(openssl, tmp_path, bits, providers):
     assert {int(name): digest for digest, name in re.findall(r"^(\w+) \*(\d+)$", printed, re.MULTILINE)} == wanted
 
 
+@pytest.mark.parametrize("bits, digest", zip(["128", "160", "256", "320"], PUBLISHED))
+def test_names_as_of_openssl(openssl, bits, digest):
+    assert openssl("dgst", f"-rmd{bits}", input="abc").stdout == f"RIPEMD-{bits}(stdin)= {digest}\n"
+
+
 @pytest.mark.parametrize("bits", ["128", "160", "256", "320"])
 def test_tags(openssl, bits):
     tried = [(key, text, tag) for variant, key, text, tag in TAGS if variant == bits]
@@ -265,11 +274,6 @@ PYTHON = """import hashlib, sys
 print([hashlib.new(f"ripemd{bits}", b"abc").hexdigest() for bits in (128, 160, 256, 320)], hashlib.sha256().name,
       "nattizhu.so" in open("/proc/self/maps").read())
 """
-# The digests of "abc" that the authors published.
-PUBLISHED = ["c14a12199c66e4ba84636b0f69144c77", ABC,
-             "afbd6e228b9d8cbbcef5ca2d03e6dba10ac0bc7dcbe4680e1e42d2e975459b65",
-             "de4c01b3054f8930a79d09ae738e92301e5a17085beffdc1b8d116713e74f82fa942d64cdbc4682d"]
-
 
 @pytest.fixture(name="configurations", scope="session")
 def fixture_configurations(tmp_path_factory):
@@ -306,6 +310,16 @@ def test_hashlib_without_the_provider(bits):
     assert said.endswith(f"ValueError: unsupported hash type ripemd{bits}\n")
 
 
+def test_what_hashlib_does_not_know(modules, configurations):
+    """It names RIPEMD-160 alone, as docs/PYTHON.md says."""
+    code = """import hashlib
+print(*(f"{hashlib.new(name).name} {name in hashlib.algorithms_available}" for name in ("ripemd128", "ripemd160")))"""
+    env = {"OPENSSL_MODULES": modules, "OPENSSL_CONF": configurations["itself"]}
+    assert run("/usr/bin/python3", "-c", code, env=env).stdout == "undefined False ripemd160 True\n"
+    said = (ROOT / "docs/PYTHON.md").read_text("utf-8")
+    assert "`undefined`" in said and "`algorithms_available`" in said
+
+
 # A library by whose digests one sees that the provider was asked: all are zeros.
 ZEROS = """#include <string.h>
 const char *nattizhu_version(void) { return ""; }
@@ -331,6 +345,31 @@ def test_configuration(over, configurations, tmp_path, name):
     theirs = run("openssl", "dgst", "-propquery", "provider=default", "-ripemd160", input="abc", env=env).stdout
     assert theirs == f"RIPEMD-160(stdin)= {ABC}\n"
     assert "SHA2-256(stdin)= ba7816bf" in run("openssl", "dgst", "-sha256", input="abc", env=env).stdout
+
+
+# What asks EVP_get_digestbyname for a digest of "abc", by the names that docs/OPENSSL.md has.
+OLDER = {
+    "PHP 8.2": ["php", "-r", "echo @openssl_digest('abc', $argv[1]);", "--"],
+    "Ruby 3.1": ["ruby", "-ropenssl", "-e", "puts OpenSSL::Digest.hexdigest(ARGV[0], 'abc')"],
+    "Net::SSLeay": ["perl", "-MNet::SSLeay", "-e",
+                    "print unpack('H*', Net::SSLeay::EVP_Digest('abc', Net::SSLeay::EVP_get_digestbyname($ARGV[0]) || exit))"],
+    "Node.js 20": ["node", "--openssl-shared-config", "-p",
+                   "crypto.createHash(process.argv[1]).update('abc').digest('hex')"],
+}
+
+
+@pytest.mark.parametrize("program", OLDER)
+def test_older_interface(over, configurations, tmp_path, program):
+    """It has our RIPEMD-160 alone."""
+    command = OLDER[program]
+    need(command[0])
+    if run(*command, "sha256", status=None).returncode:
+        pytest.skip(f"there is no {program} (Debian's php-cli, ruby, libnet-ssleay-perl, nodejs)")
+    over(ZEROS, status=0)
+    env = {"OPENSSL_MODULES": tmp_path / "ossl-modules", "OPENSSL_CONF": configurations["itself"]}
+    printed = [run(*command, f"ripemd{bits}", env=env, status=None).stdout.strip() for bits in (128, 160, 256, 320)]
+    assert printed == ["", "0" * 40, "", ""]
+    assert program in (ROOT / "docs/OPENSSL.md").read_text("utf-8").split("\n\n")[1]
 
 
 # bip32utils of Debian calls hashlib.new("ripemd160"): the first test vector of BIP 32. The others are of RFC 2286 and of

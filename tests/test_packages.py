@@ -130,6 +130,32 @@ def test_oldest_c_library(files, name, needed):
     assert all([*map(int, text.split("."))] <= [*map(int, needed.split("."))] for text in versions)
 
 
+def test_tag_of_the_wheel(dist, files, machine):
+    """It names the oldest C library that has what the module needs; that needs no other library."""
+    need("objdump", "binutils")
+    modules = [path for path in files if path.name == "_nattizhu.abi3.so"] or pytest.skip("there is no wheel")
+    said = run("objdump", "-p", *modules).stdout
+    newest = max(map(int, re.findall(r"\bGLIBC_2\.(\d+)", said)))
+    assert re.findall(r"NEEDED +\b(?!ld-linux)(.*)", said) == ["libc.so.6"]
+    assert [path.name for path in dist.glob(f"*_{machine}.whl")] == [
+        f"nattizhu-{version()}-cp311-abi3-manylinux_2_{newest}_{machine}.whl"]
+
+
+def test_what_packages_are_built_from(files, machine, dist, debs, tmp_path):
+    """Each names the tools for its own machine alone: others that are installed do not change it."""
+    [built] = [path.read_text() for path in files if path.name == "BUILT-FROM"]
+    parts = ["commit", "toolchain", *(f"{tool} for {machine}" for tool in ("compiler", "linker", "wheel"))]
+    assert re.findall("^([^:]*): ", built, re.MULTILINE) == parts
+    architecture = {"x86_64": "amd64", "aarch64": "arm64"}[machine]
+    for deb in debs:
+        if deb.stem.endswith(architecture):
+            run("dpkg-deb", "-x", deb, tmp_path)
+            [named] = (tmp_path / "usr/share/doc" / deb.name.split("_")[0]).glob("BUILT-FROM*")
+            assert (named.name, named.read_text()) == (f"BUILT-FROM.{architecture}", built)
+    whole = (dist / "BUILT-FROM").read_text().splitlines()
+    assert set(built.splitlines()) < set(whole) and any(line.startswith("wasm: ") for line in whole) == any(dist.glob("*.tgz"))
+
+
 def test_manual_pages(files):
     need("man", "man-db")
     for page in (path for path in files if path.parts[-3] == "man"):
@@ -144,9 +170,21 @@ def assert_pages(folder):
     assert "SECURITY.md" in places and places <= set(SHIPPED)
 
 
-def test_pages_of_the_archives(files):
+def assert_pages_of_the_programs(folder):
+    """There are the pages to which the manual pages send their readers, and each link of them leads to a page."""
+    for name, head in ("rmdsum", "Where it differs from coreutils"), ("ripemd_sum", "What is only tested"):
+        named = re.search(r"^\.I (crates/.*)$", (ROOT / f"crates/{name}/{name}.1").read_text("utf-8"), re.MULTILINE)[1]
+        assert f"\n## {head}\n" in (folder / named).read_text("utf-8")
+    for page in (folder / "crates").rglob("*.md"):
+        for target in re.findall(r"\]\(([^)#]+)[^)]*\)", page.read_text("utf-8")):
+            assert target.startswith("https:") or (page.parent / target).exists(), (page, target)
+
+
+def test_pages_of_the_archives(files, machine):
     [folder] = [path.parent for path in files if path.name == "SECURITY.md"]
     assert_pages(folder)
+    if machine == "x86_64":
+        assert_pages_of_the_programs(folder)
 
 
 def test_pages_of_the_debian_packages(debs, tmp_path):
@@ -156,6 +194,8 @@ def test_pages_of_the_debian_packages(debs, tmp_path):
     assert {path.name for path in folders} == {"libnattizhu-dev", "openssl-provider-nattizhu", "python3-nattizhu"}
     for folder in folders:
         assert_pages(folder)
+    [deb] = [deb for deb in debs if deb.name.startswith("nattizhu_")]
+    assert_pages_of_the_programs(tmp_path / deb.stem / "usr/share/doc/nattizhu")
 
 
 @pytest.fixture(name="shell", scope="module")
@@ -287,10 +327,10 @@ def test_dependents(shell, environments, name):
 
 @pytest.fixture(name="python", scope="module")
 def fixture_python(shell):
-    """The interpreter of a fresh environment with the wheel and nothing else."""
+    """The interpreter of the environment that the page makes, with the wheel and nothing else."""
     shell("ls *_x86_64.whl", lacking="wheel (Debian's python3-dev, python3-pip, python3-setuptools, python3-wheel)")
     shell("python3 -c 'import ensurepip'", lacking="ensurepip (Debian's python3-venv)")
-    shell("python3 -m venv env && env/bin/pip install --no-index --disable-pip-version-check ./*_x86_64.whl")
+    shell("export PIP_NO_INDEX=1 PIP_DISABLE_PIP_VERSION_CHECK=1\n" + programs("docs/PYTHON.md", "sh")[0][0])
     return "env/bin/python"
 
 

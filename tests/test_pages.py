@@ -1,5 +1,6 @@
 """Compares the pages with what they speak of."""
 import re
+from xml.etree import ElementTree
 
 import pytest
 from conftest import ROOT, fences, lines, run, version
@@ -55,3 +56,20 @@ def test_figures_are_those_that_were_measured():
 
 def test_picture_is_that_of_the_tables():
     assert run("bench/picture", "docs/PERFORMANCE.md").stdout == (ROOT / "docs/speed.svg").read_text("utf-8")
+
+
+def test_picture_says_what_was_measured():
+    """It has a title, the date and the machine, and the fastest first; lists go by one call."""
+    svg, space = ElementTree.parse(ROOT / "docs/speed.svg").getroot(), "{http://www.w3.org/2000/svg}"
+    assert svg[0].tag == f"{space}title" and svg[0].text
+    texts = [text.text for text in svg.iter(f"{space}text")]
+    date, machine = re.search("on ([0-9-]{10}), on (.*?), Debian", (ROOT / "docs/PERFORMANCE.md").read_text("utf-8")).groups()
+    assert f"{date}, {machine}" in texts
+    panels = []
+    for part in svg:
+        if part.get("class") == "title":
+            panels.append((part.text, []))
+        elif part.tag == f"{space}rect":
+            panels[-1][1].append(float(part.get("width")))
+    assert len(panels) == 3 and all(len(bars) > 4 and bars == sorted(bars, reverse=True) for _, bars in panels)
+    assert ["by one call" in title for title, _ in panels] == [False, False, True]

@@ -181,6 +181,24 @@ def test_dependent_on_the_crate_itself(cargo, crate, tmp_path):
     cargo(folder, "test", "--all-features", env={"CARGO_TARGET_DIR": str(tmp_path)})
 
 
+def test_dependent_on_the_old_name(cargo, crate, tmp_path):
+    """The patch does not reach a crate `ripemd160`, as the page says."""
+    registry, old = tmp_path / "registry", tmp_path / "registry/ripemd160-0.10.0"
+    shutil.copytree(REGISTRY, registry)
+    for folder, name, text in [(old, "ripemd160", ""), (tmp_path, "user", f"""[dependencies]
+ripemd160 = "0.10"
+[patch.crates-io]
+ripemd.path = "{crate}/ripemd"
+""")]:
+        (folder / "src").mkdir(parents=True)
+        (folder / "src/lib.rs").touch()
+        (folder / "Cargo.toml").write_text(f'[package]\nname = "{name}"\nversion = "0.10.0"\n{text}')
+    (old / ".cargo-checksum.json").write_text('{"files": {}}')
+    ended = cargo(tmp_path, "tree", "--config", f'source.debian.directory="{registry}"')
+    assert "ripemd160 v0.10.0\n" in ended.stdout and "ripemd v" in ended.stderr and "was not used" in ended.stderr
+    assert "not by its old name `ripemd160`" in (ROOT / PAGE).read_text("utf-8")
+
+
 def test_musl(cargo, crate):
     need("rustc", "rustc")
     if not pathlib.Path(run("rustc", "--print", "target-libdir", "--target", MUSL).stdout.strip()).exists():
@@ -216,6 +234,12 @@ def test_secrets_do_not_steer_the_crate(cargo, library, marks, tmp_path):
 @pytest.mark.parametrize("name", [name for name in PRINTED if name != PIECES])
 def test_program_of_the_page(page, name):
     assert page(name).stdout == PRINTED[name]
+
+
+@pytest.mark.parametrize("kept", [b"abc", b"\xff" * 92])
+def test_file_that_keeps_no_state(page, tmp_path, kept):
+    (tmp_path / "kept").write_bytes(kept)
+    assert "the file has to keep a state of RIPEMD-160: 92 bytes" in page(PIECES, tmp_path / "kept", input="a", status=1).stderr
 
 
 @pytest.mark.parametrize("first, second", [("Rust", "Rust"), ("C", "Rust"), ("Rust", "C")])

@@ -459,22 +459,28 @@ CONSTRUCTOR(320, 3)
 typedef PyObject *(*Fast)(PyObject *, PyObject *const *, Py_ssize_t, PyObject *);
 static const Fast constructors[VARIANTS] = {ripemd128, ripemd160, ripemd256, ripemd320};
 
-/* The variant of a name, or of one of these constructors. */
-static const Variant *variant_of(PyObject *digestmod) {
+/* The variant of a name, or of one of these constructors, as a parameter has it. */
+static const Variant *variant_of(PyObject *digestmod, const char *what) {
   if (Py_IS_TYPE(digestmod, &PyCFunction_Type)) {
     PyCFunction function = PyCFunction_GetFunction(digestmod);
     for (int v = 0; v < VARIANTS; v++)
       if (function == (PyCFunction)(void (*)(void))constructors[v])
         return &variants[v];
   }
-  return variant_named(digestmod);
+  if (PyUnicode_Check(digestmod))
+    return variant_named(digestmod);
+  PyErr_Format(PyExc_TypeError,
+               "%s must be a string such as 'ripemd160' or a constructor such as nattizhu.ripemd160, "
+               "not %R", what, digestmod);
+  return NULL;
 }
 
 /* Puts the arguments in their places, and returns the variant; null and an exception if there is none. */
 static const Variant *bind_variant(const Signature *signature, PyObject *const *arguments,
                                    Py_ssize_t count, PyObject *names, PyObject **places) {
-  return bind(signature, arguments, count, names, places) ? variant_of(places[signature->variant])
-                                                          : NULL;
+  return bind(signature, arguments, count, names, places)
+             ? variant_of(places[signature->variant], signature->parameters[signature->variant])
+             : NULL;
 }
 
 static PyObject *hmac_new(PyObject *module, PyObject *const *arguments, Py_ssize_t count,
@@ -492,7 +498,7 @@ static PyObject *hmac_new(PyObject *module, PyObject *const *arguments, Py_ssize
   is_named = given[2] == NULL ? 0 : PyObject_IsTrue(given[2]);
   if (is_named == 0)
     PyErr_SetString(PyExc_TypeError, "Missing required parameter 'digestmod'.");
-  variant = is_named == 1 ? variant_of(given[2]) : NULL;
+  variant = is_named == 1 ? variant_of(given[2], signature.parameters[2]) : NULL;
   if (variant == NULL || !hold(given[0], &key, "key"))
     return NULL;
   self = made(((Module *)PyModule_GetState(module))->hmac, variant, 1);
@@ -706,9 +712,14 @@ static Py_ssize_t next_group(Group *group, PyObject *iterator) {
 /* The digests of messages, or their tags if there is a key. */
 static PyObject *list_of(const Variant *variant, PyObject *key, PyObject *messages) {
   Py_buffer secret = {0};
-  PyObject *list = NULL;
+  PyObject *list = NULL, *iterator;
   Group *group = NULL;
-  PyObject *iterator = PyObject_GetIter(messages);
+  if (PyBytes_Check(messages) || PyByteArray_Check(messages) || PyUnicode_Check(messages)) {
+    PyErr_SetString(PyExc_TypeError,
+                    "messages must be an iterable of bytes-like objects, as [b'abc', b'']");
+    return NULL;
+  }
+  iterator = PyObject_GetIter(messages);
   if (iterator == NULL)
     return NULL;
   if (key == NULL || hold(key, &secret, "key")) {

@@ -466,6 +466,21 @@ class Errors(unittest.TestCase):
             with self.assertRaises(TypeError):
                 nattizhu.new(name)
 
+    def test_other_constructors(self):
+        """The error says what to give."""
+        for what, call in (
+                ("digestmod", lambda x: nattizhu.hmac_new(b"", b"", x)),
+                ("digest", lambda x: nattizhu.hmac_digest(b"", b"", x)),
+                ("name", lambda x: nattizhu.digest_list(x, [])),
+                ("hash_name", lambda x: nattizhu.pbkdf2_hmac(x, b"", b"", 1))):
+            for wrong in (hashlib.sha256, nattizhu.new, b"ripemd160"):
+                with self.assertRaises(TypeError) as caught:
+                    call(wrong)
+                self.assertEqual(
+                    str(caught.exception),
+                    f"{what} must be a string such as 'ripemd160' or a "
+                    f"constructor such as nattizhu.ripemd160, not {wrong!r}")
+
     def test_no_digestmod(self):
         """The error is that of the standard hmac."""
         class Failing:
@@ -517,6 +532,14 @@ class Errors(unittest.TestCase):
                 nattizhu.digest_list("ripemd160", messages)
             with self.assertRaises(TypeError):
                 nattizhu.hmac_digest_list(b"key", messages, "ripemd160")
+
+        for message in (b"abc", b"", bytearray(b"abc"), "abc", ""):
+            for call in (lambda: nattizhu.digest_list("ripemd160", message),
+                         lambda: nattizhu.hmac_digest_list(
+                             b"key", message, "ripemd160")):
+                with self.assertRaises(TypeError) as caught:
+                    call()
+                self.assertIn("as [b'abc', b'']", str(caught.exception))
 
         def failing():
             yield b"abc"

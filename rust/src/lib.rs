@@ -15,7 +15,7 @@ mod sys;
 
 pub use crate::hashers::{digest_message, Ripemd, Ripemd128, Ripemd160, Ripemd256, Ripemd320};
 pub use crate::mac::Hmac;
-pub use crate::many::{digest_each, digest_list, hmac_each, hmac_list};
+pub use crate::many::{digest_each, digest_list, hmac_each, hmac_list, InvalidLength};
 pub use crate::pbkdf2::{pbkdf2_hmac, pbkdf2_hmac_list, Pbkdf2Error};
 pub use digest::common::hazmat::{DeserializeStateError, SerializableState};
-pub use digest::{self, Digest, InvalidLength, Mac, MacError};
+pub use digest::{self, Digest, Mac, MacError};

@@ -2,7 +2,20 @@
 
 use crate::sys::{self, taken, Message};
 use crate::Ripemd;
-use digest::{InvalidLength, Output};
+use core::fmt;
+use digest::Output;
+
+/// There are more or fewer places for outputs than messages, or than records of the size.
+#[derive(Clone, Copy, Debug, PartialEq, Eq)]
+pub struct InvalidLength;
+
+impl fmt::Display for InvalidLength {
+    fn fmt(&self, f: &mut fmt::Formatter<'_>) -> fmt::Result {
+        f.write_str("give one place for each message, or for each `size` bytes of records")
+    }
+}
+
+impl core::error::Error for InvalidLength {}
 
 /// Messages that are handed to the library at once.
 pub(crate) const GROUP: usize = 128;

@@ -28,7 +28,7 @@ impl fmt::Display for Pbkdf2Error {
         f.write_str(match self {
             Self::NoRounds => "no rounds",
             Self::KeyTooLong => "key too long",
-            Self::InvalidLength => "invalid length",
+            Self::InvalidLength => "give one salt, and `size` bytes of keys, for each password",
         })
     }
 }

@@ -3,7 +3,7 @@
 mod common;
 
 use common::{every_length, lines_of, ramp};
-use digest::{InvalidLength, Mac, Output};
+use digest::{Mac, Output};
 use nattizhu::*;
 
 each_variant! { records lists tags_of_records_and_lists wrong_lengths }
@@ -98,10 +98,8 @@ fn wrong_lengths<D: Ripemd>(_: usize) {
     for count in [0, 1, 3, 130] {
         let mut digests = vec![untouched.clone(); count];
         let messages: [&[u8]; 2] = [b"a", b""];
-        assert!(matches!(
-            digest_list::<D>(&messages, &mut digests),
-            Err(InvalidLength)
-        ));
+        let error = digest_list::<D>(&messages, &mut digests).unwrap_err();
+        assert!(error.to_string().starts_with("give one place "));
         assert!(matches!(
             hmac_list::<D>(b"key", &messages, &mut digests),
             Err(InvalidLength)
