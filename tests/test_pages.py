@@ -8,6 +8,8 @@ from conftest import ROOT, fences, lines, run, version
 # The examples of these pages stand in files that are proved.
 USES = "crates/ripemd_uses"
 PROVED = {
+    "CONTRIBUTING.md": ["crates/ripemd_mac/proofs/hmac/all_equal/Invariants.antt",
+                        "crates/ripemd_block/proofs/textbook/left_constant/Answers.antt"],
     "crates/ripemd_block/README.md": [f"{USES}/src/block.rt"],
     "crates/ripemd/README.md": [f"{USES}/src/readme.rt", f"{USES}/src/calling.rt", f"{USES}/src/commands.rt",
                                 f"{USES}/proofs/calling/digest_of_reader/Invariants.antt"],
