@@ -25,7 +25,7 @@ onmessage = async ({ data: file }) => {
     const digests = Object.fromEntries(hashes.map(([bits, hash]) => [bits, hex(hash.digest())]));
     postMessage({ digests, seconds: seconds() });
   } catch (error) {
-    // Why a file cannot be read, in each browser only a FileReader says.
+    // Only a FileReader says in every browser why a file cannot be read.
     const reader = new FileReader();
     reader.onloadend = () => postMessage({ error: REASONS[reader.error?.name] ?? error.message });
     reader.readAsArrayBuffer(file.slice(0, 1));
