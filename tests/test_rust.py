@@ -196,7 +196,7 @@ ripemd.path = "{crate}/ripemd"
     (old / ".cargo-checksum.json").write_text('{"files": {}}')
     ended = cargo(tmp_path, "tree", "--config", f'source.debian.directory="{registry}"')
     assert "ripemd160 v0.10.0\n" in ended.stdout and "ripemd v" in ended.stderr and "was not used" in ended.stderr
-    assert "not by its old name `ripemd160`" in (ROOT / PAGE).read_text("utf-8")
+    assert "Crates over the old name `ripemd160` are not reached." in (ROOT / PAGE).read_text("utf-8")
 
 
 def test_musl(cargo, crate):
