@@ -6,8 +6,6 @@ ghost use Rattle.ripemd_block.specs.Standard.Words.{block_size};
 ghost use Rattle.ripemd_block.specs.Standard.Hashing.{blocks};
 ghost use Rattle.ripemd_batch.specs.Lanes.{HasWords, blocks_of, hash_after, hashed_again, list_at, listed, padded_after, targets};
 
-use crate::eight::Eight;
-use crate::four::Four;
 use crate::lane_states::LaneStates;
 use crate::lanes::Lanes;
 use crate::message::message_words;
@@ -19,6 +17,7 @@ use ripemd_block::block_api::{
     BlockFunction, ByteArray, ListBlockFunction, Ripemd128Function, Ripemd160Function,
     Ripemd256Function, Ripemd320Function, walk_message, walk_words,
 };
+use std::simd::prelude::*;
 
 /// A hash function that can hash four or eight messages at once.
 pub trait BatchDigest: BlockDigest<Output: ByteArray> {
@@ -88,9 +87,9 @@ pub trait BatchFunction: ListBlockFunction {
 }
 
 impl BatchFunction for Ripemd128Function {
-    type Four = [Four; 4];
+    type Four = [u32x4; 4];
 
-    type Eight = [Eight; 4];
+    type Eight = [u32x8; 4];
 
     ghost use Rattle.std.proofs.Common.{arith, refl};
 
@@ -102,9 +101,9 @@ impl BatchFunction for Ripemd128Function {
 }
 
 impl BatchFunction for Ripemd160Function {
-    type Four = [Four; 5];
+    type Four = [u32x4; 5];
 
-    type Eight = [Eight; 5];
+    type Eight = [u32x8; 5];
 
     ghost use Rattle.std.proofs.Common.{arith, refl};
 
@@ -116,9 +115,9 @@ impl BatchFunction for Ripemd160Function {
 }
 
 impl BatchFunction for Ripemd256Function {
-    type Four = [Four; 8];
+    type Four = [u32x4; 8];
 
-    type Eight = [Eight; 8];
+    type Eight = [u32x8; 8];
 
     ghost use Rattle.std.proofs.Common.{arith, refl};
 
@@ -130,9 +129,9 @@ impl BatchFunction for Ripemd256Function {
 }
 
 impl BatchFunction for Ripemd320Function {
-    type Four = [Four; 10];
+    type Four = [u32x4; 10];
 
-    type Eight = [Eight; 10];
+    type Eight = [u32x8; 10];
 
     ghost use Rattle.std.proofs.Common.{arith, refl};
 
