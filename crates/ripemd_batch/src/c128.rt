@@ -6,10 +6,10 @@ ghost use Rattle.ripemd_block.specs.Standard.Compression.{joint_state, compress,
 ghost use Rattle.ripemd_batch.specs.Lanes.{HasWords, lane_of};
 
 use crate::lanes::Lanes;
-use crate::lines::{Lines, round};
+use crate::lines::{VectorLines, round};
 
 #[inline(always)]
-fn joint_state<V: Lanes>(state: [V; 4], lines: Lines<[V; 4]>) -> [V; 4]
+fn joint_state<V: Lanes>(state: [V; 4], lines: VectorLines<[V; 4]>) -> [V; 4]
     ensures { (j : ℕ) → j < V.COUNT → lane_of 4 j (map V.words result)
         ≡ joint_state (lane_of 4 j (map V.words state)) (lane_of 4 j (map V.words lines.left))
         (lane_of 4 j (map V.words lines.right)) }
@@ -31,7 +31,7 @@ pub(crate) fn compress<V: Lanes>(state: [V; 4], words: &[V; 16]) -> [V; 4]
         → lane_of 4 j (map V.words result)
         ≡ compress ripemd128 (lane_of 4 j (map V.words state)) block }
 {
-    let lines = Lines {
+    let lines = VectorLines {
         left: state,
         right: state,
     };

@@ -6,11 +6,11 @@ ghost use Rattle.ripemd_block.specs.Standard.Compression.{joint_state, compress,
 ghost use Rattle.ripemd_batch.specs.Lanes.{HasWords, lane_of};
 
 use crate::lanes::Lanes;
-use crate::lines::{Lines, round};
+use crate::lines::{VectorLines, round};
 
 #[tactic(auto, using(crate::proofs::OneLane::word_in))]
 #[inline(always)]
-fn joint_state<V: Lanes>(state: [V; 5], lines: Lines<[V; 5]>) -> [V; 5]
+fn joint_state<V: Lanes>(state: [V; 5], lines: VectorLines<[V; 5]>) -> [V; 5]
     ensures { (j : ℕ) → j < V.COUNT → lane_of 5 j (map V.words result)
         ≡ joint_state (lane_of 5 j (map V.words state)) (lane_of 5 j (map V.words lines.left))
         (lane_of 5 j (map V.words lines.right)) }
@@ -33,7 +33,7 @@ pub(crate) fn compress<V: Lanes>(state: [V; 5], words: &[V; 16]) -> [V; 5]
         → lane_of 5 j (map V.words result)
         ≡ compress ripemd160 (lane_of 5 j (map V.words state)) block }
 {
-    let lines = Lines {
+    let lines = VectorLines {
         left: state,
         right: state,
     };

@@ -8,15 +8,15 @@ ghost use Rattle.ripemd_block.specs.Code.Lines.{both_lines};
 ghost use Rattle.ripemd_batch.specs.Lanes.{HasWords, lane_of};
 
 use crate::lanes::Lanes;
-use crate::lines::{Lines, exchange, round};
+use crate::lines::{VectorLines, exchange, round};
 
 #[inline(always)]
-fn lines_from<V: Lanes>(state: [V; 8]) -> Lines<[V; 4]>
+fn lines_from<V: Lanes>(state: [V; 8]) -> VectorLines<[V; 4]>
     ensures { (j : ℕ) → j < V.COUNT → both_lines (lane_of 4 j (map V.words result.left))
         (lane_of 4 j (map V.words result.right))
         ≡ lines_from ripemd256 (lane_of 8 j (map V.words state)) }
 {
-    Lines {
+    VectorLines {
         left: [state[0], state[1], state[2], state[3]],
         right: [state[4], state[5], state[6], state[7]],
     }
@@ -24,7 +24,7 @@ fn lines_from<V: Lanes>(state: [V; 8]) -> Lines<[V; 4]>
 
 #[tactic(auto, using(crate::proofs::OneLane::word_in))]
 #[inline(always)]
-fn double_state<V: Lanes>(state: [V; 8], lines: Lines<[V; 4]>) -> [V; 8]
+fn double_state<V: Lanes>(state: [V; 8], lines: VectorLines<[V; 4]>) -> [V; 8]
     ensures { (j : ℕ) → j < V.COUNT → lane_of 8 j (map V.words result)
         ≡ double_state (lane_of 8 j (map V.words state)) (lane_of 4 j (map V.words lines.left))
         (lane_of 4 j (map V.words lines.right)) }

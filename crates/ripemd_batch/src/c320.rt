@@ -8,15 +8,15 @@ ghost use Rattle.ripemd_block.specs.Code.Lines.{both_lines};
 ghost use Rattle.ripemd_batch.specs.Lanes.{HasWords, lane_of};
 
 use crate::lanes::Lanes;
-use crate::lines::{Lines, exchange, round};
+use crate::lines::{VectorLines, exchange, round};
 
 #[inline(always)]
-fn lines_from<V: Lanes>(state: [V; 10]) -> Lines<[V; 5]>
+fn lines_from<V: Lanes>(state: [V; 10]) -> VectorLines<[V; 5]>
     ensures { (j : ℕ) → j < V.COUNT → both_lines (lane_of 5 j (map V.words result.left))
         (lane_of 5 j (map V.words result.right))
         ≡ lines_from ripemd320 (lane_of 10 j (map V.words state)) }
 {
-    Lines {
+    VectorLines {
         left: [state[0], state[1], state[2], state[3], state[4]],
         right: [state[5], state[6], state[7], state[8], state[9]],
     }
@@ -24,7 +24,7 @@ fn lines_from<V: Lanes>(state: [V; 10]) -> Lines<[V; 5]>
 
 #[tactic(auto, using(crate::proofs::OneLane::word_in))]
 #[inline(always)]
-fn double_state<V: Lanes>(state: [V; 10], lines: Lines<[V; 5]>) -> [V; 10]
+fn double_state<V: Lanes>(state: [V; 10], lines: VectorLines<[V; 5]>) -> [V; 10]
     ensures { (j : ℕ) → j < V.COUNT → lane_of 10 j (map V.words result)
         ≡ double_state (lane_of 10 j (map V.words state)) (lane_of 5 j (map V.words lines.left))
         (lane_of 5 j (map V.words lines.right)) }

@@ -15,7 +15,7 @@ use ripemd::digest::BlockDigest;
 use ripemd::padding::block_count;
 use ripemd_block::block_api::{
     BlockFunction, ByteArray, ListBlockFunction, Ripemd128Function, Ripemd160Function,
-    Ripemd256Function, Ripemd320Function, walk_message, walk_words,
+    Ripemd256Function, Ripemd320Function, walk_digest, walk_message,
 };
 use std::simd::prelude::*;
 
@@ -194,7 +194,7 @@ pub(crate) fn state_of_digest<D: BatchDigest>(first: StateOf<D>, digest: &[u8]) 
     ensures { D.output (D.Function.list result)
         ≡ hash_after 64 (D.Function.list first) D.step D.output digest.now }
 {
-    walk_words::<D::Function>(first, 64, digest)
+    walk_digest::<D::Function>(first, 64, digest)
 }
 
 #[inline(always)]
@@ -226,7 +226,7 @@ fn blocks_of_message<'a, 'b>(
 
 // The states that give the digests of the messages after `before` bytes, which led to the state `first`. If there is a
 // state `outer`, the outputs are hashed again from it.
-pub(crate) fn walk_group<S: LaneStates>(
+pub(crate) fn walk_messages<S: LaneStates>(
     first: <S::Function as BlockFunction>::State,
     before: u64,
     outer: Option<<S::Function as BlockFunction>::State>,

@@ -19,13 +19,13 @@ pub(crate) enum Side {
 
 /// The registers of both lines.
 #[derive(Clone, Copy)]
-pub(crate) struct Lines<R: Copy> {
+pub(crate) struct VectorLines<R: Copy> {
     pub(crate) left: R,
     pub(crate) right: R,
 }
 
 /// The registers of a line: as many as it has rounds.
-pub(crate) trait LineRegisters: Copy {
+pub(crate) trait VectorRegisters: Copy {
     /// The vectors.
     type Vector: Lanes;
 
@@ -52,7 +52,7 @@ pub(crate) trait LineRegisters: Copy {
             ≡ exchange (Some k) (both_lines (lane j left) (lane j right)) };
 }
 
-impl<V: Lanes> LineRegisters for [V; 4] {
+impl<V: Lanes> VectorRegisters for [V; 4] {
     type Vector = V;
 
     ghost lane = { λ j v. lane_of 4 j (map V.words v) };
@@ -76,7 +76,7 @@ impl<V: Lanes> LineRegisters for [V; 4] {
     }
 }
 
-impl<V: Lanes> LineRegisters for [V; 5] {
+impl<V: Lanes> VectorRegisters for [V; 5] {
     type Vector = V;
 
     ghost lane = { λ j v. lane_of 5 j (map V.words v) };
@@ -165,7 +165,7 @@ fn word_number(side: Side, r: usize, i: usize) -> usize
 // Step `i` of round `r` of a line.
 #[tactic(auto, using(ripemd_block::proofs::Stepping::one_more_step, crate::proofs::OneLane::word_in))]
 #[inline(always)]
-fn step_at<R: LineRegisters>(
+fn step_at<R: VectorRegisters>(
     side: Side,
     r: usize,
     i: usize,
@@ -188,7 +188,7 @@ fn step_at<R: LineRegisters>(
 
 // Four steps of round `r` of a line, from step `from` on.
 #[inline(always)]
-fn four_steps<R: LineRegisters>(
+fn four_steps<R: VectorRegisters>(
     side: Side,
     r: usize,
     from: usize,
@@ -213,10 +213,10 @@ fn four_steps<R: LineRegisters>(
 
 /// Round `N` of both lines, four steps of each in turn, since neither waits for the other.
 #[inline(always)]
-pub(crate) fn round<R: LineRegisters, const N: usize>(
+pub(crate) fn round<R: VectorRegisters, const N: usize>(
     words: &[R::Vector; 16],
-    lines: Lines<R>,
-) -> Lines<R>
+    lines: VectorLines<R>,
+) -> VectorLines<R>
     requires round { N < R.ROUNDS }
     requires most { R.ROUNDS ≤ 5 }
     ensures left { (j : ℕ) → j < R.Vector.COUNT → (block : List ℕ)
@@ -234,16 +234,16 @@ pub(crate) fn round<R: LineRegisters, const N: usize>(
     let right = four_steps(Side::Right, N, 8, words, right);
     let left = four_steps(Side::Left, N, 12, words, left);
     let right = four_steps(Side::Right, N, 12, words, right);
-    Lines { left, right }
+    VectorLines { left, right }
 }
 
 /// The lines with register `k` exchanged.
 #[inline(always)]
-pub(crate) fn exchange<R: LineRegisters>(k: usize, lines: Lines<R>) -> Lines<R>
+pub(crate) fn exchange<R: VectorRegisters>(k: usize, lines: VectorLines<R>) -> VectorLines<R>
     requires { k < R.ROUNDS }
     ensures { (j : ℕ) → j < R.Vector.COUNT → both_lines (R.lane j result.left) (R.lane j result.right)
         ≡ exchange (Some k) (both_lines (R.lane j lines.left) (R.lane j lines.right)) }
 {
     let (left, right) = R::exchange(k, lines.left, lines.right);
-    Lines { left, right }
+    VectorLines { left, right }
 }

@@ -8,7 +8,7 @@ ghost use Rattle.ripemd_batch.specs.Lanes.{PutFrom, made_by, targets};
 
 use crate::groups::{
     BatchDigest, StateOf, count_blocks, digest_of_digest, digest_one, group_end, message_at,
-    walk_group,
+    walk_messages,
 };
 use crate::lane_states::LaneStates;
 use crate::places::{Arrays, Bytes, Places};
@@ -232,7 +232,7 @@ impl<D: BatchDigest> ListHasher<D> {
         ensures { PutFrom at (map (made_by D.step D.output self.now) (targets messages.now))
             (P.list places.old) (P.list places.new) }
     {
-        let states: S = walk_group(self.first, self.before, self.outer, messages);
+        let states: S = walk_messages(self.first, self.before, self.outer, messages);
         // Eight turns: so the compiler knows the lane of each.
         for j in 0..8 {
             if j < messages.len() {

@@ -1,3 +1,3 @@
 -- What the code's own types stand for.
 pub mod Lines
-pub mod Lanes
+pub mod TwoLanes

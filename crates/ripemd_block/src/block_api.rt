@@ -2,7 +2,7 @@
 
 pub use crate::arrays::{ByteArray, write_short};
 pub use crate::block_core::{
-    BlockCore, digest_message, update_saved, walk, walk_message, walk_words,
+    BlockCore, digest_message, update_saved, walk, walk_digest, walk_message,
 };
 pub use crate::traits::{
     AlgorithmName, BlockFunction, BlockSizeUser, BufferKindUser, DeserializeStateError, Eager,

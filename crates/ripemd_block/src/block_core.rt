@@ -221,7 +221,7 @@ pub fn walk_message<F: ListBlockFunction>(first: F::State, before: u64, message:
 /// Gives what [`walk_message`] does, faster if the compiler knows the length of `message`, as of a digest, and this is
 /// a multiple of 4 below 56.
 #[inline(always)]
-pub fn walk_words<F: ListBlockFunction>(first: F::State, before: u64, message: &[u8]) -> F::State
+pub fn walk_digest<F: ListBlockFunction>(first: F::State, before: u64, message: &[u8]) -> F::State
     requires { F.is_state first }
     ensures value { F.list result ≡ walk F.step (F.list first)
         (blocks (with_padding message.now (8 * (before + length message.now) % 2 ^ 64))) }
@@ -291,7 +291,7 @@ pub fn update_saved<F: ResumableFunction>(saved: &mut [u8], blocks: &[[u8; 64]])
 {
     let (output, behind) = saved.split_at_mut(<F::Digest as ByteArray>::LEN);
     if !blocks.is_empty() {
-        F::walk_output(output, blocks);
+        F::walk_on_output(output, blocks);
     }
     let count = read_count(behind).wrapping_add(blocks.len() as u64);
     behind.copy_from_slice(&count.to_le_bytes());

@@ -6,7 +6,7 @@ ghost use Rattle.ripemd_block.specs.Standard.Compression.{compress, ripemd128};
 ghost use Rattle.ripemd_block.specs.States.{AreWords};
 
 use crate::chaining::joint_state_of_four;
-use crate::lanes::{lane_of_four, lanes_of_four, lines_after};
+use crate::two_lanes::{lane_of_four, lanes_of_four, lines_after};
 
 /// Takes one block into the state.
 #[tactic(auto, using(crate::proofs::Stepping::word_sums_fit))]

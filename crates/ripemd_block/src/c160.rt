@@ -6,7 +6,7 @@ ghost use Rattle.ripemd_block.specs.Standard.Compression.{compress, ripemd160};
 ghost use Rattle.ripemd_block.specs.States.{AreWords};
 
 use crate::chaining::joint_state_of_five;
-use crate::lanes::{lane_of_five, lanes_of_five, lines_after};
+use crate::two_lanes::{lane_of_five, lanes_of_five, lines_after};
 
 /// Takes one block into the state.
 #[tactic(auto, using(crate::proofs::Stepping::word_sums_fit))]

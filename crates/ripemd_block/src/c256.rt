@@ -6,7 +6,7 @@ ghost use Rattle.ripemd_block.specs.Standard.Compression.{compress, ripemd256};
 ghost use Rattle.ripemd_block.specs.States.{AreWords};
 
 use crate::chaining::{double_state_of_four, lines_of_256};
-use crate::lanes::{lane_of_four, lanes_of_four, lines_after};
+use crate::two_lanes::{lane_of_four, lanes_of_four, lines_after};
 
 /// Takes one block into the state.
 #[tactic(auto, using(crate::proofs::Stepping::word_sums_fit))]

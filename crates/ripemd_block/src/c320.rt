@@ -6,7 +6,7 @@ ghost use Rattle.ripemd_block.specs.Standard.Compression.{compress, ripemd320};
 ghost use Rattle.ripemd_block.specs.States.{AreWords};
 
 use crate::chaining::{double_state_of_five, lines_of_320};
-use crate::lanes::{lane_of_five, lanes_of_five, lines_after};
+use crate::two_lanes::{lane_of_five, lanes_of_five, lines_after};
 
 /// Takes one block into the state.
 #[tactic(auto, using(crate::proofs::Stepping::word_sums_fit))]

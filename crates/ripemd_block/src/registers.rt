@@ -12,7 +12,7 @@ use crate::chaining::{
 };
 use crate::traits::BlockFunction;
 use crate::variants::{Ripemd128Function, Ripemd160Function, Ripemd256Function, Ripemd320Function};
-use lines::{Lines, exchange, round, words_of_five_rounds, words_of_four_rounds};
+use lines::{BothLines, exchange, round, words_of_five_rounds, words_of_four_rounds};
 use std::simd::prelude::*;
 
 /// A block function with a step in general registers.
@@ -32,7 +32,7 @@ pub(crate) trait InRegisters: BlockFunction {
 
 /// Takes blocks into a state in order.
 #[inline(always)]
-pub(crate) fn walk_on<F: InRegisters>(first: &mut F::State, blocks: &[[u8; 64]])
+pub(crate) fn walk_in_registers<F: InRegisters>(first: &mut F::State, blocks: &[[u8; 64]])
     ensures value { first.new ≡ walk F.step_of first.old blocks.now }
     ensures valid { F.is_state first.old → F.is_state first.new }
 {
@@ -48,7 +48,7 @@ impl InRegisters for Ripemd128Function {
     #[inline(always)]
     fn compress(state: [u32; 4], block: &[u8; 64]) -> [u32; 4] {
         let words = words_of_four_rounds(block);
-        let lines = Lines {
+        let lines = BothLines {
             left: state,
             right: state,
         };
@@ -65,7 +65,7 @@ impl InRegisters for Ripemd160Function {
     #[inline(always)]
     fn compress(state: [u32; 5], block: &[u8; 64]) -> [u32; 5] {
         let words = words_of_five_rounds(block);
-        let lines = Lines {
+        let lines = BothLines {
             left: state,
             right: state,
         };
@@ -94,7 +94,7 @@ impl InRegisters for Ripemd256Function {
     fn compress(state: [u32; 8], block: &[u8; 64]) -> [u32; 8] {
         let words = words_of_four_rounds(block);
         let (left, right) = lines_of_256(state);
-        let lines = Lines { left, right };
+        let lines = BothLines { left, right };
         let lines = exchange(0, round(0, &words, lines));
         let lines = exchange(1, round(1, &words, lines));
         let lines = exchange(2, round(2, &words, lines));
@@ -110,7 +110,7 @@ impl InRegisters for Ripemd320Function {
     fn compress(state: [u32; 10], block: &[u8; 64]) -> [u32; 10] {
         let words = words_of_five_rounds(block);
         let (left, right) = lines_of_320(state);
-        let lines = Lines { left, right };
+        let lines = BothLines { left, right };
         let lines = exchange(1, round(0, &words, lines));
         let lines = exchange(3, round(1, &words, lines));
         let lines = exchange(0, round(2, &words, lines));

@@ -267,7 +267,7 @@ pub trait ResumableFunction: ListBlockFunction {
     /// Replaces the output of a state by that of the state after these blocks. If no state has this output, nothing is
     /// known of the result. Never inlined: the state is loaded and stored once, and stays in registers in between.
     #[inline(never)]
-    final fn walk_output(output: &mut [u8], blocks: &[[u8; 64]])
+    final fn walk_on_output(output: &mut [u8], blocks: &[[u8; 64]])
         requires size { length output.old ≡ Self.Digest.LEN }
         ensures value { (words : List ℕ) → Self.are_words words → Self.output words ≡ output.old
             → Self.output (walk Self.step words blocks.now) ≡ output.new }

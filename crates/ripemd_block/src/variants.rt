@@ -85,7 +85,7 @@ impl ListBlockFunction for Ripemd128Function {
 
     #[inline(never)]
     fn walk_on(first: &mut [u32; 4], blocks: &[[u8; 64]]) {
-        registers::walk_on::<Ripemd128Function>(first, blocks);
+        registers::walk_in_registers::<Ripemd128Function>(first, blocks);
     }
 
     ghost use Rattle.std.proofs.Common.{rules};
@@ -186,7 +186,7 @@ impl ListBlockFunction for Ripemd160Function {
 
     #[inline(never)]
     fn walk_on(first: &mut [u32; 5], blocks: &[[u8; 64]]) {
-        registers::walk_on::<Ripemd160Function>(first, blocks);
+        registers::walk_in_registers::<Ripemd160Function>(first, blocks);
     }
 
     ghost use Rattle.std.proofs.Common.{rules};
@@ -290,7 +290,7 @@ impl ListBlockFunction for Ripemd256Function {
 
     #[inline(never)]
     fn walk_on(first: &mut [u32; 8], blocks: &[[u8; 64]]) {
-        registers::walk_on::<Ripemd256Function>(first, blocks);
+        registers::walk_in_registers::<Ripemd256Function>(first, blocks);
     }
 
     ghost use Rattle.std.proofs.Common.{rules};
@@ -396,7 +396,7 @@ impl ListBlockFunction for Ripemd320Function {
 
     #[inline(never)]
     fn walk_on(first: &mut [u32; 10], blocks: &[[u8; 64]]) {
-        registers::walk_on::<Ripemd320Function>(first, blocks);
+        registers::walk_in_registers::<Ripemd320Function>(first, blocks);
     }
 
     ghost use Rattle.std.proofs.Common.{rules};

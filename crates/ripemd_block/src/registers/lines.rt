@@ -38,7 +38,7 @@ impl LineRegisters for [u32; 4] {
     #[inline(always)]
     fn step(self, k: usize, x: u32, s: u32) -> [u32; 4] {
         let [a, b, c, d] = self;
-        let t = sum(a.wrapping_add(x), k, b, c, d).rotate_left(s);
+        let t = plus_function(a.wrapping_add(x), k, b, c, d).rotate_left(s);
         [d, t, b, c]
     }
 
@@ -57,7 +57,7 @@ impl LineRegisters for [u32; 5] {
     #[inline(always)]
     fn step(self, k: usize, x: u32, s: u32) -> [u32; 5] {
         let [a, b, c, d, e] = self;
-        let t = sum(a.wrapping_add(x), k, b, c, d)
+        let t = plus_function(a.wrapping_add(x), k, b, c, d)
             .rotate_left(s)
             .wrapping_add(e);
         [e, t, b, c.rotate_left(10), d]
@@ -74,7 +74,7 @@ impl LineRegisters for [u32; 5] {
 // added one after the other, so that less waits for `x`, the newest word.
 #[inline(always)]
 #[tactic(auto, using(crate::proofs::Factoring::f3_in_parts))]
-fn sum(u: u32, k: usize, x: u32, y: u32, z: u32) -> u32
+fn plus_function(u: u32, k: usize, x: u32, y: u32, z: u32) -> u32
     requires { k < 5 }
     ensures { result ≡ u ⊞ boolean_function k x y z }
 {
@@ -151,7 +151,7 @@ pub(crate) fn words_of_five_rounds(block: &[u8; 64]) -> Words<5>
 
 /// The registers of both lines.
 #[derive(Clone, Copy)]
-pub(crate) struct Lines<R: LineRegisters> {
+pub(crate) struct BothLines<R: LineRegisters> {
     pub(crate) left: R,
     pub(crate) right: R,
 }
@@ -162,8 +162,8 @@ fn step_at<R: LineRegisters, const N: usize>(
     r: usize,
     i: usize,
     words: &Words<N>,
-    lines: Lines<R>,
-) -> Lines<R>
+    lines: BothLines<R>,
+) -> BothLines<R>
     requires rounds { N ≡ R.ROUNDS }
     requires most { R.ROUNDS ≤ 5 }
     requires round { r < N }
@@ -179,7 +179,7 @@ fn step_at<R: LineRegisters, const N: usize>(
     let right = right_number(r, i);
     let left_amount = rotation(r, left);
     let right_amount = rotation(r, right);
-    Lines {
+    BothLines {
         left: lines.left.step(r, words.left[r][left], left_amount),
         right: lines
             .right
@@ -193,8 +193,8 @@ fn four_steps<R: LineRegisters, const N: usize>(
     r: usize,
     from: usize,
     words: &Words<N>,
-    start: Lines<R>,
-) -> Lines<R>
+    start: BothLines<R>,
+) -> BothLines<R>
     requires rounds { N ≡ R.ROUNDS }
     requires most { R.ROUNDS ≤ 5 }
     requires round { r < N }
@@ -219,8 +219,8 @@ fn four_steps<R: LineRegisters, const N: usize>(
 pub(crate) fn round<R: LineRegisters, const N: usize>(
     r: usize,
     words: &Words<N>,
-    lines: Lines<R>,
-) -> Lines<R>
+    lines: BothLines<R>,
+) -> BothLines<R>
     requires rounds { N ≡ R.ROUNDS }
     requires most { R.ROUNDS ≤ 5 }
     requires round { r < N }
@@ -237,11 +237,11 @@ pub(crate) fn round<R: LineRegisters, const N: usize>(
 
 /// The lines with register `j` exchanged.
 #[inline(always)]
-pub(crate) fn exchange<R: LineRegisters>(j: usize, lines: Lines<R>) -> Lines<R>
+pub(crate) fn exchange<R: LineRegisters>(j: usize, lines: BothLines<R>) -> BothLines<R>
     requires { j < R.ROUNDS }
     ensures { both_lines (R.list result.left) (R.list result.right)
         ≡ exchange (Some j) (both_lines (R.list lines.left) (R.list lines.right)) }
 {
     let (left, right) = R::exchange(j, lines.left, lines.right);
-    Lines { left, right }
+    BothLines { left, right }
 }

@@ -6,7 +6,7 @@ use crate::digits::{HELLO_320, TWO_BLOCKS, is_written};
 use ripemd_block::block_api::{
     BlockCore, BlockFunction, BufferKindUser, ByteArray, Eager, FixedOutputCore, HashMarker,
     HashMeaning, ListBlockFunction, Reset, ResumableFunction, Ripemd128Core, Ripemd160Core,
-    Ripemd256Core, Ripemd320Core, UpdateCore, walk_message, walk_words,
+    Ripemd256Core, Ripemd320Core, UpdateCore, walk_message, walk_digest,
 };
 use ripemd_block::buffer::Buffer;
 use ripemd_block::padding::{block_count, pad_block};
@@ -43,7 +43,7 @@ fn walks<F: ResumableFunction>(two_blocks: &str) -> bool {
     let output = BlockCore::<F>::output(state);
     is_written(output.as_bytes(), two_blocks)
         && F::from_output(output) == Some(state)
-        && walk_words::<F>(F::start(), 0, TWO_BLOCKS) == state
+        && walk_digest::<F>(F::start(), 0, TWO_BLOCKS) == state
         && walk_message::<F>(F::start(), 0, TWO_BLOCKS) == state
 }
 

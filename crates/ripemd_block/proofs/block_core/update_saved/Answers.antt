@@ -21,7 +21,7 @@ returns g c =
     (output_parts told core saved valid same).0 ∙ rw (← c.LEN.ensures) (sym parts.ensures.front) in
     elim c.if-not-is_empty.branch [
       | then-not-is_empty w ↦
-          let after = w.walk_output.ensures in
+          let after = w.walk_on_output.ensures in
           (rw w.output-is (after.value core.words valid.words of_words), after.valid core.words valid.words of_words)
       | else-not-is_empty w ↦
           let none : length blocks ≡ 0 = search (rules, w.if-not-is_empty.ensures) in

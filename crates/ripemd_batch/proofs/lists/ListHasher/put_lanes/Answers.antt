@@ -12,10 +12,10 @@ loop-j-preserved g c =
     let j : ℕ = c.loop-j.j in
     elim c.if-j-messages.branch [
       | then-j-messages w ↦
-          let last : g.D.Function.ListBlockFunction.output (g.S.LaneStates.words_of j c.walk_group-states.result)
+          let last : g.D.Function.ListBlockFunction.output (g.S.LaneStates.words_of j c.walk_messages-states.result)
           ≡ made (list_at (targets messages) j) =
           rw (← c.self.view_is, ← same.same_step, ← same.same_output)
-          (c.walk_group-states.ensures j (omega (arith, c.requires.few)) (omega arith)) in
+          (c.walk_messages-states.ensures j (omega (arith, c.requires.few)) (omega arith)) in
           rw (w.places-is, w.put.ensures) (put_next made messages _ _ j _ (g.D.Output.ByteArray.bytes w.digest_of-output.result)
           c.requires.room (omega arith) (w.digest_of-output.ensures ∙ last) c.loop-j.invariant)
       | else-j-messages w ↦

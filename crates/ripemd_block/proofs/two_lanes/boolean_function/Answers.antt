@@ -1,8 +1,8 @@
 use Rattle.std.proofs.Common.{◌≡◌, refl, arith}
 use Rattle.ripemd_block.proofs.Tables.{elements}
 use Rattle.ripemd_block.proofs.TwoLanes.{each_lane}
-use Rattle.ripemd_block.proofs.lanes.boolean_function.Goals as goal
-use Rattle.ripemd_block.proofs.lanes.boolean_function.Goals.{in-0, in-1, in-2, in-3, in_default}
+use Rattle.ripemd_block.proofs.two_lanes.boolean_function.Goals as goal
+use Rattle.ripemd_block.proofs.two_lanes.boolean_function.Goals.{in-0, in-1, in-2, in-3, in_default}
 
 pub returns : goal.returns
 returns c =

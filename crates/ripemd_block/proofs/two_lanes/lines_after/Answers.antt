@@ -5,12 +5,12 @@ use Rattle.ripemd_block.specs.Standard.Schedule.{left_line, right_line}
 use Rattle.ripemd_block.specs.Standard.Compression.{exchange, round, lines_after}
 use Rattle.ripemd_block.specs.Code.Lines.{both_lines, message_words}
 use Rattle.ripemd_block.proofs.Stepping.{AfterRounds, next_round}
-use Rattle.ripemd_block.proofs.lanes.lines_after.Goals as goal
-use Rattle.ripemd_block.proofs.lanes.lines_after.Goals.{in-Some, in_default}
+use Rattle.ripemd_block.proofs.two_lanes.lines_after.Goals as goal
+use Rattle.ripemd_block.proofs.two_lanes.lines_after.Goals.{in-Some, in_default}
 
 pub loop-r-preserved : goal.loop-r-preserved
 loop-r-preserved g c v rounds exchanges =
-    let lane = g.R.Registers.lane in
+    let lane = g.R.TwoLaneRegisters.lane in
     let r = c.loop-r.r in
     let left : (b : List ℕ) → c.message_words.result ≡ message_words b
     → lane c.round-next.result 0 ≡ round left_line b r (lane c.loop-r.registers 0) =

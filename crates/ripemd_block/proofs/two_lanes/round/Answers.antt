@@ -3,7 +3,7 @@ use Rattle.ripemd_block.specs.Standard.Schedule.{left_line, right_line}
 use Rattle.ripemd_block.specs.Standard.Compression.{registers_after}
 use Rattle.ripemd_block.proofs.Stepping.{word_of_step, one_more_step}
 use Rattle.ripemd_block.proofs.TwoLanes.{each_lane}
-use Rattle.ripemd_block.proofs.lanes.round.Goals as goal
+use Rattle.ripemd_block.proofs.two_lanes.round.Goals as goal
 
 pub step-next-requires-clause-amounts : goal.step-next-requires-clause-amounts
 step-next-requires-clause-amounts g c = each_lane _ c.rotation.ensures.range c.rotation-in-loop-i.ensures.range
@@ -14,7 +14,7 @@ loop-i-init g c block words j small = refl
 
 pub loop-i-preserved : goal.loop-i-preserved
 loop-i-preserved g c block words =
-    let rounds = g.R.Registers.ROUNDS in
+    let rounds = g.R.TwoLaneRegisters.ROUNDS in
     let r = c.args.r in
     let i = c.loop-i.i in
     let left = c.left_number-left.ensures in

@@ -4,7 +4,7 @@ use Rattle.ripemd_block.specs.Standard.Hashing.{blocks}
 use Rattle.ripemd_batch.specs.Lanes.{targets, list_at, blocks_of, padded_after}
 use Rattle.ripemd_batch.proofs.EightLanes.{below_eight}
 use Rattle.ripemd_batch.proofs.Turns.{turns_of, turn_on, all_turned}
-use Rattle.ripemd_batch.proofs.groups.walk_group.Goals as goal
+use Rattle.ripemd_batch.proofs.groups.walk_messages.Goals as goal
 
 pub loop-i-preserved : goal.loop-i-preserved
 loop-i-preserved g c = record {

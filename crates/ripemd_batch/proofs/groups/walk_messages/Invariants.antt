@@ -2,7 +2,7 @@
 use Rattle.std.proofs.Common.{◌≡◌, ℕ, ◌<◌}
 use Rattle.ripemd_batch.specs.Lanes.{blocks_of}
 use Rattle.ripemd_batch.proofs.Turns.{Turned, turns_of}
-use Rattle.ripemd_batch.proofs.groups.walk_group.Given as goal
+use Rattle.ripemd_batch.proofs.groups.walk_messages.Given as goal
 
 abbrev pub invariant-loop-i : goal.invariant-loop-i
 invariant-loop-i g l =

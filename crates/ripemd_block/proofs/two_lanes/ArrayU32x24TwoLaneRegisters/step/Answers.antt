@@ -1,7 +1,7 @@
 use Rattle.std.proofs.Common.{◌<◌, [], refl, arith}
 use Rattle.ripemd_block.proofs.Tables.{elements}
 use Rattle.ripemd_block.proofs.TwoLanes.{each_lane}
-use Rattle.ripemd_block.proofs.lanes.ArrayU32x24Registers.step.Goals as goal
+use Rattle.ripemd_block.proofs.two_lanes.ArrayU32x24TwoLaneRegisters.step.Goals as goal
 
 pub returns : goal.returns
 returns c =

@@ -1,7 +1,7 @@
 -- The state is that after the blocks so far.
 use Rattle.std.proofs.Common.{◌≡◌, take}
 use Rattle.ripemd_block.specs.Standard.Hashing.{walk}
-use Rattle.ripemd_block.proofs.registers.walk_on.Given as goal
+use Rattle.ripemd_block.proofs.registers.walk_in_registers.Given as goal
 
 abbrev pub invariant-loop-block : goal.invariant-loop-block
 invariant-loop-block g l = let f = g.F.BlockFunction in record {

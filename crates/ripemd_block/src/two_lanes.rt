@@ -6,14 +6,14 @@ ghost use Rattle.ripemd_block.specs.Standard.Words.{◌⊞◌, rol};
 ghost use Rattle.ripemd_block.specs.Standard.Schedule.{boolean_function};
 ghost use Rattle.ripemd_block.specs.Standard.Compression.{Parameters, step, round, exchange, lines_after};
 ghost use Rattle.ripemd_block.specs.Code.Lines.{both_lines, message_words};
-ghost use Rattle.ripemd_block.specs.Code.Lanes.{line_of_lane, lane};
+ghost use Rattle.ripemd_block.specs.Code.TwoLanes.{line_of_lane, lane};
 
 use crate::message::message_words;
 use crate::textbook::{left_constant, left_number, right_constant, right_number, rotation};
 use std::simd::prelude::*;
 
 /// The registers of both lines: as many vectors as a line has rounds.
-pub(crate) trait Registers: Copy {
+pub(crate) trait TwoLaneRegisters: Copy {
     // The registers of the line in lane `j`.
     ghost lane: { Self → ℕ → List ℕ };
 
@@ -93,7 +93,7 @@ fn swap(words: u32x2) -> u32x2
     words.reverse()
 }
 
-impl Registers for [u32x2; 4] {
+impl TwoLaneRegisters for [u32x2; 4] {
     ghost lane = { lane };
 
     ghost ROUNDS = { 4 };
@@ -120,7 +120,7 @@ impl Registers for [u32x2; 4] {
     }
 }
 
-impl Registers for [u32x2; 5] {
+impl TwoLaneRegisters for [u32x2; 5] {
     ghost lane = { lane };
 
     ghost ROUNDS = { 5 };
@@ -210,7 +210,7 @@ pub(crate) fn lane_of_five(registers: [u32x2; 5], j: usize) -> [u32; 5]
 
 // Round `r` of both lines: sixteen steps.
 #[inline(always)]
-fn round<R: Registers>(r: usize, words: &[u32; 16], start: R) -> R
+fn round<R: TwoLaneRegisters>(r: usize, words: &[u32; 16], start: R) -> R
     requires round { r < R.ROUNDS }
     requires most { R.ROUNDS ≤ 5 }
     ensures { (block : List ℕ) → words.now ≡ message_words block → (j : ℕ) → j < 2
@@ -232,7 +232,7 @@ fn round<R: Registers>(r: usize, words: &[u32; 16], start: R) -> R
 /// Both lines after all rounds on a block. After round `r` they exchange register `exchanges[r]`, if there is one.
 #[inline(always)]
 #[tactic(auto, unfolding(crate::specs::Standard::Compression::lines_after))]
-pub(crate) fn lines_after<R: Registers>(exchanges: &[usize], block: &[u8; 64], start: R) -> R
+pub(crate) fn lines_after<R: TwoLaneRegisters>(exchanges: &[usize], block: &[u8; 64], start: R) -> R
     requires exchanges { All (λ i. i < R.ROUNDS) exchanges.now }
     requires most { R.ROUNDS ≤ 5 }
     ensures { (v : Parameters) → v.rounds ≡ R.ROUNDS → v.exchanges ≡ exchanges.now
