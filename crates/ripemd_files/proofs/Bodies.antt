@@ -15,8 +15,8 @@ use Rattle.ripemd_files.specs.declared.line.Variant.{Variant}
 use Rattle.ripemd_files.specs.declared.line.Variant.TheVariants.{R128, R160, R256, R320}
 use Rattle.ripemd_files.specs.declared.line.Layout.{Layout}
 use Rattle.ripemd_files.specs.declared.line.Layout.TheVariants.{Standard, Reversed}
-use Rattle.ripemd_files.specs.Lines.{size_of, bits_of, IsTag, is_blank, IsBlank, IsDigest, IsSeparator, IsUntagged, IsTagged}
-use Rattle.ripemd_files.specs.Reading.{strip, skip_blanks, split_blank, split_close, variant_of, strip_bits, strip_tag, Found, text_at, untagged_at, skip_space, tagged_at, either_at, found_at, digest_at}
+use Rattle.ripemd_files.specs.Lines.{size_of, bits_of, IsLabel, is_blank, IsBlank, IsDigest, IsSeparator, IsUntagged, IsTagged}
+use Rattle.ripemd_files.specs.Reading.{strip, skip_blanks, split_blank, split_close, variant_of, strip_bits, strip_label, Found, text_at, untagged_at, skip_space, tagged_at, either_at, found_at, digest_at}
 use Rattle.std.specs.Option.{option_or}
 
 -- ---- prefixes
@@ -112,10 +112,10 @@ strip_bits-sound bytes variant rest e =
     first_of (option_map (λ rest. (R256, rest)) (strip (codes "256") bytes)) _ (variant, rest) e (bits_sound R256 variant bytes rest)
     (bits_sound R320 variant bytes rest)))
 
-pub strip_tag-sound : (bytes : List ℕ) (variant : Variant) (rest : List ℕ) → strip_tag bytes ≡ Some (variant, rest)
-    → (tag : List ℕ) × IsTag variant tag × (bytes ≡ tag ++ rest)
-unfolding strip_tag
-strip_tag-sound bytes variant rest e =
+pub strip_label-sound : (bytes : List ℕ) (variant : Variant) (rest : List ℕ) → strip_label bytes ≡ Some (variant, rest)
+    → (label : List ℕ) × IsLabel variant label × (bytes ≡ label ++ rest)
+unfolding strip_label
+strip_label-sound bytes variant rest e =
     option_and_then_some strip_bits _ (variant, rest) e (λ after word is.
     let bits = strip_bits-sound after variant rest is in
     let whole = λ (front : List ℕ) (e : strip front bytes ≡ Some after).
@@ -124,9 +124,9 @@ strip_tag-sound bytes variant rest e =
     first_of (strip (codes "RIPEMD-") bytes) _ after e (λ e. (codes "RIPEMD-" ++ bits_of variant, inr (inl refl), whole (codes "RIPEMD-") e)) (λ e.
     (codes "RIPEMD" ++ bits_of variant, inr (inr refl), whole (codes "RIPEMD") e))))
 
-pub strip_tag-tag : (variant : Variant) (tag rest : List ℕ) → IsTag variant tag → strip_tag (tag ++ rest) ≡ Some (variant, rest)
-unfolding strip_tag
-strip_tag-tag _ tag rest is = grind arith
+pub strip_label-label : (variant : Variant) (label rest : List ℕ) → IsLabel variant label → strip_label (label ++ rest) ≡ Some (variant, rest)
+unfolding strip_label
+strip_label-label _ label rest is = grind arith
 
 -- ---- digests
 
@@ -186,10 +186,10 @@ skip_space-sound [] = ([], inl refl, refl)
 skip_space-sound (x ∷ rest) =
     elim (eqb_tells x 32) [ inl is ↦ (codes " ", inr refl, rw (is.1) refl) | inr other ↦ ([], inl refl, rw other.0 refl) ]
 
-pub tagged_at-sound : (body tag rest : List ℕ) (variant : Variant) (found : Found) → IsTag variant tag → body ≡ tag ++ rest
+pub tagged_at-sound : (body label rest : List ℕ) (variant : Variant) (found : Found) → IsLabel variant label → body ≡ label ++ rest
     → tagged_at variant rest ≡ Some found → IsTagged body found.variant found.digits found.text
 unfolding tagged_at
-tagged_at-sound body tag rest variant found is_tag whole e =
+tagged_at-sound body label rest variant found is_label whole e =
     option_and_then_some _ (strip (codes "(") (skip_space rest)) found e (λ inner opens e2.
     option_and_then_some _ (split_close inner) found e2 (λ parts split e3.
     option_and_then_some _ (strip (codes "=") (skip_blanks parts.1)) found e3 (λ digits equals e4.
@@ -198,11 +198,11 @@ tagged_at-sound body tag rest variant found is_tag whole e =
     let (after, is_after, back) = skip_blanks-sound digits in
     subst (λ (f : Found). IsTagged body f.variant f.digits f.text) (same_Some _ _ e4)
     record {
-      tag = tag;
+      label = label;
       space = space;
       before = before;
       after = after;
-      is_tag = is_tag;
+      is_label = is_label;
       is_space = is_space;
       is_before = is_before;
       is_after = is_after;
@@ -226,32 +226,32 @@ unfolding tagged_at
 tagged_at-form variant space text before after digits digest is_space is_before is_after is =
     grind (arith, split_close-front, closes-behind before after digits, skip_blanks-front, skip_blanks-digits after variant digits digest, digits_of variant digits digest)
 
--- a body that begins with digits has no tag
-pub no_tag : (layout : Layout) (body : List ℕ) (variant : Variant) (digits digest text : List ℕ) → IsUntagged layout body digits text
-    → IsDigest variant digits digest → strip_tag body ≡ None
-unfolding strip_tag
-no_tag layout body variant digits digest text form is = grind (arith, nat_tests, starts variant digits digest is)
+-- a body that begins with digits has no label
+pub no_label : (layout : Layout) (body : List ℕ) (variant : Variant) (digits digest text : List ℕ) → IsUntagged layout body digits text
+    → IsDigest variant digits digest → strip_label body ≡ None
+unfolding strip_label
+no_label layout body variant digits digest text form is = grind (arith, nat_tests, starts variant digits digest is)
 
 -- ---- either
 
 pub found_at-sound : (layout : Layout) (body : List ℕ) (f : Found) → found_at layout body ≡ Some f
     → IsUntagged layout body f.digits f.text ⊎ IsTagged body f.variant f.digits f.text
 unfolding found_at
-found_at-sound layout body f e = go (strip_tag body) refl e
+found_at-sound layout body f e = go (strip_label body) refl e
   where
-    go : (tag : Option (Variant × List ℕ)) → strip_tag body ≡ tag → either_at layout tag body ≡ Some f
+    go : (label : Option (Variant × List ℕ)) → strip_label body ≡ label → either_at layout label body ≡ Some f
         → IsUntagged layout body f.digits f.text ⊎ IsTagged body f.variant f.digits f.text
-    go (Some tag) is e = let (front, is_tag, whole) = strip_tag-sound body tag.0 tag.1 is in inr (tagged_at-sound body front tag.1 tag.0 f is_tag whole e)
+    go (Some label) is e = let (front, is_label, whole) = strip_label-sound body label.0 label.1 is in inr (tagged_at-sound body front label.1 label.0 f is_label whole e)
     go None is e = inl (untagged_at-sound layout body f e).0
 
 pub found_at-form : (layout : Layout) (body : List ℕ) (variant : Variant) (digits digest text : List ℕ)
     → IsUntagged layout body digits text ⊎ IsTagged body variant digits text → IsDigest variant digits digest → found_at layout body ≡ found variant digits text
 unfolding found_at
 found_at-form layout body variant digits digest text (inl form) is =
-    rw (no_tag layout body variant digits digest text form is) (untagged_at-form layout body variant digits digest text form is)
+    rw (no_label layout body variant digits digest text form is) (untagged_at-form layout body variant digits digest text form is)
 found_at-form layout body variant digits digest text (inr form) is =
-    let tag = ap strip_tag form.whole ∙ strip_tag-tag variant form.tag _ form.is_tag in
-    rw tag (tagged_at-form variant form.space text form.before form.after digits digest form.is_space form.is_before form.is_after is)
+    let label = ap strip_label form.whole ∙ strip_label-label variant form.label _ form.is_label in
+    rw label (tagged_at-form variant form.space text form.before form.after digits digest form.is_space form.is_before form.is_after is)
 
 -- ---- the mark
 

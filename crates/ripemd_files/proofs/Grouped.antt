@@ -17,8 +17,8 @@ use Rattle.ripemd_files.specs.Checking.{Event, IsEventOf, misformatted}
 use Rattle.ripemd_files.specs.Lists.{Entry, IsEventOn, Reports, entries_of, entry_of, is_passed_over, layout_after, layout_behind}
 use Rattle.ripemd_files.specs.declared.fault.Fault.{Fault}
 use Rattle.ripemd_files.specs.declared.fault.Fault.TheVariants.{NoMemory}
-use Rattle.ripemd_files.specs.Groups.{ExplainsReading, ReadsLines, Saying, Says, StopsReading, Takes, misformatted_events, said}
-use Rattle.ripemd_files.specs.Groups.Saying.{names, nothing}
+use Rattle.ripemd_files.specs.Groups.{ExplainsReading, ReadsLines, Meaning, Means, StopsReading, Takes, misformatted_events, meanings}
+use Rattle.ripemd_files.specs.Groups.Meaning.{names, nothing}
 use Rattle.ripemd_files.proofs.Cutting.{cut, lines_first, lines_last, whole_more}
 use Rattle.ripemd_files.proofs.Zips.{all_zip_append, all_zip_take, all_zip_through}
 
@@ -68,32 +68,32 @@ module _ {File : Type 0} (place : Place File) (ignore_missing : Bool) (kinds : R
       rw entries-append (all_zip_append _ _ _ _ _ first (rw (is_behind, is_next) at second))
 
   -- what comes of the line that an entry names, or of one that says nothing
-  abbrev IsEventOfSaid : Saying → Event → Type 0
-  IsEventOfSaid (names line) event = IsEventOf place ignore_missing line event
-  IsEventOfSaid (nothing number) event = event ≡ misformatted number
+  abbrev IsEventOfMeaning : Meaning → Event → Type 0
+  IsEventOfMeaning (names line) event = IsEventOf place ignore_missing line event
+  IsEventOfMeaning (nothing number) event = event ≡ misformatted number
 
-  on_entry : (entry : Entry) (what : Saying) (event : Event) → Says kinds entry what → IsEventOfSaid what event
+  on_entry : (entry : Entry) (what : Meaning) (event : Event) → Means kinds entry what → IsEventOfMeaning what event
       → IsEventOn place ignore_missing kinds entry.layout entry.number entry.text event
   on_entry entry (names line) event taken (outcome, comes, is) = rw is (line.variant, line.digest.items, outcome, taken, comes, refl)
   on_entry entry (nothing number) event says is = rw is says
 
-  of_lines : (lines : List Line) (events : List Event) → AllZip (IsEventOf place ignore_missing) lines events → AllZip IsEventOfSaid (map names lines) events
+  of_lines : (lines : List Line) (events : List Event) → AllZip (IsEventOf place ignore_missing) lines events → AllZip IsEventOfMeaning (map names lines) events
   of_lines [] [] zipped = tt
   of_lines (line ∷ lines) (event ∷ events) zipped = (zipped.0, of_lines lines events zipped.1)
   of_lines _ _ zipped = absurd (assumption)
 
-  of_said : (lines : List Line) (bad : Option ℕ) (events : List Event) → AllZip (IsEventOf place ignore_missing) lines events
-      → AllZip IsEventOfSaid (said lines bad) (events ++ misformatted_events bad)
-  of_said lines None events zipped = rw append-nil (of_lines lines events zipped)
-  of_said lines (Some number) events zipped = all_zip_append _ _ _ _ _ (of_lines lines events zipped) (refl, tt)
+  of_meanings : (lines : List Line) (bad : Option ℕ) (events : List Event) → AllZip (IsEventOf place ignore_missing) lines events
+      → AllZip IsEventOfMeaning (meanings lines bad) (events ++ misformatted_events bad)
+  of_meanings lines None events zipped = rw append-nil (of_lines lines events zipped)
+  of_meanings lines (Some number) events zipped = all_zip_append _ _ _ _ _ (of_lines lines events zipped) (refl, tt)
 
   named_first : (count : ℕ) (lines : List Line) → take (length (take count lines)) (map names lines) ≡ map names (take count lines)
   named_first count lines = rw take-map (ap (map names) (rw length-take (take_min count lines)))
 
-  -- the first of what was said
-  said_first : (count : ℕ) (lines : List Line) (bad : Option ℕ) → take (length (take count lines)) (said lines bad) ≡ map names (take count lines)
-  said_first count lines None = named_first count lines
-  said_first count lines (Some number) =
+  -- the first of what was meant
+  meanings_first : (count : ℕ) (lines : List Line) (bad : Option ℕ) → take (length (take count lines)) (meanings lines bad) ≡ map names (take count lines)
+  meanings_first count lines None = named_first count lines
+  meanings_first count lines (Some number) =
       take-append-le (length (take count lines)) (map names lines) (nothing number ∷ []) (omega (arith, length-take count lines, length-map lines names))
       ∙ named_first count lines
 
@@ -102,7 +102,7 @@ module _ {File : Type 0} (place : Place File) (ignore_missing : Bool) (kinds : R
     -- what comes of all lines of a group
     pub group_reports : (events : List Event) → AllZip (IsEventOf place ignore_missing) lines events
         → Reports place ignore_missing kinds before.layout before.number (lines_of reads.bytes) (events ++ misformatted_events bad)
-    group_reports events zipped = all_zip_through _ _ _ _ _ _ on_entry reads.says (of_said lines bad events zipped)
+    group_reports events zipped = all_zip_through _ _ _ _ _ _ on_entry reads.means (of_meanings lines bad events zipped)
 
     -- or of the first of them
     pub group_partly : (count : ℕ) (events : List Event) → AllZip (IsEventOf place ignore_missing) (take count lines) events
@@ -111,7 +111,7 @@ module _ {File : Type 0} (place : Place File) (ignore_missing : Bool) (kinds : R
     group_partly count events zipped =
         let n = length (take count lines) in
         let (first, back, split, same) = first_entries kinds n before.layout before.number (lines_of reads.bytes) in
-        let says = rw said_first at (all_zip_take (Says kinds) n _ _ reads.says) in
+        let means = rw meanings_first at (all_zip_take (Means kinds) n _ _ reads.means) in
         (first, back, split, rw same (all_zip_through _ _ _ _ _ _ on_entry says (of_lines _ events zipped)))
 
 -- ---- reading
@@ -121,7 +121,7 @@ pub reads_nothing : (kinds : Rules) (old : Option (List ℕ)) (cursor : Cursor) 
     → (reads : ReadsLines kinds old old cursor cursor lines None []) × IsWhole reads.bytes
 unfolding lines_of
 reads_nothing kinds old cursor lines empty =
-    (record { bytes = []; consumed = Consumes-nil old; numbered = omega arith; layout = refl; says = rw empty tt }, inl refl)
+    (record { bytes = []; consumed = Consumes-nil old; numbered = omega arith; layout = refl; means = rw empty tt }, inl refl)
 
 module _ (kinds : Rules) (old now next : Option (List ℕ)) (before cursor : Cursor) (lines : List Line)
     (so_far : ReadsLines kinds old now before cursor lines None []) (whole : IsWhole so_far.bytes) where
@@ -138,9 +138,9 @@ module _ (kinds : Rules) (old now next : Option (List ℕ)) (before cursor : Cur
           consumed = rw append-nil (Consumes-trans old now next so_far.bytes tail taken read);
           numbered = omega (arith, step, so_far.numbered, ap length all_lines, length-append (lines_of so_far.bytes) (text ∷ []));
           layout = rw (all_lines, fold-append, takes.layout, so_far.layout) refl;
-          says =
+          means =
               rw (all_lines, entries-append, takes.grown)
-              (all_zip_append _ _ _ _ _ so_far.says (rw append-nil (rw (so_far.layout, so_far.numbered) at takes.says)));
+              (all_zip_append _ _ _ _ _ so_far.means (rw append-nil (rw (so_far.layout, so_far.numbered) at takes.means)));
         }
 
     -- a line that ends with a newline
@@ -181,5 +181,5 @@ module _ (kinds : Rules) (old now next : Option (List ℕ)) (before cursor : Cur
     consumed = Consumes-trans old now next so_far.bytes rest taken read;
     numbered = so_far.numbered;
     layout = so_far.layout;
-    says = so_far.says;
+    means = so_far.means;
   }

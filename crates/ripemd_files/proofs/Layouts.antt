@@ -11,9 +11,9 @@ use Rattle.ripemd_files.specs.declared.line.Variant.{Variant}
 use Rattle.ripemd_files.specs.declared.line.Layout.{Layout}
 use Rattle.ripemd_files.specs.declared.line.Layout.TheVariants.{Standard, Reversed}
 use Rattle.ripemd_files.specs.Lines.{size_of}
-use Rattle.ripemd_files.specs.Reading.{Found, skip_blanks, strip_mark, strip_tag, variant_of, untagged_at}
+use Rattle.ripemd_files.specs.Reading.{Found, skip_blanks, strip_mark, strip_label, variant_of, untagged_at}
 use Rattle.ripemd_files.specs.Layouts.{has_digits, is_wanted_length, layout_at, layout_of, HasLayout}
-use Rattle.ripemd_files.proofs.Bodies.{no_tag, skip_blanks-sound, digits_of, starts-form, untagged_at-sound, untagged_at-form}
+use Rattle.ripemd_files.proofs.Bodies.{no_label, skip_blanks-sound, digits_of, starts-form, untagged_at-sound, untagged_at-form}
 use Rattle.ripemd_files.proofs.Sayings.{marked-front, strip_mark-sound}
 
 -- ---- the number of digits
@@ -63,8 +63,8 @@ module _ {only : Option Variant} {layout : Layout} {line : List ℕ} (h : HasLay
       let starts = starts-form layout h.body h.variant h.digits h.digest h.text (inl h.form) h.is_digest in
       grind (arith, h.whole, marked-front h.indent h.marked h.body h.is_indent starts)
 
-  no_tag_found : strip_tag (strip_mark (skip_blanks line)).1 ≡ None
-  no_tag_found = ap strip_tag body_found ∙ no_tag layout h.body h.variant h.digits h.digest h.text h.form h.is_digest
+  no_label_found : strip_label (strip_mark (skip_blanks line)).1 ≡ None
+  no_label_found = ap strip_label body_found ∙ no_label layout h.body h.variant h.digits h.digest h.text h.form h.is_digest
 
   digits_found : has_digits only (untagged_at layout (strip_mark (skip_blanks line)).1) ≡ true
   digits_found =
@@ -72,11 +72,11 @@ module _ {only : Option Variant} {layout : Layout} {line : List ℕ} (h : HasLay
 
 pub layout_of-standard : (only : Option Variant) (line : List ℕ) → HasLayout only Standard line → layout_of only line ≡ Some Standard
 unfolding layout_at
-layout_of-standard only line h = grind (arith, no_tag_found h, digits_found h)
+layout_of-standard only line h = grind (arith, no_label_found h, digits_found h)
 
 pub layout_of-reversed : (only : Option Variant) (line : List ℕ) → HasLayout only Reversed line → ¬ HasLayout only Standard line
     → layout_of only line ≡ Some Reversed
 unfolding layout_at
-layout_of-reversed only line h other = grind (arith, no_tag_found h, digits_found h, has_layout only Standard line _ refl)
+layout_of-reversed only line h other = grind (arith, no_label_found h, digits_found h, has_layout only Standard line _ refl)
 
 pub ruleset finding = (layout_of-found, layout_of-standard, layout_of-reversed)

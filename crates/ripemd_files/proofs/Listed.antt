@@ -8,7 +8,7 @@ use Rattle.ripemd_files.specs.Lists.{IsTaken, IsWanted, body_of_line, entry_of, 
 use Rattle.ripemd_files.specs.Reading.{said_by, said_of}
 use Rattle.ripemd_files.proofs.Sayings.{found_is_line, line_is_found}
 use Rattle.ripemd_files.specs.Groups.{IsEntry, Takes}
-use Rattle.ripemd_files.specs.Groups.Saying.{names, nothing}
+use Rattle.ripemd_files.specs.Groups.Meaning.{names, nothing}
 
 -- ---- what a line says
 
@@ -42,7 +42,7 @@ module _ (kinds : Rules) (layout : Option Layout) (text : List ℕ) (found : Opt
 
 module _ (kinds : Rules) (before after : Cursor) (text : List ℕ) (next : after.layout ≡ layout_after kinds before.layout text) where
   pub takes_skipped : IsTrue (is_passed_over text) → (lines : List Line) → Takes kinds before after text lines lines None
-  takes_skipped skipped lines = record { found = []; says = rw skipped tt; grown = sym (append-nil (map names lines)); layout = next }
+  takes_skipped skipped lines = record { found = []; means = rw skipped tt; grown = sym (append-nil (map names lines)); layout = next }
 
   module _ (counts : IsFalse (is_passed_over text)) where
     one_entry : entry_of kinds before.layout before.number text ≡ record { layout = after.layout; number = before.number; text = text } ∷ []
@@ -50,9 +50,9 @@ module _ (kinds : Rules) (before after : Cursor) (text : List ℕ) (next : after
 
     pub takes_misformatted : IsEntry kinds after.layout text None → (lines : List Line) → Takes kinds before after text lines lines (Some before.number)
     takes_misformatted entry lines =
-        record { found = nothing before.number ∷ []; says = rw one_entry ((refl, entry), tt); grown = refl; layout = next }
+        record { found = nothing before.number ∷ []; means = rw one_entry ((refl, entry), tt); grown = refl; layout = next }
 
     pub takes_said : (line : Line) → IsEntry kinds after.layout text (Some line) → (lines : List Line)
         → Takes kinds before after text lines (lines ++ line ∷ []) None
     takes_said line entry lines =
-        record { found = names line ∷ []; says = rw one_entry (entry, tt); grown = map-append names lines (line ∷ []); layout = next }
+        record { found = names line ∷ []; means = rw one_entry (entry, tt); grown = map-append names lines (line ∷ []); layout = next }

@@ -10,7 +10,7 @@ use Rattle.ripemd_files.specs.declared.line.Form.TheVariants.{Text, Binary, Tagg
 use Rattle.ripemd_files.specs.declared.line.Ending.{Ending}
 use Rattle.ripemd_files.specs.declared.line.Layout.{Layout}
 use Rattle.ripemd_files.specs.declared.line.Layout.TheVariants.{Standard, Reversed}
-use Rattle.ripemd_files.specs.Lines.{tag_of, text_of, body_of, line_of, is_marked, IsDigest, IsUntagged, IsTagged, IsLine, IsReadable, RoundTrips}
+use Rattle.ripemd_files.specs.Lines.{label_of, text_of, body_of, line_of, is_marked, IsDigest, IsUntagged, IsTagged, IsLine, IsReadable, RoundTrips}
 use Rattle.ripemd_files.proofs.Names.{Spells-escaped}
 
 pub IsDigest-written : (layout : Layout) (form : Form) (variant : Variant) (digest name : List ℕ) → RoundTrips layout form variant digest name
@@ -42,11 +42,11 @@ form-written Standard Text variant digits marked name named = inl (untagged 32 (
 form-written Standard Binary variant digits marked name named = inl (untagged 42 (inr refl) digits marked name named)
 form-written layout Tagged variant digits marked name named =
     inr record {
-      tag = tag_of variant;
+      label = label_of variant;
       space = codes " ";
       before = codes " ";
       after = codes " ";
-      is_tag = inl refl;
+      is_label = inl refl;
       is_space = inr refl;
       is_before = refl;
       is_after = refl;

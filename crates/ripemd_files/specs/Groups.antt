@@ -25,40 +25,40 @@ abbrev pub IsEntry : Rules → Option Layout → List ℕ → Option Line → Ty
 IsEntry rules layout text None = (variant : Variant) (digest name : List ℕ) → ¬ IsTaken rules layout text variant digest name
 IsEntry rules layout text (Some line) = IsTaken rules layout text line.variant line.digest.items line.name.items
 
--- what an entry says: a line that names a file; or, by its number, nothing that counts
-pub data Saying : Type 0 where
-  names : Line → Saying
-  nothing : ℕ → Saying
+-- what an entry means: a line that names a file; or, by its number, nothing that counts
+pub data Meaning : Type 0 where
+  names : Line → Meaning
+  nothing : ℕ → Meaning
 
-abbrev pub Says : Rules → Entry → Saying → Type 0
-Says rules entry (names line) = IsEntry rules entry.layout entry.text (Some line)
-Says rules entry (nothing number) = (number ≡ entry.number) × IsEntry rules entry.layout entry.text None
+abbrev pub Means : Rules → Entry → Meaning → Type 0
+Means rules entry (names line) = IsEntry rules entry.layout entry.text (Some line)
+Means rules entry (nothing number) = (number ≡ entry.number) × IsEntry rules entry.layout entry.text None
 
--- some lines, and the number of one after them that says nothing
-abbrev pub said : List Line → Option ℕ → List Saying
-said lines None = map names lines
-said lines (Some number) = map names lines ++ nothing number ∷ []
+-- some lines, and the number of one after them that means nothing
+abbrev pub meanings : List Line → Option ℕ → List Meaning
+meanings lines None = map names lines
+meanings lines (Some number) = map names lines ++ nothing number ∷ []
 
--- the event of a line that says nothing
+-- the event of a line that means nothing
 abbrev pub misformatted_events : Option ℕ → List Event
 misformatted_events None = []
 misformatted_events (Some number) = misformatted number ∷ []
 
--- a line was taken from a list, and what it says stands behind what was said before
+-- a line was taken from a list, and what it means stands behind what earlier lines mean
 pub record Takes (rules : Rules) (before after : Cursor) (text : List ℕ) (old new : List Line) (bad : Option ℕ) : Type 0 where
-  pub found : List Saying
-  pub says : AllZip (Says rules) (entry_of rules before.layout before.number text) found
-  pub grown : said new bad ≡ said old None ++ found
+  pub found : List Meaning
+  pub means : AllZip (Means rules) (entry_of rules before.layout before.number text) found
+  pub grown : meanings new bad ≡ meanings old None ++ found
   pub layout : after.layout ≡ layout_after rules before.layout text
 
--- all lines of these bytes were taken from the list, and say this
+-- all lines of these bytes were taken from the list, and mean this
 pub record ReadsLines (rules : Rules) (old new : Option (List ℕ)) (before after : Cursor) (lines : List Line) (bad : Option ℕ) (rest : List ℕ)
     : Type 0 where
   pub bytes : List ℕ
   pub consumed : Consumes old new (bytes ++ rest)
   pub numbered : after.number ≡ before.number + length (lines_of bytes)
   pub layout : after.layout ≡ layout_behind rules before.layout (lines_of bytes)
-  pub says : AllZip (Says rules) (entries_of rules before.layout before.number (lines_of bytes)) (said lines bad)
+  pub means : AllZip (Means rules) (entries_of rules before.layout before.number (lines_of bytes)) (meanings lines bad)
 
 -- what was read ends in whole lines, at the end of the list, or in the middle of a line, by a read that failed
 abbrev pub EndsAs : Stage → (old new : Option (List ℕ)) → (bytes rest : List ℕ) → Type 0

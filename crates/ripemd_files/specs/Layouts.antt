@@ -6,7 +6,7 @@ use Rattle.ripemd_files.specs.declared.line.Variant.{Variant}
 use Rattle.ripemd_files.specs.declared.line.Layout.{Layout}
 use Rattle.ripemd_files.specs.declared.line.Layout.TheVariants.{Standard, Reversed}
 use Rattle.ripemd_files.specs.Lines.{size_of, mark_of, IsBlank, IsDigest, IsUntagged}
-use Rattle.ripemd_files.specs.Reading.{Found, skip_blanks, strip_mark, strip_tag, untagged_at}
+use Rattle.ripemd_files.specs.Reading.{Found, skip_blanks, strip_mark, strip_label, untagged_at}
 
 -- whether so many digits count: all that a variant has, or those of one variant alone
 abbrev pub is_wanted_length : Option Variant → ℕ → Bool
@@ -26,7 +26,7 @@ untagged_layout only body =
     else None
 
 unfoldable pub layout_at : Option Variant → List ℕ → Option Layout
-layout_at only body = if is_some (strip_tag body) then None else untagged_layout only body
+layout_at only body = if is_some (strip_label body) then None else untagged_layout only body
 
 abbrev pub layout_of : Option Variant → List ℕ → Option Layout
 layout_of only line = layout_at only (strip_mark (skip_blanks line)).1

@@ -28,13 +28,13 @@ bits_of R160 = codes "160"
 bits_of R256 = codes "256"
 bits_of R320 = codes "320"
 
--- the tag that is written, as BSD has it
-abbrev pub tag_of : Variant → List ℕ
-tag_of variant = codes "RMD" ++ bits_of variant
+-- the label that is written, as BSD has it
+abbrev pub label_of : Variant → List ℕ
+label_of variant = codes "RMD" ++ bits_of variant
 
--- a tag that is read: BSD's, or OpenSSL's, or that without its hyphen
-abbrev pub IsTag : Variant → List ℕ → Type 0
-IsTag variant tag = (tag ≡ tag_of variant) ⊎ (tag ≡ codes "RIPEMD-" ++ bits_of variant) ⊎ (tag ≡ codes "RIPEMD" ++ bits_of variant)
+-- a label that is read: BSD's, or OpenSSL's, or that without its hyphen
+abbrev pub IsLabel : Variant → List ℕ → Type 0
+IsLabel variant label = (label ≡ label_of variant) ⊎ (label ≡ codes "RIPEMD-" ++ bits_of variant) ⊎ (label ≡ codes "RIPEMD" ++ bits_of variant)
 
 -- ---- names
 
@@ -76,7 +76,7 @@ text_of marked name = if marked then escaped name else name
 abbrev pub body_of : Form → Variant → List ℕ → List ℕ → List ℕ
 body_of Text variant digits text = digits ++ (codes "  " ++ text)
 body_of Binary variant digits text = digits ++ (codes " *" ++ text)
-body_of Tagged variant digits text = tag_of variant ++ (codes " (" ++ (text ++ (codes ") = " ++ digits)))
+body_of Tagged variant digits text = label_of variant ++ (codes " (" ++ (text ++ (codes ") = " ++ digits)))
 
 -- the line of a digest and a name, without its end
 abbrev pub line_of : Ending → Form → Variant → List ℕ → List ℕ → List ℕ
@@ -120,17 +120,17 @@ pub record IsUntagged (layout : Layout) (body digits text : List ℕ) : Type 0 w
   pub named : text ≢ []
   pub whole : body ≡ digits ++ (separator ++ text)
 
--- `RMD160 (NAME) = HEX`, with the space after the tag or not, and any blanks round the equals sign
+-- `RMD160 (NAME) = HEX`, with the space after the label or not, and any blanks round the equals sign
 pub record IsTagged (body : List ℕ) (variant : Variant) (digits text : List ℕ) : Type 0 where
-  pub tag : List ℕ
+  pub label : List ℕ
   pub space : List ℕ
   pub before : List ℕ
   pub after : List ℕ
-  pub is_tag : IsTag variant tag
+  pub is_label : IsLabel variant label
   pub is_space : (space ≡ []) ⊎ (space ≡ codes " ")
   pub is_before : IsBlank before
   pub is_after : IsBlank after
-  pub whole : body ≡ tag ++ (space ++ (codes "(" ++ (text ++ (codes ")" ++ (before ++ (codes "=" ++ (after ++ digits)))))))
+  pub whole : body ≡ label ++ (space ++ (codes "(" ++ (text ++ (codes ")" ++ (before ++ (codes "=" ++ (after ++ digits)))))))
 
 -- A line of a digest and a name, without its end: blanks, the mark of an escaped name or none, and one of
 -- the two forms. No name has a byte 0.

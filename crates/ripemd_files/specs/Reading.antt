@@ -46,7 +46,7 @@ variant_of count =
     else if count == 80 then Some R320
     else None
 
--- the length in bits at the end of a tag, and what follows it
+-- the length in bits at the end of a label, and what follows it
 abbrev pub strip_bits : List ℕ → Option (Variant × List ℕ)
 strip_bits bytes =
     option_or (option_map (λ rest. (R128, rest)) (strip (codes "128") bytes))
@@ -54,9 +54,9 @@ strip_bits bytes =
     (option_or (option_map (λ rest. (R256, rest)) (strip (codes "256") bytes))
     (option_map (λ rest. (R320, rest)) (strip (codes "320") bytes))))
 
--- a tag, and what follows it
-unfoldable pub strip_tag : List ℕ → Option (Variant × List ℕ)
-strip_tag bytes =
+-- a label, and what follows it
+unfoldable pub strip_label : List ℕ → Option (Variant × List ℕ)
+strip_label bytes =
     option_or (strip (codes "RMD") bytes)
     (option_or (strip (codes "RIPEMD-") bytes)
     (strip (codes "RIPEMD") bytes)) >>= strip_bits
@@ -87,7 +87,7 @@ abbrev pub skip_space : List ℕ → List ℕ
 skip_space [] = []
 skip_space (x ∷ rest) = if x == 32 then rest else x ∷ rest
 
--- what follows a tag
+-- what follows a label
 unfoldable pub tagged_at : Variant → List ℕ → Option Found
 tagged_at variant bytes = do
   inner ← strip (codes "(") (skip_space bytes)
@@ -97,11 +97,11 @@ tagged_at variant bytes = do
 
 -- either form
 abbrev pub either_at : Layout → Option (Variant × List ℕ) → List ℕ → Option Found
-either_at layout (Some tag) body = tagged_at tag.0 tag.1
+either_at layout (Some label) body = tagged_at label.0 label.1
 either_at layout None body = untagged_at layout body
 
 unfoldable pub found_at : Layout → List ℕ → Option Found
-found_at layout body = either_at layout (strip_tag body) body
+found_at layout body = either_at layout (strip_label body) body
 
 -- the bytes of the digits, if these are of the right number
 unfoldable pub digest_at : Variant → List ℕ → Option (List ℕ)

@@ -1,5 +1,5 @@
 -- Lines of files that contain "abc". sha256sum of coreutils writes, takes and refuses the same, but for
--- those of the last record, with its digest and tag in place of these (tests/test_lines.py compares
+-- those of the last record, with its digest and label in place of these (tests/test_lines.py compares
 -- them). The digests are the authors'.
 use Rattle.std.specs.Prelude.{◌≡◌, ℕ, List, [], ◌∷◌, ◌++◌, codes}
 use Rattle.ripemd_files.specs.declared.line.Variant.{Variant}

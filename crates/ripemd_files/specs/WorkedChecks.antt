@@ -1,5 +1,5 @@
 -- Checks of lists, worked. sha256sum of coreutils 9.1 says, counts and answers the same in these cases, with its own digests
--- and tag.
+-- and label.
 use Rattle.std.specs.Prelude.{◌≡◌, ℕ, List, [], ◌∷◌, ◌++◌, codes, count_by, Bool, true, false, ◌&&◌, if◌then◌else◌, Some, None, Ok, ⊤}
 use Rattle.std.specs.IoError.{error_kind}
 use Rattle.std.specs.declared.io.Error.{Error}

@@ -64,7 +64,7 @@ pub fn option_laws()
 {}
 
 /// Which lines are passed over, what others say, and the layout of lists.
-#[tactic(auto, unfolding(crate::specs::Reading::skip_blanks, crate::specs::Reading::split_blank, crate::specs::Reading::strip_tag, crate::specs::Reading::untagged_at, crate::specs::Layouts::layout_at))]
+#[tactic(auto, unfolding(crate::specs::Reading::skip_blanks, crate::specs::Reading::split_blank, crate::specs::Reading::strip_label, crate::specs::Reading::untagged_at, crate::specs::Layouts::layout_at))]
 pub fn worked_lists()
     ensures passed { PassedOver }
     ensures bodies { Bodies }

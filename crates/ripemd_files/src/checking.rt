@@ -14,7 +14,7 @@ use crate::digests::read_digests;
 use crate::fault::Fault;
 use crate::folder::Folder;
 use crate::line::{Layout, Line, Variant};
-use crate::list::{Cursor, Rules, read_group};
+use crate::list::{Cursor, Rules, read_lines};
 use crate::log::{Complaint, Log};
 use crate::outcome::Outcome;
 use crate::piece::{ReadList, Stage};
@@ -94,7 +94,7 @@ fn check_groups<F: Folder, R: ReadList, L: Log>(
 {
     let mut tally = Tally::new();
     'groups: loop {
-        let group = read_group(alloc, rules, cursor, reader)?;
+        let group = read_lines(alloc, rules, cursor, reader)?;
         check_lines(
             alloc,
             folder,

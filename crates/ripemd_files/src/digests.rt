@@ -9,7 +9,7 @@ ghost use Rattle.ripemd.specs.Standard.Hashing.{ripemd};
 ghost use Rattle.ripemd_batch.specs.Lanes.{targets};
 ghost use Rattle.ripemd_files.specs.Files.{Gives, Gave, Breaks, ComesTo, OfFirst, Place, parameters_of};
 ghost use Rattle.std.specs.List.{AllZip};
-ghost use Rattle.ripemd_files.specs.Contents.{Follows, IsContent, message_in};
+ghost use Rattle.ripemd_files.specs.Contents.{Follows, IsContent, IsDigest, message_in};
 
 use crate::folder::Folder;
 use crate::line::Variant;
@@ -24,15 +24,13 @@ use std::io;
 const TOO_LONG: u64 = 1 << 61;
 
 // The most files that are hashed at once.
-pub(crate) const GROUP: usize = 8;
+pub(crate) const FILES_AT_ONCE: usize = 8;
 
-// A message shorter than the buffer, the digest of another, or an error.
+// A message shorter than the buffer, which is hashed with others, or what came of the file.
 #[derive(Drop)]
-enum Content<T> {
+enum Content {
     Short(Vec<u8>),
-    Long(T),
-    Refused(io::Error),
-    Broken(io::Error),
+    Read(Outcome),
 }
 
 // Reads until the file ends or the buffer is full. How many bytes.
@@ -100,31 +98,37 @@ fn read_file<D: Digest, F: Folder>(
     folder: &F,
     name: &[u8],
     buffer: &mut [u8],
-) -> Result<Content<D::Output>, AllocError>
+) -> Result<Content, AllocError>
     requires room { 0 < length buffer.old }
-    ensures content { IfOk result (IsContent D.bytes_of (F.place folder.now) (hash D.start D.step D.output) name.now) }
+    ensures content { IfOk result (IsContent (F.place folder.now) (hash D.start D.step D.output) name.now) }
     ensures room { length buffer.new ≡ length buffer.old }
 {
     let mut file = match folder.open(name) {
         Ok(file) => file,
-        Err(error) => return Ok(Content::Refused(error)),
+        Err(error) => return Ok(Content::Read(Outcome::Refused(error))),
     };
     match fill(folder, &mut file, buffer) {
         Ok(count) => {
             if count as u64 >= TOO_LONG {
-                return Ok(Content::Broken(too_large()));
+                return Ok(Content::Read(Outcome::Broken(too_large())));
             }
             if count < buffer.len() {
                 let message = Vec::from_slice(alloc, &buffer[..count])?;
                 return Ok(Content::Short(message));
             }
         }
-        Err(error) => return Ok(Content::Broken(error)),
+        Err(error) => return Ok(Content::Read(Outcome::Broken(error))),
     }
-    match hash_rest::<D, F>(folder, &mut file, buffer) {
-        Ok(digest) => Ok(Content::Long(digest)),
-        Err(error) => Ok(Content::Broken(error)),
-    }
+    Ok(Content::Read(match hash_rest::<D, F>(folder, &mut file, buffer) {
+        Ok(digest) => digest_outcome::<D>(alloc, &digest)?,
+        Err(error) => Outcome::Broken(error),
+    }))
+}
+
+fn digest_outcome<D: Digest>(alloc: Global, digest: &D::Output) -> Result<Outcome, AllocError>
+    ensures { IfOk result (λ outcome. IsDigest outcome (D.bytes_of digest.now)) }
+{
+    Ok(Outcome::Digest(Vec::from_slice(alloc, D::output_bytes(digest))?))
 }
 
 // Reads the files of the first names: one, or several short ones.
@@ -133,13 +137,13 @@ fn read_files<D: Digest, F: Folder>(
     folder: &F,
     names: &[&[u8]],
     buffer: &mut [u8],
-) -> Result<Vec<Content<D::Output>>, AllocError>
+) -> Result<Vec<Content>, AllocError>
     requires room { 0 < length buffer.old }
-    ensures { IfOk result (λ contents. OfFirst (IsContent D.bytes_of (F.place folder.now) (hash D.start D.step D.output)) (targets names.now) contents.items) }
+    ensures { IfOk result (λ contents. OfFirst (IsContent (F.place folder.now) (hash D.start D.step D.output)) (targets names.now) contents.items) }
 {
-    let mut contents = Vec::with_capacity(alloc, GROUP)?;
+    let mut contents = Vec::with_capacity(alloc, FILES_AT_ONCE)?;
     for name in names {
-        if contents.len() == GROUP {
+        if contents.len() == FILES_AT_ONCE {
             return Ok(contents);
         }
         let short = folder.is_short(name);
@@ -156,7 +160,7 @@ fn read_files<D: Digest, F: Folder>(
 }
 
 // The message of a short file, else the empty one.
-fn message_of<T>(content: &Content<T>) -> &[u8]
+fn message_of(content: &Content) -> &[u8]
     ensures { result.now ≡ message_in content.now }
 {
     match content {
@@ -165,7 +169,7 @@ fn message_of<T>(content: &Content<T>) -> &[u8]
     }
 }
 
-fn messages_of<T>(alloc: Global, contents: &[Content<T>]) -> Result<Vec<&[u8]>, AllocError>
+fn messages_of(alloc: Global, contents: &[Content]) -> Result<Vec<&[u8]>, AllocError>
     ensures { IfOk result (λ messages. targets messages.items ≡ map message_in contents.now) }
 {
     let mut messages = Vec::with_capacity(alloc, contents.len())?;
@@ -178,31 +182,29 @@ fn messages_of<T>(alloc: Global, contents: &[Content<T>]) -> Result<Vec<&[u8]>, 
 // The outcome of a file, by its content and the digest of its message.
 fn outcome_of<D: Digest>(
     alloc: Global,
-    content: &Content<D::Output>,
+    content: Content,
     digest: &D::Output,
 ) -> Result<Outcome, AllocError>
-    requires made { D.bytes_of digest.now ≡ hash D.start D.step D.output (message_in content.now) }
-    ensures { IfOk result (Follows D.bytes_of (hash D.start D.step D.output) content.now) }
+    requires made { D.bytes_of digest.now ≡ hash D.start D.step D.output (message_in content) }
+    ensures { IfOk result (Follows (hash D.start D.step D.output) content) }
 {
-    Ok(match content {
-        Content::Short(_) => Outcome::Digest(Vec::from_slice(alloc, D::output_bytes(digest))?),
-        Content::Long(digest) => Outcome::Digest(Vec::from_slice(alloc, D::output_bytes(digest))?),
-        Content::Refused(error) => Outcome::Refused(*error),
-        Content::Broken(error) => Outcome::Broken(*error),
-    })
+    match content {
+        Content::Short(_) => digest_outcome::<D>(alloc, digest),
+        Content::Read(outcome) => Ok(outcome),
+    }
 }
 
 fn outcomes_of<D: Digest>(
     alloc: Global,
-    contents: &[Content<D::Output>],
+    contents: Vec<Content>,
     digests: &[D::Output],
 ) -> Result<Vec<Outcome>, AllocError>
-    requires made { map D.bytes_of digests.now ≡ map (hash D.start D.step D.output) (map message_in contents.now) }
-    ensures { IfOk result (λ outcomes. AllZip (Follows D.bytes_of (hash D.start D.step D.output)) contents.now outcomes.items) }
+    requires made { map D.bytes_of digests.now ≡ map (hash D.start D.step D.output) (map message_in contents.items) }
+    ensures { IfOk result (λ outcomes. AllZip (Follows (hash D.start D.step D.output)) contents.items outcomes.items) }
 {
     let mut outcomes = Vec::with_capacity(alloc, contents.len())?;
-    for k in 0..contents.len() {
-        let outcome = outcome_of::<D>(alloc, &contents[k], &digests[k])?;
+    for (k, content) in contents.into_iter().enumerate() {
+        let outcome = outcome_of::<D>(alloc, content, &digests[k])?;
         outcomes.push(outcome)?;
     }
     Ok(outcomes)
@@ -222,8 +224,7 @@ fn read_group<D: BatchDigest, F: Folder>(
     let messages = messages_of(alloc, contents.as_slice())?;
     let mut digests = vec![in alloc; D::Output::zeros(); messages.len()]?;
     digest_each::<D>(messages.as_slice(), digests.as_mut_slice());
-    let outcomes = outcomes_of::<D>(alloc, contents.as_slice(), digests.as_slice())?;
-    Ok(outcomes)
+    outcomes_of::<D>(alloc, contents, digests.as_slice())
 }
 
 /// Reads and hashes the files of the first names, in order: one, or up to eight [short](Folder::is_short) ones. Each

@@ -41,7 +41,7 @@ fn is_untagged(only: Option<Variant>, layout: Layout, body: &[u8]) -> bool
     }
 }
 
-// The layout of a body without a tag, if it has digits that count, and a name, whatever that spells; standard if both
+// The layout of a body without a label, if it has digits that count, and a name, whatever that spells; standard if both
 // fit. `sha256sum --check` takes the layout of a list from its first untagged line. With `only`, digits of its length
 // alone count.
 pub(crate) fn layout_of_untagged(only: Option<Variant>, body: &[u8]) -> Option<Layout>

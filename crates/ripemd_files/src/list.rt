@@ -5,11 +5,11 @@ ghost use Rattle.ripemd_files.specs.Lists.{IsTaken, IsWanted, body_of_line, is_p
 ghost use Rattle.ripemd_files.specs.declared.piece.Stage.TheVariants.{Among};
 ghost use Rattle.ripemd_files.specs.Groups.{ExplainsReading, IsEntry, ReadsGroup, StopsReading, Takes};
 
-use crate::digests::GROUP;
+use crate::digests::FILES_AT_ONCE;
 use crate::fault::Fault;
 use crate::line::{Layout, Line, Variant};
 use crate::piece::{Piece, ReadList, Stage};
-use crate::reading::read_line;
+use crate::reading::parse_listed;
 use std::alloc::{AllocError, Global};
 
 /// Which lines of a list count.
@@ -91,7 +91,7 @@ fn read_entry(
     ensures layout { layout.new ≡ layout_after rules layout.old text.now }
     ensures entry { IfOk result (IsEntry rules layout.new text.now) }
 {
-    match read_line(alloc, rules.only, layout, without_return(text))? {
+    match parse_listed(alloc, rules.only, layout, without_return(text))? {
         Some(line) => {
             if is_taken(rules, &line) {
                 return Ok(Some(line));
@@ -143,11 +143,11 @@ fn push_line(lines: &mut Vec<Line>, line: Line) -> Result<(), AllocError>
 fn is_group<R: ReadList>(lines: &[Line], reader: &R) -> bool
     ensures { IsTrue result → 0 < length lines.now }
 {
-    lines.len() >= GROUP || (!lines.is_empty() && !reader.has_line())
+    lines.len() >= FILES_AT_ONCE || (!lines.is_empty() && !reader.has_line())
 }
 
 // Reads lines until there are enough, one is misformatted, or the next is not at hand.
-pub(crate) fn read_group<R: ReadList>(
+pub(crate) fn read_lines<R: ReadList>(
     alloc: Global,
     rules: Rules,
     cursor: &mut Cursor,
@@ -157,45 +157,23 @@ pub(crate) fn read_group<R: ReadList>(
     ensures ok { IfOk result (ReadsGroup rules (R.state reader.old).left (R.state reader.new) cursor.old cursor.new) }
     ensures err { IfErr result (StopsReading (R.state reader.old).left (R.state reader.new).left cursor.old.number) }
 {
-    let mut lines = Vec::with_capacity(alloc, GROUP)?;
+    let mut lines = Vec::with_capacity(alloc, FILES_AT_ONCE)?;
     let mut text = Vec::new(alloc);
     'lines: while !is_group(lines.as_slice(), reader) {
-        match reader.read_line(&mut text)? {
-            Piece::Nothing => {
-                return Ok(Group {
-                    lines,
-                    misformatted: None,
-                    stage: Stage::Ended,
-                });
+        let piece = reader.read_line(&mut text)?;
+        let misformatted = match piece {
+            Piece::Whole | Piece::Last => {
+                take_line(alloc, rules, cursor, text.as_slice(), &mut lines)?
             }
-            Piece::Failed(_) => {
-                return Ok(Group {
-                    lines,
-                    misformatted: None,
-                    stage: Stage::Failed,
-                });
-            }
-            Piece::Last => {
-                let misformatted = take_line(alloc, rules, cursor, text.as_slice(), &mut lines)?;
-                return Ok(Group {
-                    lines,
-                    misformatted,
-                    stage: Stage::Ended,
-                });
-            }
-            Piece::Whole => {
-                let misformatted = take_line(alloc, rules, cursor, text.as_slice(), &mut lines)?;
-                match misformatted {
-                    Some(number) => {
-                        return Ok(Group {
-                            lines,
-                            misformatted: Some(number),
-                            stage: Stage::Among,
-                        });
-                    }
-                    None => {}
-                }
-            }
+            Piece::Nothing | Piece::Failed(_) => None,
+        };
+        let stage = piece.stage();
+        if misformatted.is_some() || stage != Stage::Among {
+            return Ok(Group {
+                lines,
+                misformatted,
+                stage,
+            });
         }
     }
     Ok(Group {

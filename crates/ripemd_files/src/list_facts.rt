@@ -20,7 +20,7 @@ pub fn split_lists()
 {}
 
 /// In which layout lines stand.
-#[tactic(auto, unfolding(crate::specs::Reading::skip_blanks, crate::specs::Reading::split_blank, crate::specs::Reading::strip_tag, crate::specs::Reading::untagged_at, crate::specs::Layouts::layout_at))]
+#[tactic(auto, unfolding(crate::specs::Reading::skip_blanks, crate::specs::Reading::split_blank, crate::specs::Reading::strip_label, crate::specs::Reading::untagged_at, crate::specs::Layouts::layout_at))]
 pub fn list_layouts()
     ensures standard { StandardLayouts }
     ensures reversed { ReversedLayouts }

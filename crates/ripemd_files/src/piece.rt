@@ -36,7 +36,7 @@ pub enum Stage {
 
 impl Piece {
     // How far a text is read with this piece.
-    fn stage(self) -> Stage
+    pub(crate) fn stage(self) -> Stage
         ensures { result ≡ stage_after self }
     {
         match self {

@@ -130,15 +130,7 @@ fn print_outcome<L: Log>(
 {
     match outcome {
         Outcome::Digest(digest) => {
-            let line = write_line(
-                alloc,
-                style.ending,
-                style.form,
-                style.variant,
-                digest.as_slice(),
-                name,
-            )?;
-            lines.extend_from_slice(line.as_slice())?;
+            write_line(alloc, style, digest.as_slice(), name, lines)?;
             Ok(true)
         }
         Outcome::Refused(error) | Outcome::Broken(error) => {

@@ -7,7 +7,7 @@ ghost use Rattle.ripemd_files.specs.declared.line.Layout.TheVariants.{Standard};
 ghost use Rattle.ripemd_files.specs.declared.line.Ending.{Ending};
 ghost use Rattle.ripemd_files.specs.Lines.{is_blank, IsLine, Says, RoundTrips, line_of};
 ghost use Rattle.ripemd_files.specs.Layouts.{layout_at, layout_of};
-ghost use Rattle.ripemd_files.specs.Reading.{strip, skip_blanks, split_blank, split_close, variant_of, strip_bits, strip_tag, text_at, untagged_at, skip_space, tagged_at, found_at, digest_at, meant_by, unescaped, name_at, strip_mark, said_by, found_of, said_of};
+ghost use Rattle.ripemd_files.specs.Reading.{strip, skip_blanks, split_blank, split_close, variant_of, strip_bits, strip_label, text_at, untagged_at, skip_space, tagged_at, found_at, digest_at, meant_by, unescaped, name_at, strip_mark, said_by, found_of, said_of};
 ghost use Rattle.std.specs.Option.{option_or};
 
 use crate::layout::layout_of_untagged;
@@ -87,7 +87,7 @@ fn variant_by_digits(count: usize) -> Option<Variant>
     }
 }
 
-// The variant by the bits that end its tag, and what follows.
+// The variant by the bits that end its label, and what follows.
 fn behind_bits(text: &[u8]) -> Option<(Variant, &[u8])>
     ensures { option_map (λ x. (x.0, x.1.now)) result ≡ strip_bits text.now }
 {
@@ -103,10 +103,10 @@ fn behind_bits(text: &[u8]) -> Option<(Variant, &[u8])>
     }
 }
 
-// The variant of a tag, and what follows it.
-#[tactic(auto, unfolding(crate::specs::Reading::strip_tag))]
-fn behind_tag(text: &[u8]) -> Option<(Variant, &[u8])>
-    ensures { option_map (λ x. (x.0, x.1.now)) result ≡ strip_tag text.now }
+// The variant of a label, and what follows it.
+#[tactic(auto, unfolding(crate::specs::Reading::strip_label))]
+fn behind_label(text: &[u8]) -> Option<(Variant, &[u8])>
+    ensures { option_map (λ x. (x.0, x.1.now)) result ≡ strip_label text.now }
 {
     if let Some(rest) = behind(b"RMD", text) {
         behind_bits(rest)
@@ -157,7 +157,7 @@ fn without_space(text: &[u8]) -> &[u8]
     }
 }
 
-// The parts of a tagged line, from what follows its tag.
+// The parts of a tagged line, from what follows its label.
 #[tactic(auto, unfolding(crate::specs::Reading::tagged_at))]
 fn tagged_parts(variant: Variant, text: &[u8]) -> Option<Parts<'_>>
     ensures { option_map found_of result ≡ tagged_at variant text.now }
@@ -182,7 +182,7 @@ fn either_parts<'a>(
     ensures layout { layout.new ≡ option_or layout.old (layout_at only body.now) }
     ensures parts { option_map found_of result ≡ found_at (unwrap_or layout.new Standard) body.now }
 {
-    match behind_tag(body) {
+    match behind_label(body) {
         Some((variant, rest)) => tagged_parts(variant, rest),
         None => {
             if layout.is_none() {
@@ -274,7 +274,7 @@ fn without_mark(text: &[u8]) -> (bool, &[u8])
 
 // What a line says, in the layout of its list, which it may decide.
 #[tactic(auto, unfolding(crate::specs::Reading::said_by))]
-pub(crate) fn read_line(
+pub(crate) fn parse_listed(
     alloc: Global,
     only: Option<Variant>,
     layout: &mut Option<Layout>,
@@ -318,5 +318,5 @@ pub fn parse_line(alloc: Global, layout: Layout, line: &[u8]) -> Result<Option<L
         → line.now ≡ line_of ending form variant digest name → IfOk result (λ found. Says found variant digest name) }
 {
     let mut layout = Some(layout);
-    read_line(alloc, None, &mut layout, line)
+    parse_listed(alloc, None, &mut layout, line)
 }

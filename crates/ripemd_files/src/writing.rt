@@ -1,14 +1,15 @@
 //! Lines that are written.
 
-ghost use Rattle.std.specs.Prelude.{◌≡◌, ◌++◌, IfOk, OnOk};
+ghost use Rattle.std.specs.Prelude.{◌≡◌, ◌++◌, OnOk};
 ghost use Rattle.std.specs.List.{list_any};
-ghost use Rattle.ripemd_files.specs.Lines.{tag_of, is_special, escape_of, mark_of, is_marked, text_of, body_of, line_of, end_of};
+ghost use Rattle.ripemd_files.specs.Lines.{label_of, is_special, escape_of, mark_of, is_marked, text_of, body_of, line_of, end_of};
 
 use crate::line::{Ending, Form, Variant};
+use crate::printing::Style;
 use std::alloc::{AllocError, Global};
 
-fn tag(variant: Variant) -> &'static [u8]
-    ensures { result.now ≡ tag_of variant }
+fn label(variant: Variant) -> &'static [u8]
+    ensures { result.now ≡ label_of variant }
 {
     match variant {
         Variant::R128 => b"RMD128",
@@ -89,7 +90,7 @@ fn push_body(
             push_text(line, marked, name)?;
         }
         Form::Tagged => {
-            line.extend_from_slice(tag(variant))?;
+            line.extend_from_slice(label(variant))?;
             line.extend_from_slice(b" (")?;
             push_text(line, marked, name)?;
             line.extend_from_slice(b") = ")?;
@@ -99,31 +100,41 @@ fn push_body(
     Ok(())
 }
 
-/// The line of a digest and a name, with its end, as `sha256sum` writes it.
+/// Adds the line of a digest and a name, with its end, as `sha256sum` writes it.
 ///
 /// The digits are in lower case. [`parse_line`](crate::parse_line) finds digest and name again if
 /// the digest has the variant's length, the name has no byte 0, and an untagged line has a name
 /// that is not empty and is read in the standard layout.
+///
+/// # Errors
+///
+/// `AllocError` if memory is exhausted. `lines` then also holds a front of the line.
 pub fn write_line(
     alloc: Global,
-    ending: Ending,
-    form: Form,
-    variant: Variant,
+    style: Style,
     digest: &[u8],
     name: &[u8],
-) -> Result<Vec<u8>, AllocError>
-    ensures { IfOk result (λ line. line.items ≡ line_of ending form variant digest.now name.now ++ end_of ending) }
+    lines: &mut Vec<u8>,
+) -> Result<(), AllocError>
+    ensures { OnOk result (lines.new.items ≡ lines.old.items
+        ++ (line_of style.ending style.form style.variant digest.now name.now ++ end_of style.ending)) }
 {
     let digits = hex::encode(alloc, digest)?;
-    let marked = needs_mark(ending, name);
-    let mut line = Vec::new(alloc);
+    let marked = needs_mark(style.ending, name);
     if marked {
-        line.push(b'\\')?;
+        lines.push(b'\\')?;
     }
-    push_body(&mut line, form, variant, digits.as_bytes(), marked, name)?;
-    match ending {
-        Ending::Newline => line.push(b'\n')?,
-        Ending::Zero => line.push(0)?,
+    push_body(
+        lines,
+        style.form,
+        style.variant,
+        digits.as_bytes(),
+        marked,
+        name,
+    )?;
+    match style.ending {
+        Ending::Newline => lines.push(b'\n')?,
+        Ending::Zero => lines.push(0)?,
     }
-    Ok(line)
+    Ok(())
 }

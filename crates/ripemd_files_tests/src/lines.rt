@@ -1,5 +1,6 @@
 //! Lines, written and read. The digest is that of the empty message, by the authors.
 
+use ripemd_files::printing::Style;
 use ripemd_files::{Ending, Form, Layout, Line, Variant, parse_line, write_line};
 use std::alloc::{AllocError, Global};
 use std::test::Fail;
@@ -36,19 +37,18 @@ fn a_line_is_read(rt: HostRuntime) -> Result<(), Fail> {
 #[test]
 fn a_line_is_written(rt: HostRuntime) -> Result<(), Fail> {
     let alloc = rt.alloc();
-    let ending = Ending::Newline;
-    let line = write_line(alloc, ending, Form::Text, Variant::R160, &DIGEST, b"a\\b")?;
-    let written = b"\\9c1185a5c5e9fc54612808977ee8f548b2258d31  a\\\\b\n";
-    assert_eq!(rt; line.as_slice(), written.as_slice());
-    let line = write_line(
-        alloc,
-        Ending::Zero,
-        Form::Tagged,
-        Variant::R160,
-        &DIGEST,
-        b"a\n",
-    )?;
-    let written = b"RMD160 (a\n) = 9c1185a5c5e9fc54612808977ee8f548b2258d31\0";
-    assert_eq!(rt; line.as_slice(), written.as_slice());
+    let mut lines = Vec::new(alloc);
+    let mut style = Style {
+        variant: Variant::R160,
+        form: Form::Text,
+        ending: Ending::Newline,
+    };
+    write_line(alloc, style, &DIGEST, b"a\\b", &mut lines)?;
+    style.form = Form::Tagged;
+    style.ending = Ending::Zero;
+    write_line(alloc, style, &DIGEST, b"a\n", &mut lines)?;
+    let written =
+        b"\\9c1185a5c5e9fc54612808977ee8f548b2258d31  a\\\\b\nRMD160 (a\n) = 9c1185a5c5e9fc54612808977ee8f548b2258d31\0";
+    assert_eq!(rt; lines.as_slice(), written.as_slice());
     Ok(())
 }

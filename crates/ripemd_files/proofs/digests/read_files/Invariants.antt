@@ -7,7 +7,7 @@ use Rattle.ripemd_files.proofs.digests.read_files.Given as goal
 
 abbrev pub invariant-loop-name : goal.invariant-loop-name
 invariant-loop-name g l = record {
-  each : AllZip (IsContent g.D.OutputSizeUser.bytes_of (g.F.Folder.place l.folder) (hash g.D.Digest.start g.D.Digest.step g.D.Digest.output))
+  each : AllZip (IsContent (g.F.Folder.place l.folder) (hash g.D.Digest.start g.D.Digest.step g.D.Digest.output))
       (take l.name-index (targets l.names)) l.contents.items;
   room : 0 < length l.buffer;
 }

@@ -1,7 +1,7 @@
 use Rattle.std.proofs.Common.{rules, arith, refl, [], Some, None}
 use Rattle.ripemd_files.proofs.Cutting.{ended_since}
 use Rattle.ripemd_files.proofs.Grouped.{reads_line, reads_last, reads_no_more, reads_nothing, stops_at_line, stops_at_last, stops_reading, taken}
-use Rattle.ripemd_files.proofs.list.read_group.Goals as goal
+use Rattle.ripemd_files.proofs.list.read_lines.Goals as goal
 
 pub lines-init : goal.lines-init
 lines-init g c =

@@ -2,7 +2,7 @@ use Rattle.std.proofs.Common.{◌≡◌, ◌-◌, ◌^◌, ◌≤◌, ◌<◌, [
 use Rattle.ripemd_files.specs.declared.piece.Stage.TheVariants.{Among}
 use Rattle.ripemd_files.specs.Groups.{ReadsLines}
 use Rattle.ripemd_files.specs.Splitting.{IsWhole}
-use Rattle.ripemd_files.proofs.list.read_group.Given as goal
+use Rattle.ripemd_files.proofs.list.read_lines.Given as goal
 
 abbrev pub invariant-lines : goal.invariant-lines
 invariant-lines g l = record {
