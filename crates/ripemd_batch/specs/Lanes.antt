@@ -54,26 +54,26 @@ padded_after before message = with_padding message (8 * (before + length message
 abbrev pub padding_words : ℕ → List ℕ
 padding_words n = 0x80 ∷ replicate (13 - n) 0 ++ (512 + 32 * n) ∷ 0 ∷ []
 
--- the output of the state after the blocks of such a message, from the state after the bytes before it
+-- the output after the blocks of such a message, from the state that the bytes before it led to
 unfoldable pub hash_after : ℕ → List ℕ → (List ℕ → List ℕ → List ℕ) → (List ℕ → List ℕ) → List ℕ → List ℕ
 hash_after before first step output message = output (walk step first (blocks (padded_after before message)))
 
 -- ---- what is made of the messages of a list
 
--- the state from which messages are hashed, and the number of bytes that led to it; and, if the output is hashed
--- again, the state for that, after one block
+-- where the messages of a list begin: the state first, to which so many bytes led; and, for tags, the outer state, to
+-- which one block led, and from which each output is hashed again
 pub record ListStates : Type 0 where
   pub before : ℕ
   pub first : List ℕ
   pub outer : Option (List ℕ)
 
--- a function, with the output hashed again if there is a state for that
+-- a function, and where there is an outer state, its output hashed from there
 abbrev pub hashed_again : (List ℕ → List ℕ → List ℕ) → (List ℕ → List ℕ) → Option (List ℕ)
     → (List ℕ → List ℕ) → List ℕ → List ℕ
 hashed_again step output None inner = inner
 hashed_again step output (Some outer) inner = λ m. hash_after 64 outer step output (inner m)
 
--- the output of a message from these states
+-- what a list makes of one message: a digest, or with an outer state a tag
 abbrev pub made_by : (List ℕ → List ℕ → List ℕ) → (List ℕ → List ℕ) → ListStates → List ℕ → List ℕ
 made_by step output s = hashed_again step output s.outer (hash_after s.before s.first step output)
 

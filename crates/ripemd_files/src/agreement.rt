@@ -60,6 +60,7 @@ pub enum VariantCollision {
 /// The collision of the variant's block function that [`collision_witness`] makes of a printed message and another
 /// that a matching file gives. Each message has fewer than 2^61 bytes.
 pub fn matching_collision<F: Folder>(
+    // Proof only.
     _folder: &F,
     variant: Variant,
     printed: &[u8],

@@ -235,6 +235,7 @@ fn check_lines<F: Folder, L: Log>(
 // Tells and counts outcomes. Their lines are written at once, and before a remark.
 fn check_outcomes<F: Folder, L: Log>(
     alloc: Global,
+    // Proof only.
     _folder: &F,
     options: Options,
     lines: &[Line],

@@ -91,6 +91,7 @@ pub(crate) fn new_buffer(alloc: Global) -> Result<Vec<u8>, AllocError>
 // Prints outcomes. Their lines are written at once, and before a remark.
 fn print_outcomes<F: Folder, L: Log>(
     alloc: Global,
+    // Proof only.
     _folder: &F,
     style: Style,
     names: &[&[u8]],

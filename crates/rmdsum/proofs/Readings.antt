@@ -1,17 +1,15 @@
 -- What arguments say, one after another.
-use Rattle.std.proofs.Common.{◌≡◌, List, [], ◌∷◌, ◌++◌, Result, Ok, IsErr, refl, arith}
-use mathlib.Core.List.{reverse_aux}
+use Rattle.std.proofs.Common.{◌≡◌, List, [], ◌∷◌, ◌++◌, Result, Ok, Err, IsErr, append_assoc, arith}
+use Rattle.std.specs.Prelude.{MatchResult}
+use Rattle.std.proofs.lemmas.List.{append-nil, reverse-append}
 use Rattle.rmdsum.specs.declared.arguments.Next.{Next}
 use Rattle.rmdsum.specs.declared.arguments.Stop.{Stop}
+use Rattle.rmdsum.specs.declared.refusals.Misuse.{Misuse}
 use Rattle.rmdsum.specs.declared.request.Request.{Request}
 use Rattle.rmdsum.specs.declared.request.Settings.{Settings}
 use Rattle.rmdsum.specs.Words.{Said}
-use Rattle.rmdsum.specs.Asked.{Asks, Holds}
+use Rattle.rmdsum.specs.Asked.{Asks, Holds, IsRefused}
 use Rattle.rmdsum.specs.Arguments.{Reading, then_reads, Answers, Reads}
-
-turned : (words more earlier : List Said) → reverse_aux (words ++ more) earlier ≡ reverse_aux more (reverse_aux words earlier)
-turned [] more earlier = refl
-turned (word ∷ words) more earlier = turned words more (word ∷ earlier)
 
 -- from here the rest is read as the whole is from the start
 abbrev pub ReadsOn : Reading → Settings → Reading → Settings → Type 0
@@ -20,15 +18,15 @@ ReadsOn whole start rest now = (after : Settings) (result : Result Next Stop) �
 -- what is read after what was read
 pub then_read : (given : Reading) (rest : Next → Reading) (before now : Settings) (next : Next)
     → Reads given before now (Ok next) → ReadsOn (then_reads given rest) before (rest next) now
-then_read given rest before now next reads after result more = grind (arith, turned)
+then_read given rest before now next reads after result more = grind (arith, reverse-append, append_assoc)
 
 -- or nothing is read after it
 pub then_stops : (given : Reading) (rest : Next → Reading) (before after : Settings) (result : Result Next Stop)
     → IsErr result → Reads given before after result → Reads (then_reads given rest) before after result
 then_stops given rest before after result fails reads = grind arith
 
--- what was read is asked for
-pub asked : (given : Reading) (before after : Settings) (next : Next) (request : Request)
-    → Reads given before after (Ok next) → Holds [] before → ((words : List Said) → Holds words after → Asks words request)
-    → Answers given (Ok request)
-asked given before after next request reads holds asks = grind arith
+-- what was read is asked for, or refused
+pub asked : (given : Reading) (before after : Settings) (next : Next) (answer : Result Request Misuse) → Reads given before after (Ok next)
+    → Holds [] before → ((words : List Said) → Holds words after → MatchResult answer (Asks words) (IsRefused words)) → Answers given answer
+asked given before after next (Ok request) reads holds asks = grind (arith, append-nil)
+asked given before after next (Err misuse) reads holds asks = grind (arith, append-nil)

@@ -1,6 +1,5 @@
 -- What the program's arguments say, by the rules of `getopt_long`.
 use Rattle.std.specs.Prelude.{◌≡◌, ℕ, ◌*◌, ◌==◌, Bool, true, false, if◌then◌else◌, List, [], ◌∷◌, ◌++◌, reverse, Option, Some, None, bytes_eq, Result, Ok, Err, ⊤}
-use mathlib.Core.List.{reverse_aux}
 use Rattle.std.specs.Fmt.{decimal}
 use Rattle.ripemd_files.specs.Lines.{bits_of, size_of}
 use Rattle.ripemd_files.specs.declared.line.Variant.{Variant}
@@ -21,7 +20,6 @@ use Rattle.rmdsum.specs.declared.arguments.Next.{Next}
 use Rattle.rmdsum.specs.declared.arguments.Next.TheVariants.{Any, Operand, Value, ShortValue}
 use Rattle.rmdsum.specs.declared.request.Request.{Request}
 use Rattle.rmdsum.specs.declared.request.Request.TheVariants as requests
-use Rattle.rmdsum.specs.declared.request.Refusal.TheVariants as refusals
 use Rattle.rmdsum.specs.Options.{by_letter, by_name}
 use Rattle.rmdsum.specs.declared.request.Settings.{Settings}
 use Rattle.rmdsum.specs.Words.{Said}
@@ -178,7 +176,7 @@ why_of _ = NotInReading
 -- a reading is answered so: by what its words ask for, or by why it stopped
 abbrev pub Answers : Reading → Result Request Misuse → Type 0
 Answers (Goes words next) (Ok request) = Asks (reverse words) request
-Answers (Goes words next) (Err misuse) = IsRefused (reverse words) (refusals.Misuse misuse)
+Answers (Goes words next) (Err misuse) = IsRefused (reverse words) misuse
 Answers (Stops AsksHelp) (Ok requests.Help) = ⊤
 Answers (Stops AsksVersion) (Ok requests.Version) = ⊤
 Answers (Stops why) (Ok request) = true ≡ false
@@ -186,7 +184,7 @@ Answers (Stops why) (Err misuse) = why_of misuse ≡ why
 
 -- what was read is added to what the settings hold, of which the last comes first, and this is next, or why nothing is; or memory is exhausted
 abbrev pub Reads : Reading → Settings → Settings → Result Next Stop → Type 0
-Reads (Goes words next) before after (Ok now) = (next ≡ now) × ((earlier : List Said) → Holds earlier before → Holds (reverse_aux words earlier) after)
+Reads (Goes words next) before after (Ok now) = (next ≡ now) × ((earlier : List Said) → Holds earlier before → Holds (reverse words ++ earlier) after)
 Reads (Goes words next) before after (Err stop) = stop ≡ stops.OutOfMemory
 Reads (Stops why) before after (Ok now) = true ≡ false
 Reads (Stops why) before after (Err stops.Help) = why ≡ AsksHelp

@@ -1,5 +1,5 @@
 -- What the program is asked for.
-use Rattle.std.specs.Prelude.{◌≡◌, ℕ, ◌&&◌, Bool, true, false, if◌then◌else◌, List, [], ◌∷◌, map, codes, Option, Some, None, unwrap_or, option_map, is_some, IsSome, slice_get, vec_items, ◌⊎◌, ⊤}
+use Rattle.std.specs.Prelude.{◌≡◌, ℕ, ◌&&◌, Bool, true, false, if◌then◌else◌, List, [], ◌∷◌, map, codes, Option, Some, None, unwrap_or, option_map, is_some, IsSome, slice_get, vec_items, ◌⊎◌}
 use Rattle.ripemd_files.specs.declared.line.Variant.{Variant}
 use Rattle.ripemd_files.specs.declared.line.Variant.TheVariants.{R160}
 use Rattle.ripemd_files.specs.declared.line.Form.{Form}
@@ -9,9 +9,7 @@ use Rattle.ripemd_files.specs.declared.line.Ending.TheVariants as endings
 use Rattle.ripemd_files.specs.declared.verdict.Options.{Options}
 use Rattle.rmdsum.specs.declared.switches.Flag.{Flag}
 use Rattle.rmdsum.specs.declared.switches.Flag.TheVariants as flags
-use Rattle.rmdsum.specs.declared.request.Refusal.{Refusal}
-use Rattle.rmdsum.specs.declared.request.Refusal.TheVariants.{Misuse, OutOfMemory}
-use Rattle.rmdsum.specs.declared.refusals.Misuse as refusals
+use Rattle.rmdsum.specs.declared.refusals.Misuse.{Misuse}
 use Rattle.rmdsum.specs.declared.refusals.Misuse.TheVariants.{TextWithTag, ZeroWithCheck, TagWithCheck, ModeWithCheck, OnlyWithCheck, ExtraOperand}
 use Rattle.rmdsum.specs.declared.request.Mode.{Mode}
 use Rattle.rmdsum.specs.declared.request.Mode.TheVariants.{Binary, Text}
@@ -43,7 +41,7 @@ needs_check false None true = Some flags.Strict
 needs_check false None false = None
 
 -- an option that a check excludes
-abbrev pub excluded : Bool → Bool → Option Mode → Option refusals.Misuse
+abbrev pub excluded : Bool → Bool → Option Mode → Option Misuse
 excluded zero tag mode =
     if zero then Some ZeroWithCheck
     else if tag then Some TagWithCheck
@@ -51,7 +49,7 @@ excluded zero tag mode =
     else None
 
 -- in the order in which `sha256sum` looks
-abbrev pub conflict : List Said → Option refusals.Misuse
+abbrev pub conflict : List Said → Option Misuse
 conflict words =
     if gives flags.Tag words && is_text (last mode_in words) then Some TextWithTag
     else if gives flags.Check words then excluded (gives flags.Zero words) (gives flags.Tag words) (last mode_in words)
@@ -120,16 +118,14 @@ Asks words (Run work names progress) =
     (conflict words ≡ None) × (work ≡ work_of words) × AreNames (last file_in words) (names_of words) names
     × (progress ≡ gives flags.Progress words)
 
--- an operand beside `--files0-from`; or memory is exhausted
-abbrev pub IsExtra : Option (List ℕ) → List (List ℕ) → Refusal → Type 0
-IsExtra file names OutOfMemory = ⊤
-IsExtra file names (Misuse (ExtraOperand operand)) = IsSome file × (slice_get names 0 ≡ Some operand.items)
-IsExtra file names (Misuse _) = true ≡ false
+-- an operand beside `--files0-from`
+abbrev pub IsExtra : Option (List ℕ) → List (List ℕ) → Misuse → Type 0
+IsExtra file names (ExtraOperand operand) = IsSome file × (slice_get names 0 ≡ Some operand.items)
+IsExtra file names _ = true ≡ false
 
 -- these words are refused so
-abbrev pub IsRefused : List Said → Refusal → Type 0
-IsRefused words OutOfMemory = ⊤
-IsRefused words (Misuse misuse) = (conflict words ≡ Some misuse) ⊎ ((conflict words ≡ None) × IsExtra (last file_in words) (names_of words) (Misuse misuse))
+abbrev pub IsRefused : List Said → Misuse → Type 0
+IsRefused words misuse = (conflict words ≡ Some misuse) ⊎ ((conflict words ≡ None) × IsExtra (last file_in words) (names_of words) misuse)
 
 -- these settings are what the words say
 pub record Holds (words : List Said) (settings : Settings) : Type 0 where

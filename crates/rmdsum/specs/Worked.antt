@@ -9,7 +9,6 @@ use Rattle.rmdsum.specs.declared.switches.Flag.TheVariants.{Binary, Check, Ignor
 use Rattle.rmdsum.specs.declared.switches.Parameter.TheVariants.{Algorithm, FilesFrom}
 use Rattle.rmdsum.specs.declared.arguments.Next.TheVariants.{Any, Operand}
 use Rattle.rmdsum.specs.declared.refusals.Misuse.TheVariants.{TextWithTag, ZeroWithCheck, TagWithCheck, ModeWithCheck, OnlyWithCheck, ExtraOperand}
-use Rattle.rmdsum.specs.declared.request.Refusal.TheVariants.{Misuse}
 use Rattle.rmdsum.specs.Words.{gives, last, names_of, file_in, mode_in}
 use Rattle.rmdsum.specs.Words.Said.{Sets, Hashes, NamedIn, Names}
 use Rattle.rmdsum.specs.Arguments.{reading, Answers}
@@ -100,7 +99,7 @@ pub record WorkedConflicts : Type 0 where
   pub warn : conflict (Sets Warn ∷ Sets Quiet ∷ []) ≡ Some (OnlyWithCheck Warn)
   pub quiet : conflict (Sets Quiet ∷ Sets Strict ∷ []) ≡ Some (OnlyWithCheck Quiet)
   pub strict : conflict (Sets Strict ∷ []) ≡ Some (OnlyWithCheck Strict)
-  pub extra : (operand : Vec ℕ Global) → IsExtra (Some (codes "c")) (codes "a" ∷ codes "b" ∷ []) (Misuse (ExtraOperand operand))
+  pub extra : (operand : Vec ℕ Global) → IsExtra (Some (codes "c")) (codes "a" ∷ codes "b" ∷ []) (ExtraOperand operand)
       ↔ (operand.items ≡ codes "a")
 
 abbrev pub usual : Options

@@ -6,7 +6,7 @@ ghost use Rattle.rmdsum.specs.declared.arguments.Next.TheVariants.{Any};
 ghost use Rattle.rmdsum.specs.Arguments.{variant_named, Answers, Reads, reading, says, long_says, letters_say, flag_says, value_says};
 
 use crate::refusals::Misuse;
-use crate::request::{Mode, Refusal, Request, Settings, Telling};
+use crate::request::{Mode, Request, Settings, Telling};
 use crate::switches::{Flag, Found, Parameter, Switch, around_equals, find_long, find_short};
 use ripemd_files::Variant;
 use std::alloc::{AllocError, Global};
@@ -96,11 +96,7 @@ pub fn parse(
         Err(Stop::Misuse(misuse)) => return Ok(Err(misuse)),
         Err(Stop::OutOfMemory) => return Err(AllocError),
     }
-    match settings.request(alloc) {
-        Ok(request) => Ok(Ok(request)),
-        Err(Refusal::Misuse(misuse)) => Ok(Err(misuse)),
-        Err(Refusal::OutOfMemory) => Err(AllocError),
-    }
+    settings.request(alloc)
 }
 
 // Adds what the arguments say.

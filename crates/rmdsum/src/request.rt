@@ -1,7 +1,6 @@
 //! What the program is to do, by what its arguments say.
 
-ghost use Rattle.std.specs.Prelude.{◌≡◌, List, [], ◌∷◌, IfOk, IfErr, map, option_map, vec_items, codes};
-ghost use Rattle.rmdsum.specs.declared.request.Refusal.TheVariants.{OutOfMemory};
+ghost use Rattle.std.specs.Prelude.{◌≡◌, List, [], ◌∷◌, IfOk, MatchResult, map, option_map, vec_items, codes};
 ghost use Rattle.rmdsum.specs.Words.{Said};
 ghost use Rattle.rmdsum.specs.Asked.{Holds, Asks, IsRefused, IsExtra, conflict, excluded, needs_check, form_of, options_of, AreNames, or_input};
 
@@ -66,21 +65,6 @@ pub enum Telling {
     Quiet,
     Status,
     Warn,
-}
-
-/// Why there is no request.
-#[derive(Drop)]
-pub enum Refusal {
-    Misuse(Misuse),
-    OutOfMemory,
-}
-
-impl From<AllocError> for Refusal {
-    ghost from_gives = { λ _ refusal. refusal ≡ OutOfMemory };
-
-    fn from(_: AllocError) -> Refusal {
-        Refusal::OutOfMemory
-    }
 }
 
 /// What was said together.
@@ -187,13 +171,12 @@ impl Settings {
         }
     }
 
-    /// What they ask for.
-    pub fn request(self, alloc: Global) -> Result<Request, Refusal>
-        ensures ok { (words : List Said) → Holds words self → IfOk result (Asks words) }
-        ensures err { (words : List Said) → Holds words self → IfErr result (IsRefused words) }
+    /// What they ask for, or why they are refused.
+    pub fn request(self, alloc: Global) -> Result<Result<Request, Misuse>, AllocError>
+        ensures { (words : List Said) → Holds words self → IfOk result (λ answer. MatchResult answer (Asks words) (IsRefused words)) }
     {
         if let Some(misuse) = self.conflict() {
-            return Err(Refusal::Misuse(misuse));
+            return Ok(Err(misuse));
         }
         let options = self.options();
         let form = self.form();
@@ -214,10 +197,14 @@ impl Settings {
                 ending,
             })
         };
-        Ok(Request::Run {
-            work,
-            names: choose_names(alloc, self.names_in, self.names)?,
-            progress: self.progress,
+        let progress = self.progress;
+        Ok(match choose_names(alloc, self.names_in, self.names)? {
+            Ok(names) => Ok(Request::Run {
+                work,
+                names,
+                progress,
+            }),
+            Err(misuse) => Err(misuse),
         })
     }
 }
@@ -226,20 +213,20 @@ fn choose_names(
     alloc: Global,
     names_in: Option<Vec<u8>>,
     names: Vec<Vec<u8>>,
-) -> Result<NameSource, Refusal>
-    ensures ok { IfOk result (AreNames (option_map vec_items names_in) (map vec_items names.items)) }
-    ensures err { IfErr result (IsExtra (option_map vec_items names_in) (map vec_items names.items)) }
+) -> Result<Result<NameSource, Misuse>, AllocError>
+    ensures { IfOk result (λ answer. MatchResult answer (AreNames (option_map vec_items names_in) (map vec_items names.items))
+        (IsExtra (option_map vec_items names_in) (map vec_items names.items))) }
 {
     let Some(file) = names_in else {
         if names.is_empty() {
-            return Ok(NameSource::Operands(standard_input(alloc)?));
+            return Ok(Ok(NameSource::Operands(standard_input(alloc)?)));
         }
-        return Ok(NameSource::Operands(names));
+        return Ok(Ok(NameSource::Operands(names)));
     };
-    match names.into_iter().next() {
+    Ok(match names.into_iter().next() {
         None => Ok(NameSource::From(file)),
-        Some(name) => Err(Refusal::Misuse(Misuse::ExtraOperand(name))),
-    }
+        Some(name) => Err(Misuse::ExtraOperand(name)),
+    })
 }
 
 fn standard_input(alloc: Global) -> Result<Vec<Vec<u8>>, AllocError>
