@@ -9,7 +9,7 @@ ghost use Rattle.ripemd.specs.Standard.Hashing.{ripemd};
 ghost use Rattle.ripemd_batch.specs.Lanes.{targets};
 ghost use Rattle.ripemd_files.specs.Files.{Gives, Gave, Breaks, ComesTo, OfFirst, Place, parameters_of};
 ghost use Rattle.std.specs.List.{AllZip};
-ghost use Rattle.ripemd_files.specs.Contents.{Follows, IsContent, IsDigest, message_in};
+ghost use Rattle.ripemd_files.specs.Contents.{Follows, IsContent, message_in};
 
 use crate::folder::Folder;
 use crate::line::Variant;
@@ -119,16 +119,13 @@ fn read_file<D: Digest, F: Folder>(
         }
         Err(error) => return Ok(Content::Read(Outcome::Broken(error))),
     }
-    Ok(Content::Read(match hash_rest::<D, F>(folder, &mut file, buffer) {
-        Ok(digest) => digest_outcome::<D>(alloc, &digest)?,
-        Err(error) => Outcome::Broken(error),
-    }))
-}
-
-fn digest_outcome<D: Digest>(alloc: Global, digest: &D::Output) -> Result<Outcome, AllocError>
-    ensures { IfOk result (λ outcome. IsDigest outcome (D.bytes_of digest.now)) }
-{
-    Ok(Outcome::Digest(Vec::from_slice(alloc, D::output_bytes(digest))?))
+    match hash_rest::<D, F>(folder, &mut file, buffer) {
+        Ok(digest) => {
+            let bytes = Vec::from_slice(alloc, D::output_bytes(&digest))?;
+            Ok(Content::Read(Outcome::Digest(bytes)))
+        }
+        Err(error) => Ok(Content::Read(Outcome::Broken(error))),
+    }
 }
 
 // Reads the files of the first names: one, or several short ones.
@@ -189,7 +186,10 @@ fn outcome_of<D: Digest>(
     ensures { IfOk result (Follows (hash D.start D.step D.output) content) }
 {
     match content {
-        Content::Short(_) => digest_outcome::<D>(alloc, digest),
+        Content::Short(_) => {
+            let bytes = Vec::from_slice(alloc, D::output_bytes(digest))?;
+            Ok(Outcome::Digest(bytes))
+        }
         Content::Read(outcome) => Ok(outcome),
     }
 }
@@ -224,6 +224,7 @@ fn read_group<D: BatchDigest, F: Folder>(
     let messages = messages_of(alloc, contents.as_slice())?;
     let mut digests = vec![in alloc; D::Output::zeros(); messages.len()]?;
     digest_each::<D>(messages.as_slice(), digests.as_mut_slice());
+    drop(messages);
     outcomes_of::<D>(alloc, contents, digests.as_slice())
 }
 

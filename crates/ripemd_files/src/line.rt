@@ -16,7 +16,7 @@ pub enum Variant {
 }
 
 impl Variant {
-    ghost use Rattle.ripemd_files.specs.Lines.{size_of};
+    ghost use Rattle.ripemd_files.specs.Lines.{label_of, size_of};
 
     /// The length of a digest in bytes.
     pub fn digest_size(self) -> usize
@@ -27,6 +27,18 @@ impl Variant {
             Variant::R160 => 20,
             Variant::R256 => 32,
             Variant::R320 => 40,
+        }
+    }
+
+    /// What begins a tagged line, as BSD has it.
+    pub fn label(self) -> &'static str
+        ensures { result.now ≡ label_of self }
+    {
+        match self {
+            Variant::R128 => "RMD128",
+            Variant::R160 => "RMD160",
+            Variant::R256 => "RMD256",
+            Variant::R320 => "RMD320",
         }
     }
 }

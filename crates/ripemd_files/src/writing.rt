@@ -2,22 +2,11 @@
 
 ghost use Rattle.std.specs.Prelude.{◌≡◌, ◌++◌, OnOk};
 ghost use Rattle.std.specs.List.{list_any};
-ghost use Rattle.ripemd_files.specs.Lines.{label_of, is_special, escape_of, mark_of, is_marked, text_of, body_of, line_of, end_of};
+ghost use Rattle.ripemd_files.specs.Lines.{is_special, escape_of, mark_of, is_marked, text_of, body_of, line_of, end_of};
 
 use crate::line::{Ending, Form, Variant};
 use crate::printing::Style;
 use std::alloc::{AllocError, Global};
-
-fn label(variant: Variant) -> &'static [u8]
-    ensures { result.now ≡ label_of variant }
-{
-    match variant {
-        Variant::R128 => b"RMD128",
-        Variant::R160 => b"RMD160",
-        Variant::R256 => b"RMD256",
-        Variant::R320 => b"RMD320",
-    }
-}
 
 // Whether a byte is escaped.
 fn is_special_byte(byte: u8) -> bool
@@ -90,7 +79,7 @@ fn push_body(
             push_text(line, marked, name)?;
         }
         Form::Tagged => {
-            line.extend_from_slice(label(variant))?;
+            line.extend_from_slice(variant.label().as_bytes())?;
             line.extend_from_slice(b" (")?;
             push_text(line, marked, name)?;
             line.extend_from_slice(b") = ")?;

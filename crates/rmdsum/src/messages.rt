@@ -183,17 +183,10 @@ impl<'a> Console<'a> {
     pub fn of_list(rt: &'a HostRuntime, list: &'a [u8], only: Option<Variant>) -> Console<'a>
         ensures { result.failure ≡ None }
     {
-        let hash = match only {
-            None => "RIPEMD",
-            Some(Variant::R128) => "RMD128",
-            Some(Variant::R160) => "RMD160",
-            Some(Variant::R256) => "RMD256",
-            Some(Variant::R320) => "RMD320",
-        };
         Console {
             rt,
             list,
-            hash,
+            hash: only.map_or("RIPEMD", Variant::label),
             failure: None,
         }
     }

@@ -3,6 +3,11 @@
 use crate::quoting::{Charset, quote, quoteaf};
 use crate::switches::{Flag, Parameter, SWITCHES, around_equals};
 use std::alloc::AllocError;
+use std::io;
+use std::io::Write;
+
+// What many of them are about.
+const CHECKING: &[u8] = b" when verifying checksums";
 
 /// Why arguments are refused.
 #[derive(PartialEq, Eq, Debug, Drop)]
@@ -37,68 +42,56 @@ pub enum Misuse {
 
 impl Misuse {
     /// Adds the message that follows the program's name and a colon, without its last newline.
-    pub fn push_text(&self, text: &mut Vec<u8>, charset: Charset) -> Result<(), AllocError> {
+    pub fn push_text(&self, text: &mut Vec<u8>, charset: Charset) -> io::Result<()> {
         match self {
             Misuse::UnknownLong(option) => {
-                push_parts(text, &[b"unrecognized option '--", option.as_slice(), b"'"])
+                push_parts(text, &[b"unrecognized option '--", option.as_slice(), b"'"])?;
             }
-            Misuse::Ambiguous(option) => push_ambiguous(text, option.as_slice()),
-            Misuse::UnwantedValue(flag) => push_parts(
-                text,
-                &[
-                    b"option '--",
-                    flag.long_name().as_bytes(),
-                    b"' doesn't allow an argument",
-                ],
-            ),
-            Misuse::MissingValue(parameter) => push_parts(
-                text,
-                &[
-                    b"option '--",
-                    parameter.long_name().as_bytes(),
-                    b"' requires an argument",
-                ],
-            ),
+            Misuse::Ambiguous(option) => push_ambiguous(text, option.as_slice())?,
+            Misuse::UnwantedValue(flag) => {
+                let name = flag.long_name();
+                write!(text, "option '--{name}' doesn't allow an argument")?;
+            }
+            Misuse::MissingValue(parameter) => {
+                let name = parameter.long_name();
+                write!(text, "option '--{name}' requires an argument")?;
+            }
             Misuse::UnknownShort(letter) => {
-                push_parts(text, &[b"invalid option -- '", &[*letter], b"'"])
+                push_parts(text, &[b"invalid option -- '", &[*letter], b"'"])?;
             }
             Misuse::MissingShortValue(letter) => {
-                push_parts(
-                    text,
-                    &[b"option requires an argument -- '", &[*letter], b"'"],
-                )
+                let what = b"option requires an argument -- '";
+                push_parts(text, &[what, &[*letter], b"'"])?;
             }
-            Misuse::UnknownVariant(name) => push_unknown_variant(text, name.as_slice()),
-            Misuse::TextWithTag => push_parts(text, &[b"--tag does not support --text mode"]),
+            Misuse::UnknownVariant(name) => push_unknown_variant(text, name.as_slice())?,
+            Misuse::TextWithTag => write!(text, "--tag does not support --text mode")?,
             Misuse::ZeroWithCheck => push_parts(
                 text,
-                &[b"the --zero option is not supported when verifying checksums"],
-            ),
+                &[b"the --zero option is not supported", CHECKING],
+            )?,
             Misuse::TagWithCheck => push_parts(
                 text,
-                &[b"the --tag option is meaningless when verifying checksums"],
-            ),
-            Misuse::ModeWithCheck => push_parts(
-                text,
-                &[b"the --binary and --text options are meaningless when verifying checksums"],
-            ),
-            Misuse::OnlyWithCheck(flag) => push_parts(
-                text,
-                &[
-                    b"the --",
-                    flag.long_name().as_bytes(),
-                    b" option is meaningful only when verifying checksums",
-                ],
-            ),
-            Misuse::ExtraOperand(operand) => {
-                push_parts(text, &[b"extra operand "])?;
-                quoteaf(text, charset, operand.as_slice())?;
+                &[b"the --tag option is meaningless", CHECKING],
+            )?,
+            Misuse::ModeWithCheck => {
+                let what = b"the --binary and --text options are meaningless";
+                push_parts(text, &[what, CHECKING])?;
+            }
+            Misuse::OnlyWithCheck(flag) => {
+                let name = flag.long_name().as_bytes();
                 push_parts(
                     text,
-                    &[b"\nfile operands cannot be combined with --files0-from"],
-                )
+                    &[b"the --", name, b" option is meaningful only", CHECKING],
+                )?;
+            }
+            Misuse::ExtraOperand(operand) => {
+                write!(text, "extra operand ")?;
+                quoteaf(text, charset, operand.as_slice())?;
+                let why = b"\nfile operands cannot be combined with --files0-from";
+                text.extend_from_slice(why)?;
             }
         }
+        Ok(())
     }
 }
 
