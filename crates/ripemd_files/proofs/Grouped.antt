@@ -112,7 +112,7 @@ module _ {File : Type 0} (place : Place File) (ignore_missing : Bool) (kinds : R
         let n = length (take count lines) in
         let (first, back, split, same) = first_entries kinds n before.layout before.number (lines_of reads.bytes) in
         let means = rw meanings_first at (all_zip_take (Means kinds) n _ _ reads.means) in
-        (first, back, split, rw same (all_zip_through _ _ _ _ _ _ on_entry says (of_lines _ events zipped)))
+        (first, back, split, rw same (all_zip_through _ _ _ _ _ _ on_entry means (of_lines _ events zipped)))
 
 -- ---- reading
 

@@ -203,8 +203,9 @@ fn outcomes_of<D: Digest>(
     ensures { IfOk result (λ outcomes. AllZip (Follows (hash D.start D.step D.output)) contents.items outcomes.items) }
 {
     let mut outcomes = Vec::with_capacity(alloc, contents.len())?;
-    for (k, content) in contents.into_iter().enumerate() {
-        let outcome = outcome_of::<D>(alloc, content, &digests[k])?;
+    for content in contents {
+        let digest = &digests[outcomes.len()];
+        let outcome = outcome_of::<D>(alloc, content, digest)?;
         outcomes.push(outcome)?;
     }
     Ok(outcomes)
@@ -225,7 +226,8 @@ fn read_group<D: BatchDigest, F: Folder>(
     let mut digests = vec![in alloc; D::Output::zeros(); messages.len()]?;
     digest_each::<D>(messages.as_slice(), digests.as_mut_slice());
     drop(messages);
-    outcomes_of::<D>(alloc, contents, digests.as_slice())
+    let outcomes = outcomes_of::<D>(alloc, contents, digests.as_slice())?;
+    Ok(outcomes)
 }
 
 /// Reads and hashes the files of the first names, in order: one, or up to eight [short](Folder::is_short) ones. Each

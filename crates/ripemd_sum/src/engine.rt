@@ -1,6 +1,6 @@
 //! The run of the program, over any reader and any writer.
 
-ghost use Rattle.std.specs.Prelude.{◌≡◌, ◌+◌, ◌*◌, ◌≤◌, ◌++◌, ℕ, List, false, length, codes};
+ghost use Rattle.std.specs.Prelude.{◌≡◌, ◌+◌, ◌*◌, ◌≤◌, ◌++◌, ℕ, List, false, true, length, codes};
 ghost use Rattle.std.specs.Prelude.{IfOk, OnOk, IfErr};
 ghost use Rattle.hex.specs.Hex.{encode_lower};
 ghost use Rattle.ripemd.specs.Standard.Hashing.{hash};
@@ -14,12 +14,13 @@ use crate::fault::{ReadFault, RunFault};
 use crate::tracked::Tracked;
 use crate::variant::Variant;
 use ripemd::block_api::{
-    Ripemd128Function, Ripemd160Function, Ripemd256Function, Ripemd320Function,
+    ByteArray, Ripemd128Function, Ripemd160Function, Ripemd256Function, Ripemd320Function,
 };
 use ripemd::digest::OutputSizeUser;
 use ripemd::incremental::Incremental;
 use ripemd::{BlockHasher, Digest, ListBlockFunction};
 use ripemd_mac::Hmac;
+use std::io;
 use std::io::{Read, Write};
 
 /// The most bytes that a read asks for.
@@ -89,7 +90,8 @@ fn run_digest<F: ListBlockFunction, R: Read, W: Write>(
         (λ message. encode_lower (hash (F.list F.start_of) F.step F.output message) ++ codes "\n")
         result }
 {
-    run_state::<BlockHasher<F>, R, W>(BlockHasher::new(), reader, writer, limit)
+    let digest = hash_reader::<BlockHasher<F>, R>(reader, limit)?;
+    write_line(digest.as_bytes(), writer).map_err(RunFault::Write)
 }
 
 fn run_tag<F: ListBlockFunction, R: Read, W: Write>(
@@ -104,31 +106,8 @@ fn run_tag<F: ListBlockFunction, R: Read, W: Write>(
         (λ message. encode_lower (hmac (hash (F.list F.start_of) F.step F.output) key.now message)
         ++ codes "\n") result }
 {
-    run_state::<Hmac<BlockHasher<F>>, R, W>(Hmac::new(key), reader, writer, limit)
-}
-
-// The run of a new hasher or `Hmac`.
-fn run_state<S: Incremental, R: Read, W: Write>(
-    state: S,
-    reader: &mut Tracked<R>,
-    writer: &mut Tracked<W>,
-    limit: u64,
-) -> Result<(), RunFault>
-    requires fits { 2 * S.Hash.OUTPUT_SIZE + 1 ≤ 81 }
-    requires ready { Ready reader.old writer.old }
-    ensures ok { OnOk result ((message : List ℕ)
-        × GivesAll R.remaining reader.old reader.new limit message
-        × ((o : S.Origin) → state ≡ S.new_state o → Gets W.contents writer.old writer.new
-        (encode_lower (S.whole o message) ++ codes "\n"))) }
-    ensures fault { IfErr result
-        (ExplainsRun R.remaining reader.old reader.new writer.old writer.new limit) }
-{
-    let output = read_to_end::<S, R>(state, reader, limit)?;
-    let bytes = S::Hash::output_bytes(&output);
-    let mut buffer = [0; LONGEST_LINE];
-    let line = &mut buffer[..2 * bytes.len() + 1];
-    fill_line(bytes, line);
-    writer.write_all(line).map_err(RunFault::Write)
+    let tag = read_to_end::<Hmac<BlockHasher<F>>, R>(Hmac::new(key), reader, limit)?;
+    write_line(tag.as_bytes(), writer).map_err(RunFault::Write)
 }
 
 /// The digest of all that the reader gives.
@@ -182,11 +161,17 @@ fn read_to_end<S: Incremental, R: Read>(
     }
 }
 
-fn fill_line(digest: &[u8], line: &mut [u8])
-    requires { length line.old ≡ 2 * length digest.now + 1 }
-    ensures { line.new ≡ encode_lower digest.now ++ codes "\n" }
+// Writes bytes in hexadecimal, as a line.
+fn write_line<W: Write>(bytes: &[u8], writer: &mut Tracked<W>) -> io::Result<()>
+    requires fits { 2 * length bytes.now + 1 ≤ 81 }
+    requires works { has_failed writer.old ≡ false }
+    ensures ok { OnOk result (Gets W.contents writer.old writer.new (encode_lower bytes.now ++ codes "\n")) }
+    ensures err { IfErr result (λ _. has_failed writer.new ≡ true) }
 {
+    let mut buffer = [0; LONGEST_LINE];
+    let line = &mut buffer[..2 * bytes.len() + 1];
     let end = line.len() - 1;
-    hex::encode_to_slice(digest, &mut line[..end]).unwrap();
+    hex::encode_to_slice(bytes, &mut line[..end]).unwrap();
     line[end] = b'\n';
+    writer.write_all(line)
 }

@@ -4,4 +4,4 @@ use Rattle.ripemd_files.specs.Contents.{message_in}
 use Rattle.ripemd_files.proofs.digests.messages_of.Given as goal
 
 abbrev pub invariant-loop-content : goal.invariant-loop-content
-invariant-loop-content g l = targets l.messages.items ≡ map message_in (take l.content-index l.contents)
+invariant-loop-content l = targets l.messages.items ≡ map message_in (take l.content-index l.contents)

@@ -1,9 +1,7 @@
-use Rattle.std.proofs.Common.{take}
 use Rattle.std.specs.List.{AllZip}
 use Rattle.ripemd_block.specs.Standard.Hashing.{hash}
 use Rattle.ripemd_files.specs.Contents.{Follows}
 use Rattle.ripemd_files.proofs.digests.outcomes_of.Given as goal
 
-abbrev pub invariant-loop-k : goal.invariant-loop-k
-invariant-loop-k g l =
-    AllZip (Follows g.D.OutputSizeUser.bytes_of (hash g.D.Digest.start g.D.Digest.step g.D.Digest.output)) (take l.k l.contents) l.outcomes.items
+abbrev pub invariant-loop-content : goal.invariant-loop-content
+invariant-loop-content g l = AllZip (Follows (hash g.D.Digest.start g.D.Digest.step g.D.Digest.output)) l.yielded l.outcomes.items

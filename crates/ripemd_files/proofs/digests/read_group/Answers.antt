@@ -18,4 +18,4 @@ comes_to place hash name _ _ is follows = absurd follows
 pub returns : goal.returns
 returns g c =
     first_through _ _ _ _ _ _ (comes_to (g.F.Folder.place c.args.folder.now) _) c.in_ok-contents.ensures
-    (all_first _ _ _ c.outcomes_of.ensures)
+    (all_first _ _ _ c.in_ok-outcomes.ensures)
