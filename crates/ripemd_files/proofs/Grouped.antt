@@ -1,7 +1,8 @@
 -- Lines of a list, read one after another, and what comes of them.
-use Rattle.std.proofs.Common.{◌≡◌, ℕ, suc, zero, ◌+◌, List, [], ◌∷◌, ◌++◌, length, map, take, Option, Some, None, Bool, inl, inr, refl, sym, ap, ◌∙◌, append_assoc, arith}
+use Rattle.std.proofs.Common.{◌≡◌, ◌⊎◌, ◌≤◌, ◌<◌, ◌^◌, ℕ, suc, zero, ◌+◌, List, [], ◌∷◌, ◌++◌, length, map, take, Option, Some, None, Bool, inl, inr, refl, sym, ap, ◌∙◌, append_assoc, arith}
 use Rattle.std.specs.List.{AllZip}
 use Rattle.std.specs.Io.KnownBytes.{Consumes}
+use Rattle.std.specs.declared.io.Error.{Error}
 use Rattle.std.proofs.KnownBytes.{Consumes-nil, Consumes-trans}
 use Rattle.std.proofs.lemmas.Bool.{cases_Bool}
 use Rattle.std.proofs.lemmas.List.{append-nil, length-append, length-map, length-take, take-append-le, take-map, take_min}
@@ -10,16 +11,19 @@ use Rattle.ripemd_files.specs.declared.line.Layout.{Layout}
 use Rattle.ripemd_files.specs.declared.line.Line.{Line}
 use Rattle.ripemd_files.specs.declared.list.Rules.{Rules}
 use Rattle.ripemd_files.specs.declared.list.Cursor.{Cursor}
+use Rattle.ripemd_files.specs.declared.list.Group.{Group}
+use Rattle.ripemd_files.specs.declared.piece.Piece.{Piece}
 use Rattle.ripemd_files.specs.declared.piece.Piece.TheVariants as pieces
+use Rattle.ripemd_files.specs.declared.piece.Stage.TheVariants.{Among}
 use Rattle.ripemd_files.specs.Files.{Place}
-use Rattle.ripemd_files.specs.Splitting.{IsPiece, IsWhole, ReadsOn, lines_of}
+use Rattle.ripemd_files.specs.Splitting.{IsPiece, IsWhole, ListState, ReadsOn, lines_of, stage_after}
 use Rattle.ripemd_files.specs.Checking.{Event, IsEventOf, misformatted}
 use Rattle.ripemd_files.specs.Lists.{Entry, IsEventOn, Reports, entries_of, entry_of, is_passed_over, layout_after, layout_behind}
 use Rattle.ripemd_files.specs.declared.fault.Fault.{Fault}
 use Rattle.ripemd_files.specs.declared.fault.Fault.TheVariants.{NoMemory}
-use Rattle.ripemd_files.specs.Groups.{ExplainsReading, ReadsLines, Meaning, Means, StopsReading, Takes, misformatted_events, meanings}
+use Rattle.ripemd_files.specs.Groups.{ExplainsReading, ReadsGroup, ReadsLines, Meaning, Means, StopsReading, Takes, misformatted_events, meanings}
 use Rattle.ripemd_files.specs.Groups.Meaning.{names, nothing}
-use Rattle.ripemd_files.proofs.Cutting.{cut, lines_first, lines_last, whole_more}
+use Rattle.ripemd_files.proofs.Cutting.{cut, ended_since, lines_first, lines_last, whole_more}
 use Rattle.ripemd_files.proofs.Zips.{all_zip_append, all_zip_take, all_zip_through}
 
 -- ---- entries
@@ -175,11 +179,92 @@ module _ (kinds : Rules) (old now next : Option (List ℕ)) (before cursor : Cur
   stops_reading (more, read) = record { bytes = so_far.bytes ++ more; consumed = Consumes-trans old now next so_far.bytes more taken read; why = tt }
 
   -- no line more: the list has ended, or a read of it failed in the middle of one
-  unfoldable pub reads_no_more : (rest : List ℕ) → Consumes now next rest → ReadsLines kinds old next before cursor lines None rest
-  reads_no_more rest read = record {
+  unfoldable pub reads_no_more : (others : List Line) (bad : Option ℕ) → others ≡ lines → bad ≡ None → (rest : List ℕ) → Consumes now next rest
+      → ReadsLines kinds old next before cursor others bad rest
+  reads_no_more others bad same none rest read = record {
     bytes = so_far.bytes;
     consumed = Consumes-trans old now next so_far.bytes rest taken read;
     numbered = so_far.numbered;
     layout = so_far.layout;
-    means = so_far.means;
+    means = rw (same, none) so_far.means;
   }
+
+-- ---- groups
+
+-- after lines so far, the next piece
+module _ (kinds : Rules) (old now : Option (List ℕ)) (state : ListState) (before cursor : Cursor) (lines : List Line)
+    (so_far : ReadsLines kinds old now before cursor lines None []) (whole : IsWhole so_far.bytes) (text : List ℕ) where
+  -- a line that can't be taken
+  pub stops_piece : (piece : Piece) → (piece ≡ pieces.Whole) ⊎ (piece ≡ pieces.Last) → IsPiece 10 now state.left text piece
+      → (fault : Fault) → ExplainsReading (cursor.number + 1) [] fault → StopsReading old state.left before.number fault
+  stops_piece pieces.Whole is piece fault why = stops_at_line _ _ _ _ _ _ _ so_far whole text fault why piece
+  stops_piece pieces.Last is piece fault why = stops_at_last _ _ _ _ _ _ _ so_far whole text fault why piece
+  stops_piece pieces.Nothing is piece fault why = grind arith
+  stops_piece (pieces.Failed error) is piece fault why = grind arith
+
+  -- no line, at the end of the list or after a failed read
+  pub ends_list : (piece : Piece) → (piece ≡ pieces.Nothing) ⊎ ((error : Error) × (piece ≡ pieces.Failed error)) → ¬ (stage_after piece ≡ Among)
+  ends_list pieces.Whole is among = grind arith
+  ends_list pieces.Last is among = grind arith
+  ends_list pieces.Nothing is among = grind arith
+  ends_list (pieces.Failed error) is among = grind arith
+
+  -- a line after which the group goes on
+  pub goes_on : (piece : Piece) → (piece ≡ pieces.Whole) ⊎ (piece ≡ pieces.Last) → stage_after piece ≡ Among
+      → IsPiece 10 now state.left text piece → (after : Cursor) (others : List Line) → Takes kinds cursor after text lines others None
+      → after.number ≡ cursor.number + 1 → (reads : ReadsLines kinds old state.left before after others None []) × IsWhole reads.bytes
+  goes_on pieces.Whole is among piece after others takes step = reads_line _ _ _ _ _ _ _ so_far whole after text others None takes step piece
+  goes_on pieces.Last is among piece after others takes step = grind arith
+  goes_on pieces.Nothing is among piece after others takes step = grind arith
+  goes_on (pieces.Failed error) is among piece after others takes step = grind arith
+
+  module _ (group : Group) where
+    -- a line that ends the group
+    pub line_ends : before.number ≤ cursor.number → (piece : Piece) → (piece ≡ pieces.Whole) ⊎ (piece ≡ pieces.Last)
+        → IsPiece 10 now state.left text piece → state.stage ≡ stage_after piece → group.stage ≡ stage_after piece → (after : Cursor)
+        → Takes kinds cursor after text lines group.lines.items group.misformatted → after.number ≡ cursor.number + 1 → after.number < 2 ^ 64
+        → ReadsGroup kinds old state before after group
+    line_ends behind pieces.Whole is piece stage ends after takes step bound =
+        let (reads, all) = reads_line _ _ _ _ _ _ _ so_far whole after text _ _ takes step piece in
+        record {
+          rest = [];
+          reads = reads;
+          ended = rw ends (all, refl);
+          stage = stage ∙ sym ends;
+          advanced = λ _. omega (arith, step, behind);
+          bounded = λ _. bound;
+        }
+    line_ends behind pieces.Last is piece stage ends after takes step bound = record {
+      rest = [];
+      reads = reads_last _ _ _ _ _ _ _ so_far whole after text _ _ takes step piece;
+      ended = rw ends (refl, ended_since _ _ _ _ (taken _ _ _ state.left _ _ _ so_far whole) piece.1);
+      stage = stage ∙ sym ends;
+      advanced = λ _. omega (arith, step, behind);
+      bounded = λ _. bound;
+    }
+    line_ends behind pieces.Nothing is piece stage ends after takes step bound = grind arith
+    line_ends behind (pieces.Failed error) is piece stage ends after takes step bound = grind arith
+
+    -- no line
+    pub none_ends : (piece : Piece) → (piece ≡ pieces.Nothing) ⊎ ((error : Error) × (piece ≡ pieces.Failed error))
+        → IsPiece 10 now state.left text piece → state.stage ≡ stage_after piece → group.stage ≡ stage_after piece
+        → group.lines.items ≡ lines → group.misformatted ≡ None → ReadsGroup kinds old state before cursor group
+    unfolding reads_no_more
+    none_ends pieces.Nothing is piece stage ends same none = record {
+      rest = [];
+      reads = reads_no_more _ _ _ _ _ _ _ so_far whole _ _ same none [] piece.0;
+      ended = rw ends (refl, ended_since _ _ _ _ (taken _ _ _ state.left _ _ _ so_far whole) piece.1);
+      stage = stage ∙ sym ends;
+      advanced = λ among. grind arith;
+      bounded = λ among. grind arith;
+    }
+    none_ends (pieces.Failed error) is piece stage ends same none = record {
+      rest = text;
+      reads = reads_no_more _ _ _ _ _ _ _ so_far whole _ _ same none text piece.0;
+      ended = rw ends (whole, piece.1);
+      stage = stage ∙ sym ends;
+      advanced = λ among. grind arith;
+      bounded = λ among. grind arith;
+    }
+    none_ends pieces.Whole is piece stage ends same none = grind arith
+    none_ends pieces.Last is piece stage ends same none = grind arith

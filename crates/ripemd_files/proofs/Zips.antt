@@ -32,9 +32,12 @@ all_zip_through R S T _ _ _ joined first second = grind arith
 
 -- the items at a place of two lists of which the same is made
 module _ {A B C D : Type 0} (f : A → D) (g : B → C) (h : C → D) (xs : List A) (ys : List B) (same : map f xs ≡ map h (map g ys)) where
+  pub same_length : length xs ≡ length ys
+  same_length = omega (arith, ap length same, length-map xs f, length-map (map g ys) h, length-map ys g)
+
   pub same_at : (i : ℕ) (x : A) (y : B) → i < length ys → x ≡ get_or xs i x → y ≡ get_or ys i y → f x ≡ h (g y)
   same_at i x y within is_x is_y =
-      rw (get_or-map f xs i x (f x) (omega (arith, within, ap length same, length-map xs f, length-map (map g ys) h, length-map ys g)), ← is_x) at
+      rw (get_or-map f xs i x (f x) (omega (arith, within, same_length)), ← is_x) at
       rw (get_or-map h (map g ys) i (g y) (f x) (rw length-map within), get_or-map g ys i y (g y) within, ← is_y) at
       (ap (λ l. get_or l i (f x)) same)
 

@@ -167,13 +167,15 @@ pub(crate) fn read_lines<R: ReadList>(
             }
             Piece::Nothing | Piece::Failed(_) => None,
         };
-        let stage = piece.stage();
-        if misformatted.is_some() || stage != Stage::Among {
-            return Ok(Group {
-                lines,
-                misformatted,
-                stage,
-            });
+        match (misformatted, piece.stage()) {
+            (None, Stage::Among) => {}
+            (misformatted, stage) => {
+                return Ok(Group {
+                    lines,
+                    misformatted,
+                    stage,
+                });
+            }
         }
     }
     Ok(Group {
