@@ -197,26 +197,21 @@ module _ (kinds : Rules) (old now : Option (List ℕ)) (state : ListState) (befo
   -- a line that can't be taken
   pub stops_piece : (piece : Piece) → (piece ≡ pieces.Whole) ⊎ (piece ≡ pieces.Last) → IsPiece 10 now state.left text piece
       → (fault : Fault) → ExplainsReading (cursor.number + 1) [] fault → StopsReading old state.left before.number fault
-  stops_piece pieces.Whole is piece fault why = stops_at_line _ _ _ _ _ _ _ so_far whole text fault why piece
-  stops_piece pieces.Last is piece fault why = stops_at_last _ _ _ _ _ _ _ so_far whole text fault why piece
-  stops_piece pieces.Nothing is piece fault why = grind arith
-  stops_piece (pieces.Failed error) is piece fault why = grind arith
+  stops_piece piece (inl is) given fault why = stops_at_line _ _ _ _ _ _ _ so_far whole text fault why (rw is at given)
+  stops_piece piece (inr is) given fault why = stops_at_last _ _ _ _ _ _ _ so_far whole text fault why (rw is at given)
 
   -- no line, at the end of the list or after a failed read
   pub ends_list : (piece : Piece) → (piece ≡ pieces.Nothing) ⊎ ((error : Error) × (piece ≡ pieces.Failed error)) → ¬ (stage_after piece ≡ Among)
-  ends_list pieces.Whole is among = grind arith
-  ends_list pieces.Last is among = grind arith
-  ends_list pieces.Nothing is among = grind arith
-  ends_list (pieces.Failed error) is among = grind arith
+  ends_list piece (inl is) among = grind arith
+  ends_list piece (inr (error, is)) among = grind arith
 
   -- a line after which the group goes on
   pub goes_on : (piece : Piece) → (piece ≡ pieces.Whole) ⊎ (piece ≡ pieces.Last) → stage_after piece ≡ Among
       → IsPiece 10 now state.left text piece → (after : Cursor) (others : List Line) → Takes kinds cursor after text lines others None
       → after.number ≡ cursor.number + 1 → (reads : ReadsLines kinds old state.left before after others None []) × IsWhole reads.bytes
-  goes_on pieces.Whole is among piece after others takes step = reads_line _ _ _ _ _ _ _ so_far whole after text others None takes step piece
-  goes_on pieces.Last is among piece after others takes step = grind arith
-  goes_on pieces.Nothing is among piece after others takes step = grind arith
-  goes_on (pieces.Failed error) is among piece after others takes step = grind arith
+  goes_on piece (inl is) among given after others takes step =
+      reads_line _ _ _ _ _ _ _ so_far whole after text others None takes step (rw is at given)
+  goes_on piece (inr is) among given after others takes step = absurd (grind arith)
 
   module _ (group : Group) where
     -- a line that ends the group
@@ -224,47 +219,49 @@ module _ (kinds : Rules) (old now : Option (List ℕ)) (state : ListState) (befo
         → IsPiece 10 now state.left text piece → state.stage ≡ stage_after piece → group.stage ≡ stage_after piece → (after : Cursor)
         → Takes kinds cursor after text lines group.lines.items group.misformatted → after.number ≡ cursor.number + 1 → after.number < 2 ^ 64
         → ReadsGroup kinds old state before after group
-    line_ends behind pieces.Whole is piece stage ends after takes step bound =
-        let (reads, all) = reads_line _ _ _ _ _ _ _ so_far whole after text _ _ takes step piece in
+    line_ends behind piece (inl is) given stage ends after takes step bound =
+        let (reads, all) = reads_line _ _ _ _ _ _ _ so_far whole after text _ _ takes step (rw is at given) in
         record {
           rest = [];
           reads = reads;
-          ended = rw ends (all, refl);
+          ended = rw (ends, is) (all, refl);
           stage = stage ∙ sym ends;
           advanced = λ _. omega (arith, step, behind);
           bounded = λ _. bound;
         }
-    line_ends behind pieces.Last is piece stage ends after takes step bound = record {
-      rest = [];
-      reads = reads_last _ _ _ _ _ _ _ so_far whole after text _ _ takes step piece;
-      ended = rw ends (refl, ended_since _ _ _ _ (taken _ _ _ state.left _ _ _ so_far whole) piece.1);
-      stage = stage ∙ sym ends;
-      advanced = λ _. omega (arith, step, behind);
-      bounded = λ _. bound;
-    }
-    line_ends behind pieces.Nothing is piece stage ends after takes step bound = grind arith
-    line_ends behind (pieces.Failed error) is piece stage ends after takes step bound = grind arith
+    line_ends behind piece (inr is) given stage ends after takes step bound =
+        let last = rw is at given in
+        record {
+          rest = [];
+          reads = reads_last _ _ _ _ _ _ _ so_far whole after text _ _ takes step last;
+          ended = rw (ends, is) (refl, ended_since _ _ _ _ (taken _ _ _ state.left _ _ _ so_far whole) last.1);
+          stage = stage ∙ sym ends;
+          advanced = λ _. omega (arith, step, behind);
+          bounded = λ _. bound;
+        }
 
     -- no line
     pub none_ends : (piece : Piece) → (piece ≡ pieces.Nothing) ⊎ ((error : Error) × (piece ≡ pieces.Failed error))
         → IsPiece 10 now state.left text piece → state.stage ≡ stage_after piece → group.stage ≡ stage_after piece
         → group.lines.items ≡ lines → group.misformatted ≡ None → ReadsGroup kinds old state before cursor group
     unfolding reads_no_more
-    none_ends pieces.Nothing is piece stage ends same none = record {
-      rest = [];
-      reads = reads_no_more _ _ _ _ _ _ _ so_far whole _ _ same none [] piece.0;
-      ended = rw ends (refl, ended_since _ _ _ _ (taken _ _ _ state.left _ _ _ so_far whole) piece.1);
-      stage = stage ∙ sym ends;
-      advanced = λ among. grind arith;
-      bounded = λ among. grind arith;
-    }
-    none_ends (pieces.Failed error) is piece stage ends same none = record {
-      rest = text;
-      reads = reads_no_more _ _ _ _ _ _ _ so_far whole _ _ same none text piece.0;
-      ended = rw ends (whole, piece.1);
-      stage = stage ∙ sym ends;
-      advanced = λ among. grind arith;
-      bounded = λ among. grind arith;
-    }
-    none_ends pieces.Whole is piece stage ends same none = grind arith
-    none_ends pieces.Last is piece stage ends same none = grind arith
+    none_ends piece (inl is) given stage ends same none =
+        let nothing = rw is at given in
+        record {
+          rest = [];
+          reads = reads_no_more _ _ _ _ _ _ _ so_far whole _ _ same none [] nothing.0;
+          ended = rw (ends, is) (refl, ended_since _ _ _ _ (taken _ _ _ state.left _ _ _ so_far whole) nothing.1);
+          stage = stage ∙ sym ends;
+          advanced = λ among. grind arith;
+          bounded = λ among. grind arith;
+        }
+    none_ends piece (inr (error, is)) given stage ends same none =
+        let front = rw is at given in
+        record {
+          rest = text;
+          reads = reads_no_more _ _ _ _ _ _ _ so_far whole _ _ same none text front.0;
+          ended = rw (ends, is) (whole, front.1);
+          stage = stage ∙ sym ends;
+          advanced = λ among. grind arith;
+          bounded = λ among. grind arith;
+        }
