@@ -188,6 +188,17 @@ def memcheck(*command, **options):
     return run("valgrind", "-q", f"--error-exitcode={NOTICED}", *command, **options)
 
 
+@pytest.fixture(params=[("cc", "gcc", "libgcc-12-dev"), ("clang", "clang", "libclang-rt-14-dev")], ids=["cc", "clang"])
+def sanitizers(request, tmp_path):
+    """A compiler, with flags by which programs check each access and stop at what C does not define."""
+    compiler, *packages = request.param
+    need(compiler, packages[0])
+    command = [compiler, "-O1", "-g", "-fsanitize=address,undefined", "-fno-sanitize-recover=undefined"]
+    if run(*command, "-x", "c", "-", "-o", tmp_path / "program", input="int main(void) { return 0; }", status=None).returncode:
+        pytest.skip(f"{compiler} has no sanitizers (Debian's {packages[1]})")
+    return command
+
+
 @pytest.fixture(scope="session")
 def marks(once):
     """The folder of marks.o and marks.so, by which a program tells memcheck what is secret."""

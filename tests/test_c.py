@@ -215,11 +215,11 @@ def test_page(build, tmp_path, text, printed):
     assert "".join(run(*program, *words, input=piece).stdout for piece, *words in runs) == printed
 
 
-def assert_tried(least, *command, by=run):
-    """Runs tests/calls.c as it was compiled: all cases have to go as expected, and they have to be so many."""
-    printed = by(*command).stdout
-    good, tried = map(int, re.search(r"^calls: (\d+) of (\d+) cases as expected$", printed, re.MULTILINE).groups())
-    assert good == tried >= least, f"tests/calls.c has to try at least {least} cases, and tried {tried}"
+def assert_tried(least, *command, by=run, **options):
+    """Runs tests/calls.c or tests/evp.c as it was compiled: all cases have to go as expected, and they have to be so many."""
+    printed = by(*command, **options).stdout
+    good, tried = map(int, re.search(r"^\w+: (\d+) of (\d+) cases as expected$", printed, re.MULTILINE).groups())
+    assert good == tried >= least, f"there have to be at least {least} cases, and {tried} were tried"
     assert by is memcheck or "no addresses" not in printed, "tests/calls.c has to try a key that is too long"
 
 
@@ -227,13 +227,9 @@ def test_calls(build):
     assert_tried(2145000, *build(CALLS), DATA)
 
 
-@pytest.mark.parametrize("compiler, package", [("cc", "libgcc-12-dev"), ("clang", "libclang-rt-14-dev")],
-                         ids=["cc", "clang"])
-def test_calls_with_sanitizers(library, tmp_path, compiler, package):
-    flags = [*CHECKED, "-fsanitize=address,undefined", "-fno-sanitize-recover=undefined", "-o", tmp_path / "program"]
-    if compile_by(compiler, "c99", *flags, "-", input="int main(void) { return 0; }", status=None).returncode:
-        pytest.skip(f"{compiler} has no sanitizers (Debian's {package})")
-    compile_by(compiler, "c99", *flags, CALLS, CRATE / "nattizhu.c", "-x", "none", library / "libnattizhu.a")
+def test_calls_with_sanitizers(library, tmp_path, sanitizers):
+    run(*sanitizers, "-std=c99", *CHECKED, "-I", CRATE, CALLS, CRATE / "nattizhu.c", library / "libnattizhu.a",
+        "-o", tmp_path / "program")
     assert_tried(2084000, tmp_path / "program", DATA)
 
 
