@@ -23,15 +23,15 @@ SMALL_FILES = 10000
 DEFAULT = "x86-64"
 ROUNDS = 400000
 
-# What hashes its standard input: ours as built for a level, for each variant, and others by RIPEMD-160 alone.
-OURS = {"the library": "ripemd_bench", "ripemd_sum": "ripemd_sum"}
-FILES_PROGRAM = "rmdsum"
+VARIANTS = ["128", "160", "256", "320"]
+
+# What else hashes its standard input, by RIPEMD-160.
 OTHERS = [["openssl", "dgst", "-rmd160"], ["rhash", "--ripemd160", "-"], ["gpg", "--print-md", "RIPEMD160"]]
 
 
 def table(*rows):
     """Prints a table: its head, and the rows below."""
-    head, *rows = [f"| {' | '.join(cells)} |".replace("|  |", "| |") for cells in rows]
+    head, *rows = [re.sub(r"\|  (?=\|)", "| ", f"| {' | '.join(cells)} |") for cells in rows]
     print("\n".join([head, "|---" * (head.count("|") - 1) + "|", *rows]), flush=True)
 
 
@@ -46,12 +46,10 @@ def machine():
     print(*(re.search(rf"^{what}\s*: .*$", text, re.MULTILINE)[0] for what in ("model name", "flags")), sep="\n")
 
 
-def build(levels):
-    """The program and ripemd_bench as built for each level, by name and level."""
-    names = [*OURS.values(), FILES_PROGRAM]
-    for name in names:
-        subprocess.run([ROOT / "build/tell", ROOT / "build/crate", name, *levels], stdout=subprocess.DEVNULL, check=True)
-    return {(name, level): ROOT / "crates" / name / "out" / level / name for name in names for level in levels}
+def build(name, levels):
+    """A program of ours as built for each level, by what the tables call it."""
+    subprocess.run([ROOT / "build/tell", ROOT / "build/crate", name, *levels], stdout=subprocess.DEVNULL, check=True)
+    return {f"{name}, built for {level}": ROOT / "crates" / name / "out" / level / name for level in levels}
 
 
 def processor_time(command, message=None):
@@ -66,29 +64,24 @@ def processor_time(command, message=None):
     return used.ru_utime + used.ru_stime
 
 
-def by_program(levels, programs):
-    """The program beside the library in one process and other programs: the least of runs in turn."""
-    rows = []
-    for variant in ("128", "160", "256", "320"):
-        rows += [(variant, f"{what}, built for {level}", [programs[name, level], variant])
-                 for level in reversed(levels) for what, name in OURS.items()]
-        rows += [(variant, words[0], words) for words in OTHERS if variant == "160" and shutil.which(words[0])]
+def by_program(ours):
+    """ripemd_sum beside other programs: the best of runs in turn."""
+    commands = {(name, variant): [program, variant] for name, program in ours.items() for variant in VARIANTS}
+    commands |= {(words[0], "160"): words for words in OTHERS if shutil.which(words[0])}
     with tempfile.NamedTemporaryFile(dir="/dev/shm") as message:
         for _ in range(MIB):
             message.write(b"a" * 2**20)
         message.flush()
-        runs = [[processor_time(words, message) for _, _, words in rows] for _ in range(RUNS)]
-    least = [min(times) for times in zip(*runs)]
-    first = {variant: time for (variant, _, _), time in reversed(list(zip(rows, least)))}
-    title(f"{MIB} MiB in memory")
-    table(["variant", "what", "processor time", "MB/s", "time, of the first row's"],
-          *([variant, what, f"{time:.2f} s", f"{MIB * 2**20 / time / 1e6:.0f}", f"{time / first[variant]:.2f}"]
-            for (variant, what, _), time in zip(rows, least)))
+        runs = [[processor_time(words, message) for words in commands.values()] for _ in range(RUNS)]
+    speeds = {cell: f"{MIB * 2**20 / min(times) / 1e6:.0f}" for cell, times in zip(commands, zip(*runs))}
+    title(f"{MIB} MiB of standard input in memory, MB for each second of processor time")
+    table(["", *VARIANTS], *([name, *(speeds.get((name, variant), "") for variant in VARIANTS)]
+                             for name in dict.fromkeys(name for name, _ in commands)))
 
 
-def by_files(levels, programs):
+def by_files(ours):
     """rmdsum beside other programs, on files in memory: the least of runs in turn."""
-    rows = [(f"rmdsum, built for {level}", [programs[FILES_PROGRAM, level]]) for level in levels]
+    rows = [(name, [program]) for name, program in ours.items()]
     rows += [(words[0], words) for words in (["rhash", "--ripemd160"], ["openssl", "dgst", "-rmd160"], ["sha256sum"])
              if shutil.which(words[0])]
     columns = []
@@ -107,41 +100,6 @@ def by_files(levels, programs):
     title("Files, RIPEMD-160, processor time in seconds")
     table(["", f"{SMALL_FILES:,} files of 4 KiB", "one file of 1 GiB"],
           *([name, f"{few:.3f}", f"{one:.2f}"] for (name, _), few, one in zip(rows, *columns)))
-
-
-def rows_of(program, what):
-    """The rows of the tables that ripemd_bench prints, their heads among them."""
-    said = subprocess.run([program, what], capture_output=True, text=True, check=True).stdout
-    return [[cell.strip() for cell in line.split("|")[1:-1]] for line in said.splitlines() if line.startswith("| ")]
-
-
-def by_rattle(levels, programs):
-    """The libraries in Rattle."""
-    said = {(what, level): rows_of(programs["ripemd_bench", level], what)
-            for what in ("blocks", "lists", "pieces", "tags") for level in levels}
-
-    title("One block, ns")
-    columns = {level: list(zip(*said["blocks", level])) for level in levels}
-    table(columns[DEFAULT][0], *([f"{name}, built for {level}", *times] for level in levels
-                                 for name, *times in columns[level][1:]))
-
-    title("Lists at once, of the time one by one")
-    parts = {}
-    for level in levels:
-        for name, *figures in said["lists", level]:
-            parts.setdefault(name, []).append(f"{min(figures)} to {max(figures)}")
-    heads = ["digests", "tags"]
-    table(["messages", *(f"{head}, {level}" for level in levels for head in heads)],
-          *([name, *cells] for name, cells in parts.items() if name not in heads))
-
-    title("Updates of `Ripemd160`, ns")
-    columns = {level: list(zip(*said["pieces", level])) for level in levels}
-    table(columns[DEFAULT][0], *([f"ours, built for {level}", *columns[level][1][1:]] for level in levels))
-
-    title("`Hmac::verify`, RIPEMD-160, ns")
-    table(["tag", "accepted", *(f"built for {level}" for level in levels)],
-          *([*row[:2], *(said["tags", level][i][2] for level in levels)]
-            for i, row in enumerate(said["tags", DEFAULT]) if i))
 
 
 def by_c(levels, folder):
@@ -235,21 +193,19 @@ def main():
     levels = ["x86-64-v3", DEFAULT] if "x86-64-v3 (supported" in loader else [DEFAULT]
     with tempfile.TemporaryDirectory() as name:
         folder = pathlib.Path(name)
-        programs = build(levels)
+        sums, files = build("ripemd_sum", levels), build("rmdsum", levels)
         if shutil.which("cc"):
             for command in ([ROOT / "build/crate", "ripemd_c", DEFAULT, "x86-64-v3"], [ROOT / "build/shared", folder, DEFAULT]):
                 subprocess.run(command, stdout=sys.stderr, check=True)
         machine()
         if shutil.which("cc"):
             by_c(levels, folder)
-        by_rattle(levels, programs)
-        if shutil.which("cc"):
             by_openssl(levels, folder)
             by_python(folder)
             by_rust(folder)
         by_javascript(folder)
-        by_program(levels, programs)
-        by_files(levels, programs)
+        by_program(sums)
+        by_files(files)
 
 
 if __name__ == "__main__":

@@ -8,46 +8,21 @@
 
 mod lists;
 mod texts;
-mod toy;
 
 use std::alloc::Global;
 use std::io;
 use std::io::Read;
 
-// What became of a call: answered; refused, then answered; or neither.
-#[derive(Clone, Copy)]
-enum Outcome {
-    Answered,
-    Refused,
-    Wrong,
-}
-
-impl Outcome {
-    // Of a call that was not refused.
-    fn of_answer(is_right: bool) -> Outcome {
-        if is_right {
-            Outcome::Answered
-        } else {
-            Outcome::Wrong
-        }
-    }
-
-    // Of a refused call, by its second answer: `None` if refused, too.
-    fn of_second(is_right: Option<bool>) -> Outcome {
-        if is_right == Some(true) {
-            Outcome::Refused
-        } else {
-            Outcome::Wrong
-        }
-    }
-
-    fn text(self) -> &'static str {
-        match self {
-            Outcome::Answered => "answered",
-            Outcome::Refused => "refused",
-            Outcome::Wrong => "WRONG",
-        }
-    }
+// Prints what became of a call, which tells whether its answer is right, or `None` if it was refused memory.
+fn print_outcome<F: Fn() -> Option<bool>>(rt: &HostRuntime, call: F) -> io::Result<()>
+    requires { F.IsAlwaysCallable call }
+{
+    let outcome = match call() {
+        Some(true) => "answered",
+        None if call() == Some(true) => "refused",
+        _ => "WRONG",
+    };
+    println!(rt; ": {outcome}")
 }
 
 // Allocates, if it can, and frees.

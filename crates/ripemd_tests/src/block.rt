@@ -2,5 +2,4 @@
 
 mod cores;
 mod counts;
-mod tables;
 mod tails;

@@ -3,6 +3,7 @@
 use ripemd::block_api::{
     AlgorithmName, Ripemd128Core, Ripemd160Core, Ripemd256Core, Ripemd320Core,
 };
+use ripemd::replay::ReplayError;
 use ripemd::state::DeserializeStateError;
 use ripemd::{Digest, Ripemd128, Ripemd160, Ripemd256, Ripemd320};
 use std::alloc::{AllocError, Global};
@@ -78,8 +79,10 @@ fn identifiers(rt: HostRuntime) {
 }
 
 #[test]
-fn error_text(rt: HostRuntime) -> Result<(), Fail> {
+fn error_texts(rt: HostRuntime) -> Result<(), Fail> {
     let text = format!(in rt.alloc(); "{DeserializeStateError}")?;
     assert!(rt; text.as_str() == "Deserialization error");
+    let text = format!(in rt.alloc(); "{}", ReplayError::OutOfMemory)?;
+    assert!(rt; text.as_str() == "out of memory");
     Ok(())
 }

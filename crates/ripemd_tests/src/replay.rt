@@ -2,7 +2,7 @@
 
 mod errors;
 
-use crate::digits::{OF_160, is_written};
+use crate::digits::{OF_160, are_written};
 use ripemd::digest::SerializableState;
 use ripemd::replay::{Command, replay};
 use ripemd::{Digest, Ripemd160};
@@ -11,15 +11,10 @@ use std::test::Fail;
 
 // Whether the commands give these digests.
 fn gives(alloc: Global, commands: &[Command], wanted: &[&str]) -> bool {
-    let Ok(digests) = replay::<Ripemd160>(alloc, commands) else {
-        return false;
-    };
-    for (digest, digits) in digests.iter().zip(wanted) {
-        if !is_written(digest, digits) {
-            return false;
-        }
+    match replay::<Ripemd160>(alloc, commands) {
+        Ok(digests) => are_written::<Ripemd160>(digests.as_slice(), wanted),
+        Err(_) => false,
     }
-    digests.len() == wanted.len()
 }
 
 // Hundreds of hashers, and hundreds of saved states of the last, which took in "abc".

@@ -1,32 +1,13 @@
 //! Hashers saved as bytes: which bytes, and which are taken.
 
 use crate::assert_each;
-use crate::digits::{
-    Ripemd128Function, Ripemd160Function, Ripemd256Function, Ripemd320Function, is_written,
-};
+use crate::bytes::{rest_of, tail_of};
+use crate::digits::is_written;
 use crate::hashers::finishes;
 use ripemd::block_api::{BlockCore, ByteArray, Ripemd160Core};
 use ripemd::digest::SerializableState;
 use ripemd::state::DeserializeStateError;
 use ripemd::{BlockHasher, Digest, ResumableFunction};
-
-// The bytes, filled with zeros.
-fn tail_of(bytes: &[u8]) -> [u8; 63] {
-    let mut tail = [0; 63];
-    if bytes.len() <= 63 {
-        tail[..bytes.len()].copy_from_slice(bytes);
-    }
-    tail
-}
-
-// A saved hasher after its words: count, length of the tail, tail.
-fn rest_of(count: u64, len: u8, tail: &[u8; 63]) -> [u8; 72] {
-    let mut rest = [0; 72];
-    rest[..8].copy_from_slice(&count.to_le_bytes());
-    rest[8] = len;
-    rest[9..].copy_from_slice(tail);
-    rest
-}
 
 // The saved hasher with the start words, this count, length and tail.
 fn saved_with<F: ResumableFunction>(
@@ -59,17 +40,9 @@ fn new_is_saved<F: ResumableFunction>(start: &str) -> bool {
     is_written(words, start) && same == words && *count == [0; 8] && *rest == [0; 72]
 }
 
-// The bytes of the paper's start words.
 #[test]
 fn new_hashers(rt: HostRuntime) {
-    let start = "0123456789abcdeffedcba9876543210";
-    assert!(rt; new_is_saved::<Ripemd128Function>(start));
-    let start = "0123456789abcdeffedcba9876543210f0e1d2c3";
-    assert!(rt; new_is_saved::<Ripemd160Function>(start));
-    let start = "0123456789abcdeffedcba98765432101032547698badcfeefcdab8967452301";
-    assert!(rt; new_is_saved::<Ripemd256Function>(start));
-    let start = "0123456789abcdeffedcba9876543210f0e1d2c31032547698badcfeefcdab89674523010f1e2d3c";
-    assert!(rt; new_is_saved::<Ripemd320Function>(start));
+    assert_each!(rt; new_is_saved(start));
 }
 
 // Whether these bytes lead from the count and tail `before` to those `after`.

@@ -1,57 +1,25 @@
+//! Collisions of two messages.
+
 ghost use Rattle.std.specs.Prelude.{◌<◌, ◌^◌, length};
 
-pub(crate) mod toys;
-
 use crate::assert_each;
+use crate::toy::{Side, SumsFunction, is_collision};
 use ripemd::ListBlockFunction;
 use ripemd::block_api::BlockCore;
 use ripemd::witness::{BlockFunction, Collision, Meeting, check_collision, collision_witness};
-use toys::{Adding, Forgetting};
 
-// What a collision must have: places, states, and the state after both steps.
-#[derive(Clone, Copy)]
-struct Shape {
-    places: (usize, usize),
-    states: (u8, u8),
-    step: u8,
-}
-
-// A collision of the first blocks.
-fn at_start(step: u8) -> Shape {
-    Shape {
-        places: (0, 0),
-        states: (0, 0),
-        step,
-    }
-}
-
-// A collision of the second blocks.
-fn at_second(states: (u8, u8), step: u8) -> Shape {
-    Shape {
-        places: (1, 1),
-        states,
-        step,
-    }
-}
-
-// Whether the collision of two messages has this shape, and the check takes it.
-fn collide<F: BlockFunction<State = u8>>(a: &[u8], b: &[u8], shape: Shape) -> bool
+// Whether two messages have this collision.
+fn collide(a: &[u8], b: &[u8], left: Side, right: Side, next: [u8; 2]) -> bool
     requires a_short { length a.now < 2 ^ 61 }
     requires b_short { length b.now < 2 ^ 61 }
 {
-    let Some(collision) = collision_witness::<F>(a, b) else {
-        return false;
-    };
-    let left = collision.left;
-    let right = collision.right;
-    check_collision::<F>(&collision)
-        && (left.place, right.place) == shape.places
-        && (left.state, right.state) == shape.states
-        && F::step(left.state, &left.block) == shape.step
-        && F::step(right.state, &right.block) == shape.step
+    match collision_witness::<SumsFunction>(a, b) {
+        Some(collision) => is_collision(&collision, left, right, next),
+        None => false,
+    }
 }
 
-// 128 bytes: zeros, but for a byte in each block.
+// Zeros, but for a byte in each block.
 fn two_blocks(first: (usize, u8), second: (usize, u8)) -> [u8; 128]
     requires first_in { first.0 < 64 }
     requires second_in { second.0 < 64 }
@@ -65,24 +33,20 @@ fn two_blocks(first: (usize, u8), second: (usize, u8)) -> [u8; 128]
 // Two messages of one block, of two, and of different numbers of blocks.
 #[test]
 fn finds_the_collision(rt: HostRuntime) {
-    let mut first = [0; 64];
-    first[0] = 1;
-    let mut last = [0; 64];
-    last[63] = 1;
-    assert!(rt; collide::<Adding>(&[1, 2], &[2, 1], at_start(147)));
-    assert!(rt; collide::<Adding>(&[], &[0xf8], at_start(128)));
-    assert!(rt; collide::<Adding>(&first, &last, at_start(1)));
+    let left = (0, [0, 0], [1, 2]);
+    assert!(rt; collide(&[1, 2], &[2, 1], left, (0, [0, 0], [2, 1]), [147, 0]));
+    let short = (0, [0, 0], [0x80, 0]);
+    assert!(rt; collide(&[], &[0xf8], short, (0, [0, 0], [0xf8, 0x80]), [128, 0]));
 
-    first[0] = 0xfe;
-    let mut shape = Shape {
-        places: (0, 1),
-        states: (0, 254),
-        step: 128,
-    };
-    assert!(rt; collide::<Adding>(&[], &first, shape));
-    shape.places = (1, 0);
-    shape.states = (254, 0);
-    assert!(rt; collide::<Adding>(&first, &[], shape));
+    let mut a = [0; 64];
+    a[0] = 1;
+    let mut b = [0; 64];
+    b[1] = 1;
+    assert!(rt; collide(&a, &b, (0, [0, 0], [1, 0]), (0, [0, 0], [0, 1]), [1, 0]));
+    a[0] = 0xfe;
+    let long = (1, [254, 0], [0x80, 0]);
+    assert!(rt; collide(&[], &a, short, long, [128, 0]));
+    assert!(rt; collide(&a, &[], long, short, [128, 0]));
 }
 
 // The collision is the last place where the walks differ, in block, state or both.
@@ -90,16 +54,16 @@ fn finds_the_collision(rt: HostRuntime) {
 fn finds_the_last_difference(rt: HostRuntime) {
     let a = two_blocks((0, 1), (0, 2));
     let b = two_blocks((0, 2), (0, 1));
-    assert!(rt; collide::<Adding>(&a, &b, at_second((1, 2), 3)));
+    assert!(rt; collide(&a, &b, (1, [1, 0], [2, 0]), (1, [2, 0], [1, 0]), [3, 0]));
     let a = two_blocks((0, 1), (0, 1));
     let b = two_blocks((1, 1), (1, 1));
-    assert!(rt; collide::<Adding>(&a, &b, at_second((1, 1), 2)));
+    assert!(rt; collide(&a, &b, (1, [1, 0], [1, 0]), (1, [1, 0], [0, 1]), [2, 0]));
     let a = two_blocks((0, 1), (0, 0));
     let b = two_blocks((1, 1), (0, 0));
-    assert!(rt; collide::<Adding>(&a, &b, at_start(1)));
+    assert!(rt; collide(&a, &b, (0, [0, 0], [1, 0]), (0, [0, 0], [0, 1]), [1, 0]));
     let a = two_blocks((0, 1), (0, 3));
-    let b = two_blocks((0, 2), (0, 3));
-    assert!(rt; collide::<Forgetting>(&a, &b, at_second((1, 2), 3)));
+    let b = two_blocks((63, 1), (0, 3));
+    assert!(rt; collide(&a, &b, (1, [1, 0], [3, 0]), (1, [1, 1], [3, 0]), [4, 0]));
 }
 
 // Whether these messages have no collision.
@@ -117,41 +81,37 @@ fn abc_has_none<F: ListBlockFunction>() -> bool {
 // Equal messages, and messages with different hashes, have none.
 #[test]
 fn finds_none(rt: HostRuntime) {
-    assert!(rt; is_none::<Adding>(&[1, 2], &[1, 2]));
-    assert!(rt; is_none::<Adding>(&[], &[]));
-    assert!(rt; is_none::<Adding>(&[1], &[2]));
-    assert!(rt; is_none::<Adding>(&[0; 55], &[0; 56]));
+    assert!(rt; is_none::<SumsFunction>(&[1, 2], &[1, 2]));
+    assert!(rt; is_none::<SumsFunction>(&[], &[]));
+    assert!(rt; is_none::<SumsFunction>(&[1], &[2]));
+    assert!(rt; is_none::<SumsFunction>(&[0; 55], &[0; 56]));
     assert_each!(rt; abc_has_none());
+}
+
+// The meeting at this place with this state and a block that begins with this byte.
+fn meeting(place: usize, state: u8, byte: u8) -> Meeting<[u8; 2]> {
+    let mut meeting = Meeting {
+        place,
+        state: [state, 0],
+        block: [0; 64],
+    };
+    meeting.block[0] = byte;
+    meeting
 }
 
 // One meeting twice is no collision, nor are two whose steps differ.
 #[test]
 fn checks_a_collision(rt: HostRuntime) {
-    let left = Meeting {
-        place: 0,
-        state: 5,
-        block: [0; 64],
-    };
-    let mut block = [0; 64];
-    block[7] = 5;
-    let right = Meeting {
-        place: 0,
-        state: 0,
-        block,
-    };
-    assert!(rt; check_collision::<Adding>(&Collision { left, right }));
-    assert!(rt; !check_collision::<Forgetting>(&Collision { left, right }));
-    assert!(rt; !check_collision::<Adding>(&Collision { left, right: left }));
-    assert!(rt; !check_collision::<Adding>(&Collision { left: right, right }));
-    let elsewhere = Meeting {
-        place: 9,
-        state: 5,
-        block: [0; 64],
-    };
-    assert!(rt;
-        !check_collision::<Adding>(&Collision {
-            left,
-            right: elsewhere
-        })
-    );
+    let left = meeting(0, 5, 0);
+    let right = meeting(0, 0, 5);
+    for (left, right, collides) in [
+        (left, right, true),
+        (left, meeting(0, 0, 6), false),
+        (left, left, false),
+        (right, right, false),
+        (left, meeting(9, 5, 0), false),
+    ] {
+        let found = check_collision::<SumsFunction>(&Collision { left, right });
+        assert_eq!(rt; found, collides, "{} at {}", right.state[0], right.place);
+    }
 }

@@ -1,16 +1,18 @@
 //! A hash function with a state and a digest of two bytes, so that collisions are easy to make.
 
-ghost use Rattle.std.specs.Prelude.{◌+◌, ◌%◌, [], ◌∷◌, slice_index, ⊤};
+ghost use Rattle.std.specs.Prelude.{◌+◌, ◌/◌, ◌%◌, [], ◌∷◌, slice_index, ⊤};
 ghost use Rattle.std.specs.List.{fold};
 ghost use Rattle.ripemd.specs.States.{HashState, IsHashState};
 
+use crate::bytes::sum_from;
 use ripemd::digest::{BlockDigest, BlockFunction, Digest, HashMeaning, OutputSizeUser};
+use ripemd::witness::{Collision, Meeting, check_collision};
 use ripemd::{BlockHasher, ListBlockFunction};
-use ripemd_tests::bytes::sum_from;
 use std::marker::Model;
 
-/// The block function: a step adds all bytes of the block to the first byte of the state, and the last to the second.
-pub(crate) enum SumsFunction {}
+/// The block function: a step adds all bytes of the block to the first byte of the state, and the last to half of the
+/// second.
+pub enum SumsFunction {}
 
 impl BlockFunction for SumsFunction {
     type State = [u8; 2];
@@ -23,7 +25,7 @@ impl BlockFunction for SumsFunction {
 
     ghost step_of = { λ state block.
         fold (λ sum byte. (sum + byte) % 256) (slice_index state 0) block
-        ∷ (slice_index state 1 + slice_index block 63) % 256 ∷ [] };
+        ∷ (slice_index state 1 / 2 + slice_index block 63) % 256 ∷ [] };
 
     ghost output_of = { λ state. state };
 
@@ -32,7 +34,8 @@ impl BlockFunction for SumsFunction {
     }
 
     fn step(state: [u8; 2], block: &[u8; 64]) -> [u8; 2] {
-        [sum_from(state[0], block), state[1].wrapping_add(block[63])]
+        let last = (state[1] / 2).wrapping_add(block[63]);
+        [sum_from(state[0], block), last]
     }
 
     fn output(state: [u8; 2]) -> [u8; 2] {
@@ -65,7 +68,7 @@ impl ListBlockFunction for SumsFunction {
 
 /// The hasher, which implements `Digest` and `BlockDigest` itself, as any crate can.
 #[derive(Drop)]
-pub(crate) struct Sums {
+pub struct Sums {
     hasher: BlockHasher<SumsFunction>,
 }
 
@@ -98,7 +101,7 @@ impl Digest for Sums {
 
     ghost step = { λ state block.
         fold (λ sum byte. (sum + byte) % 256) (slice_index state 0) block
-        ∷ (slice_index state 1 + slice_index block 63) % 256 ∷ [] };
+        ∷ (slice_index state 1 / 2 + slice_index block 63) % 256 ∷ [] };
 
     ghost output = { λ state. state };
 
@@ -141,4 +144,20 @@ impl BlockDigest for Sums {
     ghost use Rattle.std.specs.Prelude.{refl};
 
     ghost digest_is = { λ message. refl };
+}
+
+/// One of the two meetings of a collision: the place, the state, and how the block begins.
+pub type Side = (usize, [u8; 2], [u8; 2]);
+
+fn is_side(meeting: &Meeting<[u8; 2]>, side: Side, next: [u8; 2]) -> bool {
+    (meeting.place, meeting.state) == (side.0, side.1)
+        && meeting.block.starts_with(&side.2)
+        && SumsFunction::step(meeting.state, &meeting.block) == next
+}
+
+/// Whether a collision has these sides and leads to this state, and the check takes it.
+pub fn is_collision(found: &Collision<[u8; 2]>, left: Side, right: Side, next: [u8; 2]) -> bool {
+    check_collision::<SumsFunction>(found)
+        && is_side(&found.left, left, next)
+        && is_side(&found.right, right, next)
 }

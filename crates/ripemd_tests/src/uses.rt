@@ -1,6 +1,8 @@
 //! The callers that the documents show.
 
-use ripemd::block_api::{Ripemd160Function, SerializableState};
+use crate::digits::{OF_128, OF_160, Ripemd160Function, bytes_of, is_written};
+use crate::tags::PUBLISHED;
+use ripemd::block_api::SerializableState;
 use ripemd::replay::Command;
 use ripemd::state::DeserializeStateError;
 use ripemd::{Ripemd128, Ripemd160};
@@ -20,41 +22,43 @@ use ripemd_uses::tags::{
 use std::io;
 use std::io::{ErrorKind, Read};
 
-// The authors' digests of "abc" by RIPEMD-160 and RIPEMD-128.
-const ABC: [u8; 20] = [
-    0x8e, 0xb2, 0x08, 0xf7, 0xe0, 0x5d, 0x98, 0x7a, 0x9b, 0x04, 0x4a, 0x8e, 0x98, 0xc6, 0xb0, 0x87,
-    0xf1, 0x5a, 0x0b, 0xfc,
-];
+// The authors' digest of "abc" by RIPEMD-160.
+fn abc() -> [u8; 20] {
+    bytes_of(OF_160.abc)
+}
 
-const ABC_128: [u8; 16] = [
-    0xc1, 0x4a, 0x12, 0x19, 0x9c, 0x66, 0xe4, 0xba, 0x84, 0x63, 0x6b, 0x0f, 0x69, 0x14, 0x4c, 0x77,
-];
+// The first tag of RFC 2286.
+fn hi_there() -> [u8; 20] {
+    bytes_of(PUBLISHED[0].4)
+}
 
 #[test]
 fn digests(rt: HostRuntime) {
-    assert!(rt; digest_of_short(b"abc") == ABC);
-    assert!(rt; digest_of(b"abc") == ABC);
+    let abc_128: [u8; 16] = bytes_of(OF_128.abc);
+    assert!(rt; digest_of_short(b"abc") == abc());
+    assert!(rt; digest_of(b"abc") == abc());
     let (by_128, by_160, _, _) = digests_of(b"abc");
-    assert!(rt; by_128 == ABC_128 && by_160 == ABC);
-    assert!(rt; digest_of_two(b"a", b"bc") == ABC);
-    assert!(rt; digest_of_three(b"a", b"", b"bc") == ABC);
-    assert!(rt; prefixed_digest_160(b"ab", b"c") == ABC);
-    assert!(rt; prefixed_digest::<Ripemd128>(b"ab", b"c") == ABC_128);
+    assert!(rt; by_128 == abc_128 && by_160 == abc());
+    assert!(rt; digest_of_two(b"a", b"bc") == abc());
+    assert!(rt; digest_of_three(b"a", b"", b"bc") == abc());
+    assert!(rt; prefixed_digest_160(b"ab", b"c") == abc());
+    assert!(rt; prefixed_digest::<Ripemd128>(b"ab", b"c") == abc_128);
 }
 
 #[test]
 fn commands(rt: HostRuntime) {
     let digests = digests_of_ends(rt.alloc(), b"a", b"bc", b"bc");
-    assert!(rt; digests.is_ok_and(|digests| digests.as_slice() == [ABC, ABC].as_slice()));
+    assert!(rt; digests.is_ok_and(|digests| digests.as_slice() == [abc(), abc()].as_slice()));
 }
 
 #[test]
 fn comparisons(rt: HostRuntime) {
-    assert!(rt; has_digest(b"abc", &ABC));
-    assert!(rt; !has_digest(b"abd", &ABC));
-    assert!(rt; has_digest_by::<Ripemd128>(b"abc", &ABC_128));
-    assert!(rt; !has_digest_by::<Ripemd128>(b"abc", &ABC_128[..15]));
-    assert!(rt; !has_digest_by::<Ripemd128>(b"abc", &ABC));
+    let abc_128: [u8; 16] = bytes_of(OF_128.abc);
+    assert!(rt; has_digest(b"abc", &abc()));
+    assert!(rt; !has_digest(b"abd", &abc()));
+    assert!(rt; has_digest_by::<Ripemd128>(b"abc", &abc_128));
+    assert!(rt; !has_digest_by::<Ripemd128>(b"abc", &abc_128[..15]));
+    assert!(rt; !has_digest_by::<Ripemd128>(b"abc", &abc()));
 }
 
 // What is saved after some pieces.
@@ -69,12 +73,12 @@ fn saved_after_pieces(pieces: &[&[u8]]) -> Result<[u8; 92], DeserializeStateErro
 #[test]
 fn saved_states(rt: HostRuntime) {
     let saved = saved_after_pieces(&[b"a", b"", b"bc"]).unwrap_or([0xff; 92]);
-    assert!(rt; digest_of_saved(&saved) == Ok(ABC));
-    assert!(rt; saved_has_digest(&saved, &ABC) == Ok(true));
-    assert!(rt; saved_has_digest(&start_saved(), &ABC) == Ok(false));
+    assert!(rt; digest_of_saved(&saved) == Ok(abc()));
+    assert!(rt; saved_has_digest(&saved, &abc()) == Ok(true));
+    assert!(rt; saved_has_digest(&start_saved(), &abc()) == Ok(false));
     assert!(rt; update_saved(&[0xff; 92], b"a").is_err());
     assert!(rt; digest_of_saved(&[0xff; 92]).is_err());
-    assert!(rt; saved_has_digest(&[0xff; 92], &ABC).is_err());
+    assert!(rt; saved_has_digest(&[0xff; 92], &abc()).is_err());
     assert!(rt; loaded_core(&[7; 28]).serialize() == [7; 28]);
 }
 
@@ -90,7 +94,7 @@ impl Read for Broken {
 
 #[test]
 fn readers(rt: HostRuntime) {
-    for (limit, digest) in [(3, Some(ABC)), (2, None)] {
+    for (limit, digest) in [(3, Some(abc())), (2, None)] {
         let mut reader: &[u8] = b"abc";
         assert!(rt;
             digest_of_reader(&mut reader, limit).ok() == Some(digest),
@@ -124,7 +128,7 @@ fn toys(rt: HostRuntime) {
     assert!(rt; toy_digest(&[b'x'; 60], &[b'x'; 4]) == [b'x' ^ 0x80]);
     assert!(rt; toy_put_aside(b"a", b"bc") == [b'a']);
     assert!(rt; toy_put_aside(&[b'x'; 60], &[b'x'; 4]) == [b'x' ^ 0x80]);
-    assert!(rt; digest_put_aside::<Ripemd160>(b"a", b"bc") == ABC);
+    assert!(rt; digest_put_aside::<Ripemd160>(b"a", b"bc") == abc());
 }
 
 // A saved and loaded hasher.
@@ -145,33 +149,24 @@ fn toy_commands(rt: HostRuntime) {
     assert!(rt; digests.is_ok_and(|digests| digests.as_slice() == [[b'a']].as_slice()));
 }
 
-// What RFC 2286 publishes.
-const TAG: [u8; 20] = [
-    0x24, 0xcb, 0x4b, 0xd6, 0x7d, 0x20, 0xfc, 0x1a, 0x5d, 0x2e, 0xd7, 0x73, 0x2d, 0xcc, 0x39, 0x37,
-    0x7f, 0x0a, 0x56, 0x68,
-];
-
-const TAG_128: [u8; 16] = [
-    0xfb, 0xf6, 0x1f, 0x94, 0x92, 0xaa, 0x4b, 0xbf, 0x81, 0xc1, 0x72, 0xe8, 0x4e, 0x07, 0x34, 0xdb,
-];
-
 #[test]
 fn tags(rt: HostRuntime) {
     let key = [0x0b; 20];
-    assert!(rt; tag_of_two(&key, b"Hi", b" There") == TAG);
-    assert!(rt; has_tag(&key, b"Hi There", &TAG));
-    assert!(rt; !has_tag(&key, b"Hi There", &TAG[..19]));
-    assert!(rt; !has_tag(&key, b"Hi there", &TAG));
-    assert!(rt; has_tag_by::<Ripemd128>(&key[..16], b"Hi There", &TAG_128));
+    let tag_128: [u8; 16] = bytes_of(PUBLISHED[0].3);
+    assert!(rt; tag_of_two(&key, b"Hi", b" There") == hi_there());
+    assert!(rt; has_tag(&key, b"Hi There", &hi_there()));
+    assert!(rt; !has_tag(&key, b"Hi There", &hi_there()[..19]));
+    assert!(rt; !has_tag(&key, b"Hi there", &hi_there()));
+    assert!(rt; has_tag_by::<Ripemd128>(&key[..16], b"Hi There", &tag_128));
 }
 
 #[test]
 fn tags_of_many(rt: HostRuntime) {
     let (first, second) = tags_of_two(&[0x0b; 20], b"Hi There", b"Hi There");
-    assert!(rt; first == TAG && second == TAG);
+    assert!(rt; first == hi_there() && second == hi_there());
     let saved = saved_after::<Ripemd160Function>(&[0x0b; 20], b"Hi");
     let loaded = tag_of_saved::<Ripemd160Function>(&saved, b" There");
-    assert!(rt; loaded.is_ok_and(|tag| tag == TAG));
+    assert!(rt; loaded.is_ok_and(|tag| tag == hi_there()));
 }
 
 // The expected values come from Python's `hmac` over a textbook program of the toy.
@@ -181,23 +176,17 @@ fn toy_tags(rt: HostRuntime) {
     assert!(rt; toy_tag(&[], &[]) == [0xea]);
 }
 
-// The key that OpenSSL derives.
-const KEY: [u8; 32] = [
-    0x76, 0x8d, 0xcc, 0x27, 0xb7, 0xbf, 0xde, 0xf7, 0x94, 0xa1, 0xff, 0x9d, 0x93, 0x50, 0x90, 0xfc,
-    0xf5, 0x98, 0x55, 0x5e, 0x66, 0x91, 0x31, 0x80, 0xb9, 0xce, 0x36, 0x3c, 0x61, 0x5e, 0x9e, 0xd9,
+// The keys that OpenSSL derives from "password" and "salt", and from "secret" and "pepper".
+static KEYS: [&str; 2] = [
+    "768dcc27b7bfdef794a1ff9d935090fcf598555e66913180b9ce363c615e9ed9",
+    "d92ac58575f940a39c429575de3180045194d5488ed8de5ccd0ddf67fb81e548",
 ];
 
 #[test]
 fn keys(rt: HostRuntime) {
-    assert!(rt; derived_key(b"password", b"salt", 2) == Ok(KEY));
+    assert!(rt; derived_key(b"password", b"salt", 2) == Ok(bytes_of(KEYS[0])));
     assert!(rt; derived_key(b"password", b"salt", 0).is_err());
 }
-
-// That of "secret" and "pepper".
-const OTHER_KEY: [u8; 32] = [
-    0xd9, 0x2a, 0xc5, 0x85, 0x75, 0xf9, 0x40, 0xa3, 0x9c, 0x42, 0x95, 0x75, 0xde, 0x31, 0x80, 0x04,
-    0x51, 0x94, 0xd5, 0x48, 0x8e, 0xd8, 0xde, 0x5c, 0xcd, 0x0d, 0xdf, 0x67, 0xfb, 0x81, 0xe5, 0x48,
-];
 
 #[test]
 fn keys_of_many(rt: HostRuntime) {
@@ -205,7 +194,7 @@ fn keys_of_many(rt: HostRuntime) {
     let salts: [&[u8]; 2] = [b"salt", b"pepper"];
     let mut keys = [0; 64];
     assert!(rt; batch::keys_of(&passwords, &salts, 2, &mut keys).is_ok());
-    assert!(rt; keys.as_chunks::<32>().0 == [KEY, OTHER_KEY].as_slice());
+    assert!(rt; is_written(&keys[..32], KEYS[0]) && is_written(&keys[32..], KEYS[1]));
     assert!(rt; batch::keys_of(&passwords, &salts, 0, &mut keys).is_err());
 }
 
@@ -213,10 +202,10 @@ fn keys_of_many(rt: HostRuntime) {
 #[test]
 fn records(rt: HostRuntime) {
     let mut found = [[0; 20]; 2];
-    assert!(rt; batch::have_digests(&[b"abc", b"abc"], &[ABC, ABC], &mut found));
-    assert!(rt; !batch::have_digests(&[b"abc", b"abd"], &[ABC, ABC], &mut found));
-    assert!(rt; !batch::have_digests(&[b"abc", b"abc"], &[ABC], &mut found));
+    assert!(rt; batch::have_digests(&[b"abc", b"abc"], &[abc(), abc()], &mut found));
+    assert!(rt; !batch::have_digests(&[b"abc", b"abd"], &[abc(), abc()], &mut found));
+    assert!(rt; !batch::have_digests(&[b"abc", b"abc"], &[abc()], &mut found));
     let mut tags = [[0; 20]; 2];
     batch::tags_of(&[0x0b; 20], &[b"Hi There", b"Hi There"], &mut tags);
-    assert!(rt; tags == [TAG, TAG]);
+    assert!(rt; tags == [hi_there(), hi_there()]);
 }

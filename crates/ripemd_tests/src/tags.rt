@@ -1,13 +1,13 @@
 //! Tags by HMAC: those of others, which keys count as one, and which tags are taken.
 
+use crate::bytes::counted;
+use crate::digits::{
+    Ripemd128Function, Ripemd160Function, Ripemd256Function, Ripemd320Function, is_written,
+};
 use ripemd::block_api::ByteArray;
 use ripemd::digest::BlockDigest;
 use ripemd::{BlockHasher, Digest, ResumableFunction, Ripemd160};
 use ripemd_mac::Hmac;
-use ripemd_tests::bytes::counted;
-use ripemd_tests::digits::{
-    Ripemd128Function, Ripemd160Function, Ripemd256Function, Ripemd320Function, is_written,
-};
 
 // The tag of a text in two pieces, by a copy after the first.
 fn tag_of<D: BlockDigest>(key: &[u8], first: &[u8], second: &[u8]) -> D::Output {
@@ -48,7 +48,7 @@ fn has_tag<F: ResumableFunction>(key: &[u8], text: &[u8], digits: &str) -> bool 
 }
 
 // From RFC 2286: a key for RIPEMD-128 and one for RIPEMD-160, a text, and its tags.
-static PUBLISHED: [(&[u8], &[u8], &[u8], &str, &str); 7] = [
+pub(crate) static PUBLISHED: [(&[u8], &[u8], &[u8], &str, &str); 7] = [
     (
         &[0x0b; 16],
         &[0x0b; 20],
