@@ -17,7 +17,7 @@ use ripemd_mac::hmac::masked_keys;
 use std::marker::Model;
 
 // A group takes eight lanes if it has at least this many times the blocks of its longest message: five messages of one
-// length take less time in eight lanes of AVX2 than four at once and one alone (docs/measured).
+// length take less time in eight lanes of AVX2 than four at once and one alone.
 const FOR_EIGHT: usize = 5;
 
 // A group takes four lanes if it has more than this many times the blocks of its longest message: four lanes take
