@@ -8,7 +8,7 @@ import re
 import shutil
 
 import pytest
-from conftest import (ABC, ARM64_COMPILER, ROOT, SECRETS, fences, lines, memcheck, need, programs, run, version)
+from conftest import ABC, ARM64_COMPILER, ROOT, SECRETS, fences, lines, memcheck, need, programs, run, version
 from test_c import CRATE, PACKAGES, assert_read_only, assert_tried
 
 SOURCE = ROOT / "openssl/provider.c"
@@ -56,7 +56,7 @@ def try_evp(folder, modules, *before, compiler=("cc", "-O2"), digests=DIGESTS, p
     run(*compiler, "-std=c11", "-Wall", "-Wextra", "-Werror", ROOT / "tests/evp.c", "-o", folder / "evp", "-lcrypto",
         "-lpthread")
     rows = "".join(f"{bits} {length} {digest}\n" for (bits, length), digest in digests.items())
-    assert_tried(27 * len(digests), *before, folder / "evp", pairs, by=by, input=rows, env={"OPENSSL_MODULES": modules})
+    assert_tried(1700 + 25 * len(digests), *before, folder / "evp", pairs, by=by, input=rows, env={"OPENSSL_MODULES": modules})
 
 
 @pytest.fixture(name="openssl")
@@ -180,7 +180,8 @@ SUPPRESSED = """{
 def test_evp_under_valgrind(modules, tmp_path):
     """It loads the provider more than 1000 times."""
     (tmp_path / "suppressed").write_text(SUPPRESSED)
-    try_evp(tmp_path, modules, f"--suppressions={tmp_path}/suppressed", "--leak-check=full", digests=SHORT, pairs=404,
+    digests = {key: digest for key, digest in SHORT.items() if key[1] % 32 == 31}
+    try_evp(tmp_path, modules, f"--suppressions={tmp_path}/suppressed", "--leak-check=full", digests=digests, pairs=404,
             by=memcheck)
 
 
@@ -217,7 +218,9 @@ def test_digests(openssl, tmp_path, bits, providers):
 
 def test_names(openssl):
     """Those of docs/OPENSSL.md, which are all that openssl lists."""
-    for names in re.findall("{ (.*) } @ nattizhu", (ROOT / "docs/OPENSSL.md").read_text("utf-8")):
+    listed = re.findall("{ (.*) } @ nattizhu", (ROOT / "docs/OPENSSL.md").read_text("utf-8"))
+    assert len(listed) == len(PUBLISHED)
+    for names in listed:
         bits = re.search(r"RIPEMD-(\d+)", names)[1]
         for name in names.split(", "):
             printed = openssl("dgst", f"-{name}", providers=["nattizhu"], input="abc").stdout
