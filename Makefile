@@ -79,7 +79,7 @@ wheel: library
 	@build/wheel dist $(BUILT) $(TARGET)
 
 js: toolchain
-	@build/tell build/crate ripemd_js wasm64-unknown-unknown >/dev/null
+	@build/tell build/crate ripemd_c wasm64-unknown-unknown >/dev/null
 	@build/js dist
 
 dist:
@@ -87,7 +87,7 @@ dist:
 	@$(MAKE) --no-print-directory all library
 	@! command -v aarch64-linux-gnu-gcc >/dev/null || \
 	  $(MAKE) --no-print-directory library TARGET=aarch64-unknown-linux-gnu
-	@build/tell build/crate ripemd_js wasm64-unknown-unknown >/dev/null
+	@build/tell build/crate ripemd_c wasm64-unknown-unknown >/dev/null
 	@build/dist dist
 
 # nattizhu.pc has the prefix in it.

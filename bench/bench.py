@@ -175,7 +175,7 @@ def by_rust(folder):
 def by_javascript(folder):
     """The package for JavaScript in one process with others."""
     package, project = folder / "package", folder / "project"
-    if (subprocess.run([ROOT / "build/crate", "ripemd_js", "wasm64-unknown-unknown"], stdout=sys.stderr, check=False).returncode
+    if (subprocess.run([ROOT / "build/crate", "ripemd_c", "wasm64-unknown-unknown"], stdout=sys.stderr, check=False).returncode
             or subprocess.run([ROOT / "build/js", package], check=False).returncode):
         return
     subprocess.run(["npm", "install", "--offline", "--silent", "--prefix", project, *package.glob("nattizhu-[0-9]*.tgz")],

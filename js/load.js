@@ -9,7 +9,7 @@ export async function load(source) {
     source = await source.arrayBuffer(); // not compileStreaming, which wants a type that not all servers send
   }
   const module = source instanceof WebAssembly.Module ? source : await WebAssembly.compile(source);
-  if (!WebAssembly.Module.exports(module).some(({ name }) => name === 'nattizhu_digest'))
+  if (!WebAssembly.Module.exports(module).some(({ name }) => name === 'nattizhu_digest_nonnull'))
     throw new Error('nattizhu.wasm expected');
   return over(engine(() => module));
 }

@@ -161,7 +161,7 @@ def broken(library, once):
 @pytest.fixture(scope="session")
 def wasm(once):
     """The library of which build/js makes the package for JavaScript."""
-    once("wasm", lambda _: run("build/crate", "ripemd_js", "wasm64-unknown-unknown"))
+    once("wasm", lambda _: run("build/crate", "ripemd_c", "wasm64-unknown-unknown"))
 
 
 @pytest.fixture(scope="session")

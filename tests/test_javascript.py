@@ -104,7 +104,7 @@ def fixture_project(archive, once):
 
 def test_words_are_inlined(wasm):
     """The compiler does what build/crate tells it: a module without this is slower."""
-    assert b"words_of_" not in (ROOT / "crates/ripemd_js/out/wasm64-unknown-unknown/libripemd_js.a").read_bytes()
+    assert b"words_of_" not in (ROOT / "crates/ripemd_c/out/wasm64-unknown-unknown/libripemd_c.a").read_bytes()
 
 
 def test_same_bytes_each_time(javascript, tmp_path):
@@ -142,7 +142,7 @@ def test_commands_of_the_page(archive, tmp_path):
 def test_a_build_that_waits_says_so():
     with (ROOT / "crates.txt").open() as lock:
         fcntl.flock(lock, fcntl.LOCK_EX)
-        with subprocess.Popen([ROOT / "build/crate", "ripemd_js"], stderr=subprocess.PIPE, text=True) as build:
+        with subprocess.Popen([ROOT / "build/crate", "ripemd_c"], stderr=subprocess.PIPE, text=True) as build:
             told, _, _ = select.select([build.stderr], [], [], 60)
             fcntl.flock(lock, fcntl.LOCK_UN)
             assert build.stderr.read() == "make: waiting for another build\n" and told

@@ -56,7 +56,7 @@ def fixture_dist(library, program, rmdsum, wasm, once):
 def fixture_again(dist, once):
     """What build/dist makes of the same tree and of what is built, copied to another folder."""
     copy = """mkdir -p "$0" && { git ls-files -z --cached --others --exclude-standard &&
-      find .git crates/{ripemd_{c/out/{lib,glibc,ossl,aarch64}*,js/out/wasm64*,sum/out/x86-64/ripemd_sum},rmdsum/out/rmdsum} \
+      find .git crates/{ripemd_{c/out/{lib,glibc,ossl,aarch64,wasm64}*,sum/out/x86-64/ripemd_sum},rmdsum/out/rmdsum} \
         -type f -print0; } |
       xargs -0 cp --parents -t "$0"; "$0/build/dist" "$0/dist" """
     return once("again", lambda folder: run("bash", "-c", copy, folder)) / "dist"

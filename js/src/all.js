@@ -11,23 +11,23 @@ const MOST = 2 ** 32 - 1;
 const hashKind = (bits, size = bits / 8, n = BigInt(size)) => ({
   size,
   length: 1 + size + 72,
-  digest: (calls, length) => calls.nattizhu_digest(bits, AT.in, length, AT.out, n),
+  digest: (calls, length) => calls.nattizhu_digest_nonnull(bits, AT.in, length, AT.out, n),
   init: (calls) => calls.nattizhu_init(bits, AT.state),
-  update: (calls, length) => calls.nattizhu_update(AT.state, AT.in, length),
-  final: (calls) => calls.nattizhu_final(AT.state, AT.out, n),
-  save: (calls, length) => calls.nattizhu_save(AT.state, AT.in, length),
-  load: (calls, length) => calls.nattizhu_load(bits, AT.state, AT.in, length),
+  update: (calls, length) => calls.nattizhu_update_nonnull(AT.state, AT.in, length),
+  final: (calls) => calls.nattizhu_final_nonnull(AT.state, AT.out, n),
+  save: (calls, length) => calls.nattizhu_save_nonnull(AT.state, AT.in, length),
+  load: (calls, length) => calls.nattizhu_load_nonnull(bits, AT.state, AT.in, length),
 });
 
 const hmacKind = (bits, size = bits / 8, n = BigInt(size)) => ({
   keyed: true,
   size,
   length: 1 + 2 * (size + 72),
-  init: (calls, length) => calls.nattizhu_hmac_init(bits, AT.state, AT.in, length),
-  update: (calls, length) => calls.nattizhu_hmac_update(AT.state, AT.in, length),
-  final: (calls) => calls.nattizhu_hmac_final(AT.state, AT.out, n),
-  save: (calls, length) => calls.nattizhu_hmac_save(AT.state, AT.in, length),
-  load: (calls, length) => calls.nattizhu_hmac_load(bits, AT.state, AT.in, length),
+  init: (calls, length) => calls.nattizhu_hmac_init_nonnull(bits, AT.state, AT.in, length),
+  update: (calls, length) => calls.nattizhu_hmac_update_nonnull(AT.state, AT.in, length),
+  final: (calls) => calls.nattizhu_hmac_final_nonnull(AT.state, AT.out, n),
+  save: (calls, length) => calls.nattizhu_hmac_save_nonnull(AT.state, AT.in, length),
+  load: (calls, length) => calls.nattizhu_hmac_load_nonnull(bits, AT.state, AT.in, length),
 });
 
 function ahash(hash) {
@@ -98,8 +98,8 @@ export function over(run) {
         return run(saved.length, true, (calls, memory) => {
           memory.set(saved, IN);
           memory.set(given, OUT);
-          calls.nattizhu_hmac_load(8 * size, AT.state, AT.in, big(saved.length));
-          return calls.nattizhu_hmac_verify(AT.state, AT.out, big(given.length)) === 1;
+          calls.nattizhu_hmac_load_nonnull(8 * size, AT.state, AT.in, big(saved.length));
+          return calls.nattizhu_hmac_verify_nonnull(AT.state, AT.out, big(given.length)) === 1;
         });
       } finally {
         saved.fill(0);
@@ -113,7 +113,7 @@ export function over(run) {
     const bits = ahash(hash), bytes = toBytes(key), text = toBytes(message);
     if (bytes.length + text.length > PIECE) return create(bits, bytes).update(text).digest();
     return placed(bytes, text, 0, (calls, memory, keyAt, keyLength, textAt, textLength) => {
-      calls.nattizhu_hmac(bits, keyAt, keyLength, textAt, textLength, AT.out, big(bits / 8));
+      calls.nattizhu_hmac_nonnull(bits, keyAt, keyLength, textAt, textLength, AT.out, big(bits / 8));
       return memory.slice(OUT, OUT + bits / 8);
     });
   }
@@ -127,7 +127,8 @@ export function over(run) {
     }
     return placed(bytes, text, 0, (calls, memory, keyAt, keyLength, textAt, textLength) => {
       memory.set(given, OUT);
-      return calls.nattizhu_hmac_verify_text(bits, keyAt, keyLength, textAt, textLength, AT.out, big(given.length)) === 1;
+      return calls.nattizhu_hmac_verify_text_nonnull(
+        bits, keyAt, keyLength, textAt, textLength, AT.out, big(given.length)) === 1;
     });
   };
 
@@ -170,7 +171,7 @@ export function over(run) {
     const given = checked(hash, password, salt, options), { bits, c, key } = given;
     const at = IN + given.password.length + given.salt.length;
     return inMemory(() => placed(given.password, given.salt, key.length, (calls, memory, ...places) => {
-      calls.nattizhu_pbkdf2(bits, ...places, c, BigInt(at), BigInt(key.length));
+      calls.nattizhu_pbkdf2_scalar(bits, ...places, c, BigInt(at), BigInt(key.length));
       key.set(memory.subarray(at, at + key.length));
       return key;
     }));
@@ -184,7 +185,7 @@ export function over(run) {
     memory.set(tag, OUT);
     while (left > 0) {
       memory.copyWithin(STATE, IN, IN + kind.length);
-      calls.nattizhu_hmac_update(AT.state, AT.out, size);
+      calls.nattizhu_hmac_update_nonnull(AT.state, AT.out, size);
       kind.final(calls);
       for (let i = 0; i < sum.length; i++) sum[i] ^= memory[OUT + i];
       left -= 1;

@@ -152,8 +152,8 @@ test('after a trap', async () => {
 test('after a trap of the module', () => {
   const outside = [2n ** 32n - 16n, 100n, BigInt(memory().length - 20), 20n];
   ripemd160('abc');
-  assert.throws(() => instances.at(-1).nattizhu_digest(160, ...outside), WebAssembly.RuntimeError);
-  assert.throws(() => instances.at(-1).nattizhu_digest(160, 65856n, 3n, 65792n, 20n), WebAssembly.RuntimeError);
+  assert.throws(() => instances.at(-1).nattizhu_digest_nonnull(160, ...outside), WebAssembly.RuntimeError);
+  assert.throws(() => instances.at(-1).nattizhu_digest_nonnull(160, 65856n, 3n, 65792n, 20n), WebAssembly.RuntimeError);
   assert.throws(() => ripemd160('abc'), WebAssembly.RuntimeError);
   assert.equal(hex(ripemd160('abc')), digestOf('abc'));
 });

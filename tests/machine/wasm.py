@@ -65,7 +65,7 @@ class Module:
                 local = [form[1] for form in head if form[0] in ("param", "local")]
                 self.functions[name] = types, local, rest[len(head):]
             elif kind == "export":
-                self.exports[name.strip('"').replace("ripemd160", "nattizhu")] = rest[0][1]
+                self.exports[re.sub("_(ripemd160|nonnull|scalar)", "", name.strip('"'))] = rest[0][1]
             elif kind == "global":
                 self.globals[name] = cut(SIZES[rest[1][0][:3]], int(rest[1][1]))
             elif kind not in ("type", "memory"):

@@ -4,7 +4,7 @@ use Rattle.std.specs.List.{flat_map, range_with_len}
 use Rattle.ripemd.specs.Standard.Compression.{Parameters}
 use Rattle.ripemd.specs.Standard.Hashing.{ripemd}
 use Rattle.ripemd_mac.specs.Hmac.{hmac}
-use Rattle.ripemd_calls.specs.Variants.{ByVariant, Writes, digest_size}
+use Rattle.ripemd_c.specs.Variants.{ByVariant, Writes, digest_size}
 
 -- record i: `size` bytes from i * size on
 abbrev pub record_at : ℕ → List ℕ → ℕ → List ℕ

@@ -15,7 +15,6 @@ use ripemd::digest::OutputSizeUser;
 use ripemd::{Digest, Ripemd128, Ripemd160, Ripemd256, Ripemd320};
 use ripemd_batch::pbkdf2::digest_size;
 use ripemd_batch::{BatchDigest, ListHasher};
-use ripemd_calls::by_variant;
 
 // The most records of a list.
 const GROUP: usize = 32;

@@ -1,158 +1,91 @@
-//! RIPEMD-128, RIPEMD-160, RIPEMD-256 and RIPEMD-320 (1996) for callers in C: the calls of `ripemd_calls`,
-//! and digests, tags and keys of many messages. A number names the variant, the bits of its digests, unless
-//! a state does.
+//! RIPEMD-128, RIPEMD-160, RIPEMD-256 and RIPEMD-320 (1996) for callers in other languages: digests of messages, whole
+//! and in pieces, of records and of lists, tags (HMAC, RFC 2104), and keys derived from passwords (PBKDF2, RFC 8018). A
+//! number names the variant, the bits of its digests, unless a state does. A call that answers false writes nothing.
 //!
-//! C calls these functions through `nattizhu.h`. Those whose names end in `_nonnull` take slices, whose
-//! pointers may not be null; the header has each without this ending, which takes a null pointer with the
-//! length 0.
+//! C calls these functions through `nattizhu.h`. Those whose names end in `_nonnull` take slices, whose pointers may not
+//! be null; the header has each without this ending, which takes a null pointer with the length 0. Of the same library
+//! `build/js` makes WebAssembly modules, of the functions that JavaScript calls.
 #![tactic(auto)]
 
-ghost use Rattle.std.specs.Prelude.{◌≡◌};
-ghost use Rattle.ripemd_calls.specs.KeptStates.{FinalizesHmac, FinalizesState, InitsHmac, InitsState};
-ghost use Rattle.ripemd_calls.specs.KeptStates.{LoadsHmac, LoadsState, SavesHmac, SavesState};
-ghost use Rattle.ripemd_calls.specs.KeptStates.{UpdatesHmac, UpdatesState, VerifiesHmac};
-ghost use Rattle.ripemd_calls.specs.Variants.{AtVariant, VerifiesTag, WritesDigest, WritesTag, digest_size};
+ghost use Rattle.std.specs.Prelude.{◌≡◌, length};
+ghost use Rattle.ripemd.specs.Standard.Hashing.{hash};
+ghost use Rattle.ripemd_c.specs.Variants.{AtVariant, Writes, WritesDigest, digest_size};
+
+/// Calls a generic function at the hasher of the variant with digests of so many bits, or at the HMAC over it; false
+/// if there is no such variant. The names of the hashers, and `Hmac`, have to be in scope. Of one `match` over all
+/// four the compiler would make a table of jumps, which at times take longer. It puts the first arm, RIPEMD-160,
+/// right after the tests, with no jump.
+macro_rules! by_variant {
+    ($bits:expr, $call:ident::<Hmac> $arguments:tt) => {
+        by_variant!($bits, $call, Hmac<Ripemd128>, Hmac<Ripemd160>, Hmac<Ripemd256>, Hmac<Ripemd320>, $arguments)
+    };
+    ($bits:expr, $call:ident $arguments:tt) => {
+        by_variant!($bits, $call, Ripemd128, Ripemd160, Ripemd256, Ripemd320, $arguments)
+    };
+    ($bits:expr, $call:ident, $of128:ty, $of160:ty, $of256:ty, $of320:ty, $arguments:tt) => {{
+        let bits: u32 = $bits;
+        if bits < 256 {
+            match bits {
+                160 => $call::<$of160> $arguments,
+                128 => $call::<$of128> $arguments,
+                _ => false,
+            }
+        } else {
+            match bits {
+                256 => $call::<$of256> $arguments,
+                320 => $call::<$of320> $arguments,
+                _ => false,
+            }
+        }
+    }};
+}
 
 pub mod each;
 pub mod facts;
+pub mod hmac;
+pub mod js;
+mod kept;
 pub mod pbkdf2;
+mod states;
+pub mod streams;
 
-use ripemd_calls::{hmac, streams};
+use ripemd::{Digest, Ripemd128, Ripemd160, Ripemd256, Ripemd320};
 
-/// Calls [`ripemd_calls::digest_size`].
+/// The size of the variant's digests and tags in bytes; 0 if there is no such variant.
 #[unsafe(no_mangle)]
 pub extern "C" fn nattizhu_digest_size(variant: u32) -> usize
     ensures { AtVariant variant (λ v. result ≡ digest_size v) (result ≡ 0) }
 {
-    ripemd_calls::digest_size(variant)
+    // A table of sizes would be data of the WebAssembly modules, which have none.
+    match variant {
+        128 | 160 | 256 | 320 => variant as usize / 8,
+        _ => 0,
+    }
 }
 
-/// Calls [`ripemd_calls::digest`].
+/// Writes the digest of the message to `digest`. True exactly if there is such a variant and `digest` has the size of
+/// its digests.
 #[unsafe(no_mangle)]
 pub extern "C" fn nattizhu_digest_nonnull(variant: u32, message: &[u8], digest: &mut [u8]) -> bool
     ensures { WritesDigest variant message.now digest.old digest.new result }
 {
-    ripemd_calls::digest(variant, message, digest)
+    by_variant!(variant, write_digest(message, digest))
 }
 
-/// Calls [`streams::init`].
-#[unsafe(no_mangle)]
-pub extern "C" fn nattizhu_init(variant: u32, state: &mut [u8; 113]) -> bool
-    ensures { InitsState variant state.old state.new result }
+fn write_digest<D: Digest>(message: &[u8], digest: &mut [u8]) -> bool
+    ensures { Writes (length digest.old ≡ D.OUTPUT_SIZE) (hash D.start D.step D.output message.now)
+        digest.old digest.new result }
 {
-    streams::init(variant, state)
+    write(D::output_bytes(&D::digest(message)), digest)
 }
 
-/// Calls [`streams::update`].
-#[unsafe(no_mangle)]
-pub extern "C" fn nattizhu_update_nonnull(state: &mut [u8; 113], bytes: &[u8]) -> bool
-    ensures { UpdatesState state.old bytes.now state.new result }
+// Writes an output to its place, if that has its size.
+fn write(output: &[u8], place: &mut [u8]) -> bool
+    ensures { Writes (length place.old ≡ length output.now) output.now place.old place.new result }
 {
-    streams::update(state, bytes)
-}
-
-/// Calls [`streams::finalize`].
-#[unsafe(no_mangle)]
-pub extern "C" fn nattizhu_final_nonnull(state: &[u8; 113], digest: &mut [u8]) -> bool
-    ensures { FinalizesState state.now digest.old digest.new result }
-{
-    streams::finalize(state, digest)
-}
-
-/// Calls [`streams::save`].
-#[unsafe(no_mangle)]
-pub extern "C" fn nattizhu_save_nonnull(state: &[u8; 113], saved: &mut [u8]) -> bool
-    ensures { SavesState state.now saved.old saved.new result }
-{
-    streams::save(state, saved)
-}
-
-/// Calls [`streams::load`].
-#[unsafe(no_mangle)]
-pub extern "C" fn nattizhu_load_nonnull(variant: u32, state: &mut [u8; 113], saved: &[u8]) -> bool
-    ensures { LoadsState variant saved.now state.old state.new result }
-{
-    streams::load(variant, state, saved)
-}
-
-/// Calls [`hmac::tag`].
-#[unsafe(no_mangle)]
-pub extern "C" fn nattizhu_hmac_nonnull(
-    variant: u32,
-    key: &[u8],
-    text: &[u8],
-    tag: &mut [u8],
-) -> bool
-    ensures { WritesTag variant key.now text.now tag.old tag.new result }
-{
-    hmac::tag(variant, key, text, tag)
-}
-
-/// Calls [`hmac::verify_text`].
-#[unsafe(no_mangle)]
-pub extern "C" fn nattizhu_hmac_verify_text_nonnull(
-    variant: u32,
-    key: &[u8],
-    text: &[u8],
-    tag: &[u8],
-) -> bool
-    ensures { VerifiesTag variant key.now text.now tag.now result }
-{
-    hmac::verify_text(variant, key, text, tag)
-}
-
-/// Calls [`hmac::init`].
-#[unsafe(no_mangle)]
-pub extern "C" fn nattizhu_hmac_init_nonnull(
-    variant: u32,
-    state: &mut [u8; 225],
-    key: &[u8],
-) -> bool
-    ensures { InitsHmac variant key.now state.old state.new result }
-{
-    hmac::init(variant, state, key)
-}
-
-/// Calls [`hmac::update`].
-#[unsafe(no_mangle)]
-pub extern "C" fn nattizhu_hmac_update_nonnull(state: &mut [u8; 225], bytes: &[u8]) -> bool
-    ensures { UpdatesHmac state.old bytes.now state.new result }
-{
-    hmac::update(state, bytes)
-}
-
-/// Calls [`hmac::finalize`].
-#[unsafe(no_mangle)]
-pub extern "C" fn nattizhu_hmac_final_nonnull(state: &[u8; 225], tag: &mut [u8]) -> bool
-    ensures { FinalizesHmac state.now tag.old tag.new result }
-{
-    hmac::finalize(state, tag)
-}
-
-/// Calls [`hmac::verify`].
-#[unsafe(no_mangle)]
-pub extern "C" fn nattizhu_hmac_verify_nonnull(state: &[u8; 225], tag: &[u8]) -> bool
-    ensures { VerifiesHmac state.now tag.now result }
-{
-    hmac::verify(state, tag)
-}
-
-/// Calls [`hmac::save`].
-#[unsafe(no_mangle)]
-pub extern "C" fn nattizhu_hmac_save_nonnull(state: &[u8; 225], saved: &mut [u8]) -> bool
-    ensures { SavesHmac state.now saved.old saved.new result }
-{
-    hmac::save(state, saved)
-}
-
-/// Calls [`hmac::load`].
-#[unsafe(no_mangle)]
-pub extern "C" fn nattizhu_hmac_load_nonnull(
-    variant: u32,
-    state: &mut [u8; 225],
-    saved: &[u8],
-) -> bool
-    ensures { LoadsHmac variant saved.now state.old state.new result }
-{
-    hmac::load(variant, state, saved)
+    if place.len() != output.len() {
+        return false;
+    }
+    place.copy_from_slice(output);
+    true
 }

@@ -2,12 +2,10 @@
 
 ghost use Rattle.ripemd.specs.Standard.Hashing.{hash};
 ghost use Rattle.ripemd_batch.specs.Lanes.{targets};
-ghost use Rattle.ripemd_calls.specs.Pbkdf2.{DerivesKey, FillsKey};
-ghost use Rattle.ripemd_c.specs.Pbkdf2.{DerivesKeys, FillsKeys};
+ghost use Rattle.ripemd_c.specs.Pbkdf2.{DerivesKey, DerivesKeys, FillsKey, FillsKeys};
 
 use ripemd::{Ripemd128, Ripemd160, Ripemd256, Ripemd320};
 use ripemd_batch::{BatchDigest, pbkdf2_hmac, pbkdf2_hmac_each};
-use ripemd_calls::by_variant;
 
 /// Fills `key` with the key derived from a password and a salt by `rounds` rounds, with HMAC over the
 /// variant. False exactly if there is no such variant, there are no rounds, or the key is longer than

@@ -4,7 +4,7 @@ use Rattle.ripemd.specs.Standard.Hashing.{with_padding, blocks, hash}
 use Rattle.ripemd_mac.specs.Hmac.{key_block, inner_message, outer_message, hmac}
 use Rattle.ripemd_mac.specs.Pbkdf2.{U, F, pbkdf2}
 use Rattle.ripemd_batch.specs.Pbkdf2.{pbkdf2_each}
-use Rattle.ripemd_calls.proofs.Working.{written, refused}
+use Rattle.ripemd_c.proofs.Working.{written, refused}
 use Rattle.ripemd_c.proofs.facts.worked_lists.Goals as goal
 
 pub returns-clause-lists : goal.returns-clause-lists
