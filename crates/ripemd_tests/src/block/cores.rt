@@ -6,7 +6,7 @@ use crate::digits::{HELLO_320, TWO_BLOCKS, is_written};
 use ripemd_block::block_api::{
     BlockCore, BlockFunction, BufferKindUser, ByteArray, Eager, FixedOutputCore, HashMarker,
     HashMeaning, ListBlockFunction, Reset, ResumableFunction, Ripemd128Core, Ripemd160Core,
-    Ripemd256Core, Ripemd320Core, UpdateCore, walk_message, walk_digest,
+    Ripemd256Core, Ripemd320Core, UpdateCore, walk_digest, walk_message,
 };
 use ripemd_block::buffer::Buffer;
 use ripemd_block::padding::{block_count, pad_block};
