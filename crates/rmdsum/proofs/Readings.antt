@@ -1,6 +1,6 @@
 -- What arguments say, one after another.
-use Rattle.std.proofs.Common.{◌≡◌, List, [], ◌∷◌, ◌++◌, Result, Ok, Err, IsErr, append_assoc, arith}
-use Rattle.std.specs.Prelude.{MatchResult}
+use Rattle.std.proofs.Common.{List, [], Result, Ok, Err, IsErr, append_assoc, arith}
+use Rattle.std.specs.Prelude.{IfOk, MatchResult, reverse}
 use Rattle.std.proofs.lemmas.List.{append-nil, reverse-append}
 use Rattle.rmdsum.specs.declared.arguments.Next.{Next}
 use Rattle.rmdsum.specs.declared.arguments.Stop.{Stop}
@@ -10,6 +10,7 @@ use Rattle.rmdsum.specs.declared.request.Settings.{Settings}
 use Rattle.rmdsum.specs.Words.{Said}
 use Rattle.rmdsum.specs.Asked.{Asks, Holds, IsRefused}
 use Rattle.rmdsum.specs.Arguments.{Reading, then_reads, Answers, Reads}
+use Rattle.rmdsum.specs.Arguments.Reading.{Goes, Stops}
 
 -- from here the rest is read as the whole is from the start
 abbrev pub ReadsOn : Reading → Settings → Reading → Settings → Type 0
@@ -26,7 +27,11 @@ pub then_stops : (given : Reading) (rest : Next → Reading) (before after : Set
 then_stops given rest before after result fails reads = grind arith
 
 -- what was read is asked for, or refused
-pub asked : (given : Reading) (before after : Settings) (next : Next) (answer : Result Request Misuse) → Reads given before after (Ok next)
-    → Holds [] before → ((words : List Said) → Holds words after → MatchResult answer (Asks words) (IsRefused words)) → Answers given answer
-asked given before after next (Ok request) reads holds asks = grind (arith, append-nil)
-asked given before after next (Err misuse) reads holds asks = grind (arith, append-nil)
+pub asked : {E : Type 0} (given : Reading) (before after : Settings) (next : Next) (result : Result (Result Request Misuse) E)
+    → Reads given before after (Ok next) → Holds [] before
+    → ((words : List Said) → Holds words after → IfOk result (λ answer. MatchResult answer (Asks words) (IsRefused words)))
+    → IfOk result (Answers given)
+asked (Goes words last) before after next (Ok (Ok request)) reads holds asks = asks (reverse words) (rw append-nil at (reads.1 [] holds))
+asked (Goes words last) before after next (Ok (Err misuse)) reads holds asks = asks (reverse words) (rw append-nil at (reads.1 [] holds))
+asked (Stops why) before after next (Ok answer) reads holds asks = absurd (grind arith)
+asked given before after next (Err error) reads holds asks = tt
