@@ -15,12 +15,13 @@ use std::io;
 fn is_answer<D: Digest + SerializableState>(
     alloc: Global,
     commands: &[Command],
-    wanted: &Result<&[&str], ReplayError>,
+    digests: &[&str],
+    error: Option<&ReplayError>,
 ) -> Option<bool> {
-    match (replay::<D>(alloc, commands), wanted) {
+    match (replay::<D>(alloc, commands), error) {
         (Err(ReplayError::OutOfMemory), _) => None,
-        (Ok(found), Ok(digests)) => Some(are_written::<D>(found.as_slice(), digests)),
-        (Err(found), Err(error)) => Some(found == *error),
+        (Ok(found), None) => Some(are_written::<D>(found.as_slice(), digests)),
+        (Err(found), Some(error)) => Some(found == *error),
         _ => Some(false),
     }
 }
@@ -30,10 +31,12 @@ fn print_outcome_of<D: Digest + SerializableState + AlgorithmName>(
     rt: &HostRuntime,
     name: &str,
     commands: &[Command],
-    wanted: Result<&[&str], ReplayError>,
+    digests: &[&str],
+    error: Option<ReplayError>,
 ) -> io::Result<()> {
     print!(rt; "replay by {} of {name}", D::ALG_NAME)?;
-    print_outcome(rt, || is_answer::<D>(rt.alloc(), commands, &wanted))
+    let call = || is_answer::<D>(rt.alloc(), commands, digests, error.as_ref());
+    print_outcome(rt, call)
 }
 
 fn update<'a>(hasher: usize, bytes: &'a [u8]) -> Command<'a> {
@@ -53,7 +56,7 @@ fn print_outcomes_by<'a, D: Digest + SerializableState + AlgorithmName>(
 ) -> io::Result<()> {
     // Two hashers do not share a message.
     let list = [New, New, update(1, b"abc"), finish(0), finish(1)];
-    print_outcome_of::<D>(rt, "two hashers", &list, Ok(&[empty, abc]))?;
+    print_outcome_of::<D>(rt, "two hashers", &list, &[empty, abc], None)?;
     // A fork and its original are independent, and a finished hasher is new.
     let list = [
         New,
@@ -65,7 +68,7 @@ fn print_outcomes_by<'a, D: Digest + SerializableState + AlgorithmName>(
         finish(1),
         finish(0),
     ];
-    print_outcome_of::<D>(rt, "forks", &list, Ok(&[hello, hello, empty]))?;
+    print_outcome_of::<D>(rt, "forks", &list, &[hello, hello, empty], None)?;
     // A saved state outlives the reset of its hasher.
     let list = [
         New,
@@ -76,7 +79,7 @@ fn print_outcomes_by<'a, D: Digest + SerializableState + AlgorithmName>(
         update(1, b"world!"),
         finish(1),
     ];
-    print_outcome_of::<D>(rt, "a saved state", &list, Ok(&[hello]))?;
+    print_outcome_of::<D>(rt, "a saved state", &list, &[hello], None)?;
     // A saved state stays as it was.
     let list = [
         New,
@@ -86,15 +89,16 @@ fn print_outcomes_by<'a, D: Digest + SerializableState + AlgorithmName>(
         finish(1),
         finish(0),
     ];
-    print_outcome_of::<D>(rt, "an early state", &list, Ok(&[empty, abc]))?;
+    print_outcome_of::<D>(rt, "an early state", &list, &[empty, abc], None)?;
     // A refusal before the first bad command is the answer.
     let list = [New, finish(3), Load { saved: 5 }];
     let error = ReplayError::NoHasher { at: 1, hasher: 3 };
-    print_outcome_of::<D>(rt, "a bad command", &list, Err(error))?;
+    print_outcome_of::<D>(rt, "a bad command", &list, &[], Some(error))?;
     // These allocate nothing.
-    print_outcome_of::<D>(rt, "nothing", &[], Ok(&[]))?;
+    print_outcome_of::<D>(rt, "nothing", &[], &[], None)?;
     let error = ReplayError::NoSaved { at: 0, saved: 0 };
-    print_outcome_of::<D>(rt, "a load of nothing", &[Load { saved: 0 }], Err(error))
+    let list = [Load { saved: 0 }];
+    print_outcome_of::<D>(rt, "a load of nothing", &list, &[], Some(error))
 }
 
 // The words of a hasher of RIPEMD-160 after 64 letters "a", from another implementation; the digest
@@ -119,10 +123,10 @@ fn print_outcomes_of_imports(rt: &HostRuntime) -> io::Result<()> {
     // The imported hasher is finished, and is then new.
     let state = state_160(OF_160.start, 0, b"abc");
     let list = [Import { bytes: &state }, finish(0), finish(0)];
-    print_outcome_of::<Ripemd160>(rt, "a state, finished", &list, Ok(&[abc, empty]))?;
+    print_outcome_of::<Ripemd160>(rt, "a state, finished", &list, &[abc, empty], None)?;
     let long = state_160(OF_160.start, 1 << 55, b"");
     let list = [Import { bytes: &long }, finish(0), finish(0)];
-    print_outcome_of::<Ripemd160>(rt, "a long state, finished", &list, Ok(&[empty, empty]))?;
+    print_outcome_of::<Ripemd160>(rt, "a long state, finished", &list, &[empty, empty], None)?;
     // A saved state of the imported hasher stays as it was.
     let letters = state_160(WORDS_OF_LETTERS, 1, b"a");
     for (name, state, digest) in [
@@ -136,15 +140,11 @@ fn print_outcomes_of_imports(rt: &HostRuntime) -> io::Result<()> {
             Load { saved: 0 },
             finish(1),
         ];
-        print_outcome_of::<Ripemd160>(rt, name, &list, Ok(&[digest]))?;
+        print_outcome_of::<Ripemd160>(rt, name, &list, &[digest], None)?;
     }
-    let bad = [Import { bytes: &[0; 91] }];
-    print_outcome_of::<Ripemd160>(
-        rt,
-        "a bad state",
-        &bad,
-        Err(ReplayError::BadState { at: 0 }),
-    )
+    let list = [Import { bytes: &[0; 91] }];
+    let error = ReplayError::BadState { at: 0 };
+    print_outcome_of::<Ripemd160>(rt, "a bad state", &list, &[], Some(error))
 }
 
 /// Prints the outcome of each list.
