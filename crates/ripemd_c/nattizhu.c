@@ -18,7 +18,7 @@ _Static_assert(sizeof(nattizhu_message) == 16 && offsetof(nattizhu_message, leng
                "a message is an address and a length");
 
 /* Messages of such a list that are handed on at once. */
-enum { GROUP = 128 };
+enum { MESSAGES_AT_ONCE = 128 };
 
 /* The words of a vector by which lists go: four on x86-64 without AVX2, where it takes less time
  * (docs/DECISIONS.md), and elsewhere eight. On ARM64 neither was timed. */
@@ -213,9 +213,9 @@ static bool readable_list(const nattizhu_message **messages, size_t count, bool 
 
 /* The messages of a list from a place on, a group at most, without null pointers. Returns how
  * many. */
-static size_t next_group(nattizhu_message group[GROUP], const nattizhu_message *messages, size_t at,
-                         size_t count) {
-  size_t n = count - at < GROUP ? count - at : GROUP;
+static size_t next_group(nattizhu_message group[MESSAGES_AT_ONCE],
+                         const nattizhu_message *messages, size_t at, size_t count) {
+  size_t n = count - at < MESSAGES_AT_ONCE ? count - at : MESSAGES_AT_ONCE;
   for (size_t i = 0; i < n; i++) {
     group[i] = messages[at + i];
     if (!group[i].bytes)
@@ -269,7 +269,7 @@ __attribute__((noinline)) static bool put_groups(nattizhu_variant variant, const
                                                  const nattizhu_message *messages, size_t count,
                                                  uint8_t *outputs, size_t outputs_length) {
   const size_t size = nattizhu_digest_size(variant);
-  nattizhu_message group[GROUP];
+  nattizhu_message group[MESSAGES_AT_ONCE];
   if (size == 0 || !is_product(outputs_length, count, size))
     return false;
   for (size_t at = 0, n; at < count; at += n) {
@@ -404,7 +404,7 @@ __attribute__((noinline)) static bool derive_groups(nattizhu_variant variant,
                                                     const nattizhu_message *passwords,
                                                     const nattizhu_message *salts, size_t count,
                                                     uint32_t rounds, size_t size, uint8_t *keys) {
-  nattizhu_message password_group[GROUP], salt_group[GROUP];
+  nattizhu_message password_group[MESSAGES_AT_ONCE], salt_group[MESSAGES_AT_ONCE];
   for (size_t at = 0, n; at < count; at += n) {
     n = next_group(password_group, passwords, at, count);
     next_group(salt_group, salts, at, count);

@@ -18,7 +18,7 @@
 enum { ENOUGH = 2047 };
 
 /* Messages of a list that are handed on at once: so many, or fewer that have so many bytes together. */
-enum { GROUP = 1024, GROUP_BYTES = 64000000 };
+enum { MESSAGES_AT_ONCE = 1024, BYTES_AT_ONCE = 64000000 };
 
 /* ---- The library */
 
@@ -673,9 +673,9 @@ static PyObject *message_of(PyObject *object) {
 }
 
 typedef struct {
-  PyObject *objects[GROUP];
-  nattizhu_message messages[GROUP];
-  uint8_t outputs[GROUP * NATTIZHU_MAX_SIZE];
+  PyObject *objects[MESSAGES_AT_ONCE];
+  nattizhu_message messages[MESSAGES_AT_ONCE];
+  uint8_t outputs[MESSAGES_AT_ONCE * NATTIZHU_MAX_SIZE];
   size_t total; /* of the bytes of the messages */
   bool last;
 } Group;
@@ -685,7 +685,7 @@ static Py_ssize_t next_group(Group *group, PyObject *iterator) {
   Py_ssize_t count = 0;
   group->total = 0;
   group->last = false;
-  while (count < GROUP && group->total < GROUP_BYTES) {
+  while (count < MESSAGES_AT_ONCE && group->total < BYTES_AT_ONCE) {
     Py_ssize_t length;
     char *bytes;
     PyObject *object = PyIter_Next(iterator);

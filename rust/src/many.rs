@@ -18,11 +18,11 @@ impl fmt::Display for InvalidLength {
 impl core::error::Error for InvalidLength {}
 
 /// Messages that are handed to the library at once.
-pub(crate) const GROUP: usize = 128;
+pub(crate) const MESSAGES_AT_ONCE: usize = 128;
 
 /// The first messages of a list, as the library takes them; behind them, empty ones.
-pub(crate) fn group<'a>(list: &[&'a [u8]]) -> [Message<'a>; GROUP] {
-    let mut group = [Message::from(&[][..]); GROUP];
+pub(crate) fn group<'a>(list: &[&'a [u8]]) -> [Message<'a>; MESSAGES_AT_ONCE] {
+    let mut group = [Message::from(&[][..]); MESSAGES_AT_ONCE];
     for (place, &bytes) in group.iter_mut().zip(list) {
         *place = Message::from(bytes);
     }
@@ -81,7 +81,10 @@ pub fn digest_list<D: Ripemd>(
     digests: &mut [Output<D>],
 ) -> Result<(), InvalidLength> {
     fits(messages.len() == digests.len())?;
-    for (messages, digests) in messages.chunks(GROUP).zip(digests.chunks_mut(GROUP)) {
+    for (messages, digests) in messages
+        .chunks(MESSAGES_AT_ONCE)
+        .zip(digests.chunks_mut(MESSAGES_AT_ONCE))
+    {
         let group = &group(messages)[..messages.len()];
         taken(sys::digest_list::<D::Variant>(group, digests));
     }
@@ -141,7 +144,10 @@ pub fn hmac_list<D: Ripemd>(
     } else {
         key
     };
-    for (texts, tags) in texts.chunks(GROUP).zip(tags.chunks_mut(GROUP)) {
+    for (texts, tags) in texts
+        .chunks(MESSAGES_AT_ONCE)
+        .zip(tags.chunks_mut(MESSAGES_AT_ONCE))
+    {
         let group = &group(texts)[..texts.len()];
         taken(sys::hmac_list::<D::Variant>(short, group, tags));
     }

@@ -1,6 +1,6 @@
 //! Keys from passwords.
 
-use crate::many::{group, GROUP};
+use crate::many::{group, MESSAGES_AT_ONCE};
 use crate::{sys, Ripemd};
 use core::fmt;
 
@@ -102,7 +102,10 @@ pub fn pbkdf2_hmac_list<D: Ripemd>(
         return Err(Pbkdf2Error::InvalidLength);
     }
     let mut keys = keys;
-    for (passwords, salts) in passwords.chunks(GROUP).zip(salts.chunks(GROUP)) {
+    for (passwords, salts) in passwords
+        .chunks(MESSAGES_AT_ONCE)
+        .zip(salts.chunks(MESSAGES_AT_ONCE))
+    {
         let n = passwords.len();
         let (now, later) = keys.split_at_mut(n * size);
         keys = later;

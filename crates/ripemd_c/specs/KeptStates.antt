@@ -46,6 +46,10 @@ bits_of_hmac bytes = 8 * (slice_index bytes 0 - 128)
 
 -- ---- calls
 
+-- For example, a state of RIPEMD-160 has taken in "ab": behind the mark 20 stand the words and the count of the start, the
+-- length 2, "ab", and 61 bytes of any value. An update with "c" makes the length 3, and puts "c" behind "ab" (TakesIn).
+-- Another call keeps a state (Keeps), does something with one (WithState), or with its digest or tag (WithOutput).
+
 -- a call makes the kept bytes of a state those of the state after a piece, and answers whether it did: it refuses
 -- exactly the bytes of no state. So if the state had taken in a message, it has taken in the message and the piece
 pub record Updates {S : Type 0} (IsKeptAs : S → List ℕ → Type 0) (fed : S → List ℕ → S)

@@ -17,7 +17,7 @@ use ripemd_batch::pbkdf2::digest_size;
 use ripemd_batch::{BatchDigest, ListHasher};
 
 // The most records of a list.
-const GROUP: usize = 32;
+const RECORDS_AT_ONCE: usize = 32;
 
 /// Writes the digests of records, `size` bytes each, to `digests`. Records and digests lie one after another. True
 /// exactly if there is such a variant, `digests` is a whole number of its digests, and `bytes` as many records.
@@ -107,7 +107,7 @@ fn write_each<D: BatchDigest>(
         return false;
     }
     let hasher = hasher.in_vectors_of(words);
-    let mut messages: [&[u8]; GROUP] = [&[]; GROUP];
+    let mut messages: [&[u8]; RECORDS_AT_ONCE] = [&[]; RECORDS_AT_ONCE];
     write_records(&hasher, bytes, size, 0, count, &mut messages, outputs);
     true
 }
@@ -143,7 +143,7 @@ fn write_records<'a, D: BatchDigest>(
     size: usize,
     at: usize,
     count: usize,
-    messages: &mut [&'a [u8]; GROUP],
+    messages: &mut [&'a [u8]; RECORDS_AT_ONCE],
     outputs: &mut [u8],
 )
     requires fits { at + count < 2 ^ 64 }
@@ -151,7 +151,7 @@ fn write_records<'a, D: BatchDigest>(
     requires room { length outputs.old ≡ count * D.Output.LEN }
     ensures { outputs.new ≡ flat_map (made_by D.step D.output hasher.now) (records at count size bytes.now) }
 {
-    if count > GROUP {
+    if count > RECORDS_AT_ONCE {
         let half = half_of(count);
         let rest = count - half;
         let (front, back) = outputs.split_at_mut(half * <D::Output as ByteArray>::LEN);

@@ -102,13 +102,13 @@ fn derived_block<D: BlockDigest>(keyed: &Hmac<D>, salt: &[u8], rounds: u32, numb
     let mut tag = first.finalize();
     let mut block = filled(D::output_bytes(&tag));
     for j in 1..rounds {
-        tag = tag_of::<D>(keyed, &tag);
+        tag = next_tag::<D>(keyed, &tag);
         block = combined(&block, &filled(D::output_bytes(&tag)));
     }
     block
 }
 
-fn tag_of<D: BlockDigest>(keyed: &Hmac<D>, tag: &D::Output) -> D::Output
+fn next_tag<D: BlockDigest>(keyed: &Hmac<D>, tag: &D::Output) -> D::Output
     ensures tag { (password : List ℕ) → StandsFor D.start D.step D.output password [] keyed.now
         → D.bytes_of result ≡ hmac (hash D.start D.step D.output) password (D.bytes_of tag.now) }
     ensures size { length (D.bytes_of result) ≡ D.OUTPUT_SIZE }

@@ -10,10 +10,10 @@ use Rattle.ripemd.proofs.facts.commands.Goals as goal
 module _ (start : List ℕ) (step : List ℕ → List ℕ → List ℕ) (output : List ℕ → List ℕ)
     (is_valid : HashState → Type 0) (state_bytes : HashState → List ℕ) where
   -- there is no second hasher after the first
-  nobody : (c : Command) (k l : Machine) → hasher_of c ≡ Some 1
+  is_not_done : (c : Command) (k l : Machine) → hasher_of c ≡ Some 1
       → Does start step output is_valid state_bytes New empty_machine k
       → Does start step output is_valid state_bytes c k l → ⊥
-  nobody _ k l named new does = grind arith
+  is_not_done _ k l named new does = grind arith
 
   no_second : (c : Command) → hasher_of c ≡ Some 1 → NoSecond start step output is_valid state_bytes c
   no_second c named = (
@@ -25,7 +25,7 @@ module _ (start : List ℕ) (step : List ℕ → List ℕ → List ℕ) (output 
       command_is = refl;
       reason = (refl, named, omega arith);
     },
-    λ digests (m, (k, new, (l, does, last)), are). nobody c k l named new does,
+    λ digests (m, (k, new, (l, does, last)), are). is_not_done c k l named new does,
   )
 
   -- no command of these is done

@@ -17,12 +17,12 @@ in_order a (suc k) m (suc n) all =
     let start : a + suc k ≡ a + 1 + k = omega arith in
     rw start (ap (λ (xs : List ℕ). a ∷ xs) (in_order (a + 1) k m n (omega (arith, all))))
 
-pub returns-then-count-gt-GROUP : goal.returns-then-count-gt-GROUP
-returns-then-count-gt-GROUP g t c =
+pub returns-then-count-gt-RECORDS_AT_ONCE : goal.returns-then-count-gt-RECORDS_AT_ONCE
+returns-then-count-gt-RECORDS_AT_ONCE g t c =
     let made : List ℕ → List ℕ = made_by g.D.Digest.step g.D.Digest.output c.args.hasher.now in
     let record_of : ℕ → List ℕ = record_at c.args.size c.args.bytes.now in
     let half : ℕ = c.half_of-half.result in
-    ap₂ ◌++◌ c.write_records.ensures c.write_records-then-count-gt-GROUP.ensures
+    ap₂ ◌++◌ c.write_records.ensures c.write_records-then-count-gt-RECORDS_AT_ONCE.ensures
     ∙ sym (flat_map-append made (map record_of (range_with_len c.args.at half)) (map record_of (range_with_len (c.args.at + half) (c.args.count - half))))
     ∙ ap (flat_map made) (sym (ap (map record_of) (in_order c.args.at half (c.args.count - half) c.args.count (omega arith))
     ∙ map-append record_of (range_with_len c.args.at half) (range_with_len (c.args.at + half) (c.args.count - half))))

@@ -26,10 +26,10 @@ loop-j-preserved g c password stands =
     let u : ℕ → List ℕ = U PRF password c.args.salt.now c.args.number in
     let j = c.loop-j.j in
     let before = c.loop-j.invariant password stands in
-    let tag : g.D.OutputSizeUser.bytes_of c.tag_of-tag.result ≡ u (j + 1) = c.tag_of-tag.ensures.tag password stands
+    let tag : g.D.OutputSizeUser.bytes_of c.next_tag-tag.result ≡ u (j + 1) = c.next_tag-tag.ensures.tag password stands
     ∙ ap (PRF password) before.tag ∙ sym (next_U PRF password c.args.salt.now c.args.number j c.loop-j.auto.j) in
     let next = next_F PRF password c.args.salt.now c.args.number j c.loop-j.auto.j in
-    let same : length (so_far j) ≡ length (u (j + 1)) = before.size ∙ sym c.tag_of-tag.ensures.size ∙ ap length tag in
+    let same : length (so_far j) ≡ length (u (j + 1)) = before.size ∙ sym c.next_tag-tag.ensures.size ∙ ap length tag in
     record {
       tag = tag;
       block = cc (combined_filled (so_far j) (u (j + 1)) same);
