@@ -79,14 +79,11 @@ fn pop(text: &mut Vec<u8>, end: u8) -> bool
     ensures found { result ≡ ends_with_byte end text.old.items }
     ensures text { text.new.items ≡ strip_last end text.old.items }
 {
-    let Some(last) = text.len().checked_sub(1) else {
-        return false;
-    };
-    if text[last] != end {
-        return false;
+    let found = text.as_slice().ends_with(&[end]);
+    if found {
+        text.truncate(text.len() - 1);
     }
-    text.truncate(last);
-    true
+    found
 }
 
 /// A list, as it is read.

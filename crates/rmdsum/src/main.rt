@@ -104,7 +104,7 @@ impl Worker for Host<'_> {
             &System::new(self.rt, self.progress),
             style,
             &slices_of(self.rt.alloc(), names)?,
-            &mut Console::of_files(self.rt),
+            &mut Console::new(self.rt, b"", None),
         )
     }
 
@@ -128,7 +128,7 @@ impl Worker for Host<'_> {
             rules,
             &mut self.layout,
             &mut List::new(buffered(self.rt, source)?),
-            &mut Console::of_list(self.rt, shown, rules.only),
+            &mut Console::new(self.rt, shown, rules.only),
         )
     }
 

@@ -172,15 +172,8 @@ pub struct Console<'a> {
 }
 
 impl<'a> Console<'a> {
-    /// For files that no list names.
-    pub fn of_files(rt: &'a HostRuntime) -> Console<'a>
-        ensures { result.failure ≡ None }
-    {
-        Console::of_list(rt, b"", None)
-    }
-
-    /// For a list and its files. `only`: the one hash of its lines.
-    pub fn of_list(rt: &'a HostRuntime, list: &'a [u8], only: Option<Variant>) -> Console<'a>
+    /// For a list and its files, or with no name for files that none names. `only`: the one hash of its lines.
+    pub fn new(rt: &'a HostRuntime, list: &'a [u8], only: Option<Variant>) -> Console<'a>
         ensures { result.failure ≡ None }
     {
         Console {
