@@ -70,12 +70,13 @@ def odd(*_):
 FLAGS = {
     "logic": (none, none), "right": (carry_of_shift, odd), "left": (partial(carry_of_shift, way=1), odd),
     "add": (carry_of_sum, odd), "sub": (carry_of_difference, odd), "product": (carry_of_product, carry_of_product),
+    "bit": (lambda size, result, a, n: fixed(a, "a bit") >> fixed(n, "a bit") % (8 * size) & 1, odd),
     "kept": (lambda size, result, flags: flags[0](*flags[2:]), odd),  # the carry is that of the flags before
 }
 # Of each instruction the number of its sources, its function, and the flags.
 NUMBERS = {
     **dict.fromkeys(("mov", "movabs", "movzx", "push", "jmp", "call"), (1, lambda size, a: a, None)),
-    "lea": (1, cut, None), "neg": (1, lambda size, a: minus(size, 0, a), "sub"),
+    "bt": (2, lambda *_: None, "bit"), "lea": (1, cut, None), "neg": (1, lambda size, a: minus(size, 0, a), "sub"),
     **dict.fromkeys(("bswap", "movbe"), (1, swapped, None)),
     "not": (1, lambda size, a: bitwise(not_, size, a), None),
     "inc": (1, lambda size, a: plus(size, a, 1), "kept"), "dec": (1, lambda size, a: minus(size, a, 1), "kept"),
@@ -300,8 +301,9 @@ class X86(Machine):
             reads = [lambda: 0] * 2
         if name in USED:
             reads.append(lambda: self.flag(USED[name]))
-        write = {"call": lambda to: self.link(after) or fixed(to), "push": self.link, "cmp": none, "test": none,
-                 **dict.fromkeys(JUMPS, fixed)}.get(name) or self.writer(ops[0], ins)
+        write = {"call": lambda to: self.link(after) or fixed(to), "push": self.link,
+                 **dict.fromkeys(("bt", "cmp", "test"), none), **dict.fromkeys(JUMPS, fixed)
+                 }.get(name) or self.writer(ops[0], ins)
 
         def execute():
             sources = [read() for read in reads]
