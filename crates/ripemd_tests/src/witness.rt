@@ -99,19 +99,17 @@ fn meeting(place: usize, state: u8, byte: u8) -> Meeting<[u8; 2]> {
     meeting
 }
 
+fn is_collision(left: Meeting<[u8; 2]>, right: Meeting<[u8; 2]>) -> bool {
+    check_collision::<SumsFunction>(&Collision { left, right })
+}
+
 // One meeting twice is no collision, nor are two whose steps differ.
 #[test]
 fn checks_a_collision(rt: HostRuntime) {
     let left = meeting(0, 5, 0);
     let right = meeting(0, 0, 5);
-    for (left, right, collides) in [
-        (left, right, true),
-        (left, meeting(0, 0, 6), false),
-        (left, left, false),
-        (right, right, false),
-        (left, meeting(9, 5, 0), false),
-    ] {
-        let found = check_collision::<SumsFunction>(&Collision { left, right });
-        assert_eq!(rt; found, collides, "{} at {}", right.state[0], right.place);
-    }
+    assert!(rt; is_collision(left, right));
+    assert!(rt; !is_collision(left, meeting(0, 0, 6)));
+    assert!(rt; !is_collision(left, left) && !is_collision(right, right));
+    assert!(rt; !is_collision(left, meeting(9, 5, 0)));
 }
