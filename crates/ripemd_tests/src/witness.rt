@@ -99,7 +99,7 @@ fn meeting(place: usize, state: u8, byte: u8) -> Meeting<[u8; 2]> {
     meeting
 }
 
-fn collide(left: Meeting<[u8; 2]>, right: Meeting<[u8; 2]>) -> bool {
+fn meetings_collide(left: Meeting<[u8; 2]>, right: Meeting<[u8; 2]>) -> bool {
     check_collision::<SumsFunction>(&Collision { left, right })
 }
 
@@ -108,8 +108,8 @@ fn collide(left: Meeting<[u8; 2]>, right: Meeting<[u8; 2]>) -> bool {
 fn checks_a_collision(rt: HostRuntime) {
     let left = meeting(0, 5, 0);
     let right = meeting(0, 0, 5);
-    assert!(rt; collide(left, right));
-    assert!(rt; !collide(left, meeting(0, 0, 6)));
-    assert!(rt; !collide(left, left) && !collide(right, right));
-    assert!(rt; !collide(left, meeting(9, 5, 0)));
+    assert!(rt; meetings_collide(left, right));
+    assert!(rt; !meetings_collide(left, meeting(0, 0, 6)));
+    assert!(rt; !meetings_collide(left, left) && !meetings_collide(right, right));
+    assert!(rt; !meetings_collide(left, meeting(9, 5, 0)));
 }
