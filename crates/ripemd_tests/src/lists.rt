@@ -1,8 +1,10 @@
 //! Digests of many messages, and tags of many texts under one key.
 
-use crate::assert_each;
 use crate::bytes::{counted, in_turn};
-use crate::digits::{Ripemd128Function, Ripemd160Function, are_written};
+use crate::digits::{
+    OF_128, OF_160, OF_256, OF_320, Ripemd128Function, Ripemd160Function, Ripemd256Function,
+    Ripemd320Function, Vectors, are_written,
+};
 use crate::tags::PUBLISHED;
 use ripemd::block_api::ByteArray;
 use ripemd::{BlockHasher, Digest};
@@ -22,9 +24,8 @@ fn alone<F: BatchFunction>(key: Option<&[u8]>, message: &[u8]) -> F::Digest {
     }
 }
 
-// Whether a list of at most 40 messages, by eights and by fours, has the digests and the tags of its messages alone.
-fn agrees<F: BatchFunction>(messages: &[&[u8]]) -> bool {
-    let mut places = [F::Digest::zeros(); 40];
+// Whether a list, by eights and by fours, has the digests and the tags of its messages alone.
+fn agrees<F: BatchFunction>(messages: &[&[u8]], places: &mut [F::Digest]) -> bool {
     let Some(outputs) = places.get_mut(..messages.len()) else {
         return false;
     };
@@ -51,7 +52,7 @@ const LENGTHS: [usize; 20] = [
 ];
 
 // Whether lists of up to 40 messages of mixed lengths agree.
-fn mixed_agree<F: BatchFunction>() -> bool {
+fn mixed_agree<F: BatchFunction>(places: &mut [F::Digest]) -> bool {
     let bytes: [u8; 500] = counted(0);
     let mut messages: [&[u8]; 40] = [&[]; 40];
     for i in 0..40usize {
@@ -62,7 +63,7 @@ fn mixed_agree<F: BatchFunction>() -> bool {
         messages[i] = message;
     }
     for count in [0, 1, 2, 3, 4, 5, 8, 9, 12, 13, 24, 31, 40] {
-        if !agrees::<F>(&messages[..count]) {
+        if !agrees::<F>(&messages[..count], places) {
             return false;
         }
     }
@@ -70,7 +71,7 @@ fn mixed_agree<F: BatchFunction>() -> bool {
 }
 
 // Whether lists of one length and another agree: some go by eights, some by fours, some one by one.
-fn uneven_agree<F: BatchFunction>() -> bool {
+fn uneven_agree<F: BatchFunction>(places: &mut [F::Digest]) -> bool {
     let bytes: [u8; 6_400] = counted(0);
     for (first, length, count, other) in [
         (1, 4_448, 8, 1_824),
@@ -79,52 +80,79 @@ fn uneven_agree<F: BatchFunction>() -> bool {
         (4, 3_168, 8, 0),
         (1, 6_400, 32, 0),
     ] {
-        let mut messages: [&[u8]; 32] = [&bytes[..other]; 32];
-        for i in 0..first {
-            messages[i] = &bytes[..length];
-        }
-        if !agrees::<F>(&messages[..count]) {
+        let (Some(long), Some(short)) = (bytes.get(..length), bytes.get(..other)) else {
             return false;
+        };
+        let mut messages: [&[u8]; 32] = [short; 32];
+        for message in messages.iter_mut().take(first) {
+            *message = long;
+        }
+        match messages.get(..count) {
+            Some(messages) if agrees::<F>(messages, places) => {}
+            _ => return false,
         }
     }
     true
 }
 
+fn all_agree<F: BatchFunction>(places: &mut [F::Digest]) -> bool {
+    mixed_agree::<F>(places) && uneven_agree::<F>(places)
+}
+
 #[test]
 fn lists_agree(rt: HostRuntime) {
-    assert_each!(rt; mixed_agree(), uneven_agree());
+    assert!(rt; all_agree::<Ripemd128Function>(&mut [[0; 16]; 40]));
+    assert!(rt; all_agree::<Ripemd160Function>(&mut [[0; 20]; 40]));
+    assert!(rt; all_agree::<Ripemd256Function>(&mut [[0; 32]; 40]));
+    assert!(rt; all_agree::<Ripemd320Function>(&mut [[0; 40]; 40]));
 }
 
 fn have_outputs<F: BatchFunction>(
     hasher: &ListHasher<BlockHasher<F>>,
-    messages: &[&[u8]; 9],
-    wanted: &[&str; 9],
+    messages: &[&[u8]],
+    wanted: &[&str],
+    places: &mut [F::Digest],
 ) -> bool {
-    let mut outputs = [F::Digest::zeros(); 9];
-    hasher.hash_each(messages, &mut outputs);
-    are_written::<BlockHasher<F>>(&outputs, wanted)
+    if messages.len() != places.len() {
+        return false;
+    }
+    hasher.hash_each(messages, places);
+    are_written::<BlockHasher<F>>(places, wanted)
 }
 
 // Nine messages, eight at once and one alone.
-fn have_digests<F: BatchFunction>(empty: &str, a: &str, abc: &str) -> bool {
+fn have_digests<F: BatchFunction>(of: &Vectors, places: &mut [F::Digest]) -> bool {
     let messages: [&[u8]; 9] = [b"", b"a", b"abc", b"", b"a", b"abc", b"", b"a", b"abc"];
+    let [empty, a, abc] = [of.empty, of.a, of.abc];
     let wanted = [empty, a, abc, empty, a, abc, empty, a, abc];
-    have_outputs::<F>(&ListHasher::new(), &messages, &wanted)
+    have_outputs::<F>(&ListHasher::new(), &messages, &wanted, places)
 }
 
 #[test]
 fn published_digests(rt: HostRuntime) {
-    assert_each!(rt; have_digests(empty, a, abc));
+    assert!(rt; have_digests::<Ripemd128Function>(&OF_128, &mut [[0; 16]; 9]));
+    assert!(rt; have_digests::<Ripemd160Function>(&OF_160, &mut [[0; 20]; 9]));
+    assert!(rt; have_digests::<Ripemd256Function>(&OF_256, &mut [[0; 32]; 9]));
+    assert!(rt; have_digests::<Ripemd320Function>(&OF_320, &mut [[0; 40]; 9]));
 }
 
-// The last two texts of RFC 2286, in turn under their key.
+// Two texts in turn under a key.
+fn have_tags<F: BatchFunction>(
+    key: &[u8],
+    texts: [&[u8]; 2],
+    tags: [&str; 2],
+    places: &mut [F::Digest],
+) -> bool {
+    let texts = in_turn(texts[0], texts[1]);
+    let wanted = in_turn(tags[0], tags[1]);
+    have_outputs::<F>(&ListHasher::keyed(key), &texts, &wanted, places)
+}
+
+// The last two texts of RFC 2286.
 #[test]
 fn published_tags(rt: HostRuntime) {
     let (key, _, a, a_128, a_160) = PUBLISHED[5];
     let (_, _, b, b_128, b_160) = PUBLISHED[6];
-    let texts = in_turn(a, b);
-    let wanted = in_turn(a_128, b_128);
-    assert!(rt; have_outputs::<Ripemd128Function>(&ListHasher::keyed(key), &texts, &wanted));
-    let wanted = in_turn(a_160, b_160);
-    assert!(rt; have_outputs::<Ripemd160Function>(&ListHasher::keyed(key), &texts, &wanted));
+    assert!(rt; have_tags::<Ripemd128Function>(key, [a, b], [a_128, b_128], &mut [[0; 16]; 9]));
+    assert!(rt; have_tags::<Ripemd160Function>(key, [a, b], [a_160, b_160], &mut [[0; 20]; 9]));
 }

@@ -1,6 +1,6 @@
 //! The callers that the documents show.
 
-use crate::digits::{OF_128, OF_160, Ripemd160Function, bytes_of, is_written};
+use crate::digits::{OF_160, Ripemd160Function, bytes_of};
 use crate::tags::PUBLISHED;
 use ripemd::block_api::SerializableState;
 use ripemd::replay::Command;
@@ -27,6 +27,11 @@ fn abc() -> [u8; 20] {
     bytes_of(OF_160.abc)
 }
 
+// That by RIPEMD-128.
+const ABC_128: [u8; 16] = [
+    0xc1, 0x4a, 0x12, 0x19, 0x9c, 0x66, 0xe4, 0xba, 0x84, 0x63, 0x6b, 0x0f, 0x69, 0x14, 0x4c, 0x77,
+];
+
 // The first tag of RFC 2286.
 fn hi_there() -> [u8; 20] {
     bytes_of(PUBLISHED[0].4)
@@ -34,15 +39,14 @@ fn hi_there() -> [u8; 20] {
 
 #[test]
 fn digests(rt: HostRuntime) {
-    let abc_128: [u8; 16] = bytes_of(OF_128.abc);
     assert!(rt; digest_of_short(b"abc") == abc());
     assert!(rt; digest_of(b"abc") == abc());
     let (by_128, by_160, _, _) = digests_of(b"abc");
-    assert!(rt; by_128 == abc_128 && by_160 == abc());
+    assert!(rt; by_128 == ABC_128 && by_160 == abc());
     assert!(rt; digest_of_two(b"a", b"bc") == abc());
     assert!(rt; digest_of_three(b"a", b"", b"bc") == abc());
     assert!(rt; prefixed_digest_160(b"ab", b"c") == abc());
-    assert!(rt; prefixed_digest::<Ripemd128>(b"ab", b"c") == abc_128);
+    assert!(rt; prefixed_digest::<Ripemd128>(b"ab", b"c") == ABC_128);
 }
 
 #[test]
@@ -53,11 +57,10 @@ fn commands(rt: HostRuntime) {
 
 #[test]
 fn comparisons(rt: HostRuntime) {
-    let abc_128: [u8; 16] = bytes_of(OF_128.abc);
     assert!(rt; has_digest(b"abc", &abc()));
     assert!(rt; !has_digest(b"abd", &abc()));
-    assert!(rt; has_digest_by::<Ripemd128>(b"abc", &abc_128));
-    assert!(rt; !has_digest_by::<Ripemd128>(b"abc", &abc_128[..15]));
+    assert!(rt; has_digest_by::<Ripemd128>(b"abc", &ABC_128));
+    assert!(rt; !has_digest_by::<Ripemd128>(b"abc", &ABC_128[..15]));
     assert!(rt; !has_digest_by::<Ripemd128>(b"abc", &abc()));
 }
 
@@ -194,7 +197,8 @@ fn keys_of_many(rt: HostRuntime) {
     let salts: [&[u8]; 2] = [b"salt", b"pepper"];
     let mut keys = [0; 64];
     assert!(rt; batch::keys_of(&passwords, &salts, 2, &mut keys).is_ok());
-    assert!(rt; is_written(&keys[..32], KEYS[0]) && is_written(&keys[32..], KEYS[1]));
+    let wanted: [[u8; 32]; 2] = [bytes_of(KEYS[0]), bytes_of(KEYS[1])];
+    assert!(rt; keys.as_chunks::<32>().0 == wanted.as_slice());
     assert!(rt; batch::keys_of(&passwords, &salts, 0, &mut keys).is_err());
 }
 
