@@ -2,11 +2,32 @@
 
 ghost use Rattle.std.specs.Prelude.{◌≡◌, ◌++◌};
 
+use crate::four::Four;
 use crate::lanes::Lanes;
 use crate::message::transposed_words;
+use std::marker::Model;
 use std::simd::prelude::*;
 
-impl Lanes for u32x8 {
+/// The words of eight messages.
+#[derive(Clone, Copy)]
+pub struct Eight {
+    lanes: u32x8,
+}
+
+impl Model for Eight {
+    ghost use Rattle.std.specs.Prelude.{ℕ, List};
+    ghost use Rattle.std.proofs.Common.{refl};
+
+    ghost Value = { List ℕ };
+
+    ghost view = { λ w. w.lanes };
+
+    ghost inverse = { λ xs. record { lanes = xs } };
+
+    ghost inverse_ok = { λ w h. refl };
+}
+
+impl Lanes for Eight {
     ghost use Rattle.std.proofs.Common.{rules};
 
     ghost words = { λ v. v };
@@ -14,59 +35,71 @@ impl Lanes for u32x8 {
     ghost COUNT = { 8 };
 
     #[inline(always)]
-    fn of(array: [u32; 8]) -> u32x8 {
-        u32x8::from_array(array)
+    fn of(array: [u32; 8]) -> Eight {
+        Eight {
+            lanes: u32x8::from_array(array),
+        }
     }
 
     #[inline(always)]
     fn word(self, j: usize) -> u32 {
-        self.to_array()[j]
+        self.lanes.to_array()[j]
     }
 
     #[inline(always)]
-    fn splat(word: u32) -> u32x8 {
-        u32x8::splat(word)
+    fn splat(word: u32) -> Eight {
+        Eight {
+            lanes: u32x8::splat(word),
+        }
     }
 
     #[inline(always)]
-    fn known(self) -> u32x8 {
+    fn known(self) -> Eight {
         self
     }
 
     #[inline(always)]
-    fn add(self, other: u32x8) -> u32x8 {
-        self + other
+    fn add(self, other: Eight) -> Eight {
+        Eight {
+            lanes: self.lanes + other.lanes,
+        }
     }
 
     #[inline(always)]
-    fn xor(self, other: u32x8) -> u32x8 {
-        self ^ other
+    fn xor(self, other: Eight) -> Eight {
+        Eight {
+            lanes: self.lanes ^ other.lanes,
+        }
     }
 
     #[inline(always)]
-    fn and(self, other: u32x8) -> u32x8 {
-        self & other
+    fn and(self, other: Eight) -> Eight {
+        Eight {
+            lanes: self.lanes & other.lanes,
+        }
     }
 
     #[inline(always)]
-    fn not(self) -> u32x8 {
-        !self
+    fn not(self) -> Eight {
+        Eight { lanes: !self.lanes }
     }
 
     #[inline(always)]
-    fn rotate(self, by: u32) -> u32x8 {
-        (self << u32x8::splat(by)) | (self >> u32x8::splat(32 - by))
+    fn rotate(self, by: u32) -> Eight {
+        Eight {
+            lanes: (self.lanes << u32x8::splat(by)) | (self.lanes >> u32x8::splat(32 - by)),
+        }
     }
 
     #[inline(always)]
-    fn four_message_words(blocks: &[&[u8; 64]; 8], i: usize) -> [u32x8; 4] {
+    fn four_message_words(blocks: &[&[u8; 64]; 8], i: usize) -> [Eight; 4] {
         let low = transposed_words(blocks, 0, i);
         let high = transposed_words(blocks, 4, i);
         [
-            joined(low[0], high[0]),
-            joined(low[1], high[1]),
-            joined(low[2], high[2]),
-            joined(low[3], high[3]),
+            Eight::joined(low[0], high[0]),
+            Eight::joined(low[1], high[1]),
+            Eight::joined(low[2], high[2]),
+            Eight::joined(low[3], high[3]),
         ]
     }
 
@@ -75,10 +108,14 @@ impl Lanes for u32x8 {
     ghost small = { Prim.search rules };
 }
 
-// The words of messages 0 to 3, and 4 to 7.
-#[inline(always)]
-fn joined(low: u32x4, high: u32x4) -> u32x8
-    ensures { result ≡ low ++ high }
-{
-    low.shuffle(high, [0, 1, 2, 3, 4, 5, 6, 7])
+impl Eight {
+    // The words of messages 0 to 3, and 4 to 7.
+    #[inline(always)]
+    fn joined(low: Four, high: Four) -> Eight
+        ensures { result ≡ low ++ high }
+    {
+        Eight {
+            lanes: low.lanes().shuffle(high.lanes(), [0, 1, 2, 3, 4, 5, 6, 7]),
+        }
+    }
 }

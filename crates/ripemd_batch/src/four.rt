@@ -1,12 +1,34 @@
 //! Four words, one of each message.
 
 ghost use Rattle.std.specs.Prelude.{◌≡◌, ◌<◌, ◌+◌, ◌*◌, ℕ, [], ◌∷◌, ◌++◌, length, slice_index, slice_index_or};
+ghost use Rattle.ripemd_block.specs.Standard.Words.{message_word};
 
 use crate::lanes::Lanes;
 use crate::message::transposed_words;
+use ripemd_block::message::four_words;
+use std::marker::Model;
 use std::simd::prelude::*;
 
-impl Lanes for u32x4 {
+/// The words of four messages.
+#[derive(Clone, Copy)]
+pub struct Four {
+    lanes: u32x4,
+}
+
+impl Model for Four {
+    ghost use Rattle.std.specs.Prelude.{ℕ, List};
+    ghost use Rattle.std.proofs.Common.{refl};
+
+    ghost Value = { List ℕ };
+
+    ghost view = { λ w. w.lanes };
+
+    ghost inverse = { λ xs. record { lanes = xs } };
+
+    ghost inverse_ok = { λ w h. refl };
+}
+
+impl Lanes for Four {
     ghost use Rattle.std.proofs.Common.{rules};
 
     ghost words = { λ v. v };
@@ -14,52 +36,64 @@ impl Lanes for u32x4 {
     ghost COUNT = { 4 };
 
     #[inline(always)]
-    fn of(array: [u32; 8]) -> u32x4 {
-        u32x4::from_array([array[0], array[1], array[2], array[3]])
+    fn of(array: [u32; 8]) -> Four {
+        Four {
+            lanes: u32x4::from_array([array[0], array[1], array[2], array[3]]),
+        }
     }
 
     #[inline(always)]
     fn word(self, j: usize) -> u32 {
-        self.to_array()[j]
+        self.lanes.to_array()[j]
     }
 
     #[inline(always)]
-    fn splat(word: u32) -> u32x4 {
-        u32x4::splat(word)
+    fn splat(word: u32) -> Four {
+        Four {
+            lanes: u32x4::splat(word),
+        }
     }
 
     #[inline(always)]
-    fn known(self) -> u32x4 {
+    fn known(self) -> Four {
         self
     }
 
     #[inline(always)]
-    fn add(self, other: u32x4) -> u32x4 {
-        self + other
+    fn add(self, other: Four) -> Four {
+        Four {
+            lanes: self.lanes + other.lanes,
+        }
     }
 
     #[inline(always)]
-    fn xor(self, other: u32x4) -> u32x4 {
-        self ^ other
+    fn xor(self, other: Four) -> Four {
+        Four {
+            lanes: self.lanes ^ other.lanes,
+        }
     }
 
     #[inline(always)]
-    fn and(self, other: u32x4) -> u32x4 {
-        self & other
+    fn and(self, other: Four) -> Four {
+        Four {
+            lanes: self.lanes & other.lanes,
+        }
     }
 
     #[inline(always)]
-    fn not(self) -> u32x4 {
-        !self
+    fn not(self) -> Four {
+        Four { lanes: !self.lanes }
     }
 
     #[inline(always)]
-    fn rotate(self, by: u32) -> u32x4 {
-        (self << u32x4::splat(by)) | (self >> u32x4::splat(32 - by))
+    fn rotate(self, by: u32) -> Four {
+        Four {
+            lanes: (self.lanes << u32x4::splat(by)) | (self.lanes >> u32x4::splat(32 - by)),
+        }
     }
 
     #[inline(always)]
-    fn four_message_words(blocks: &[&[u8; 64]; 8], i: usize) -> [u32x4; 4] {
+    fn four_message_words(blocks: &[&[u8; 64]; 8], i: usize) -> [Four; 4] {
         transposed_words(blocks, 0, i)
     }
 
@@ -68,26 +102,50 @@ impl Lanes for u32x4 {
     ghost small = { Prim.search rules };
 }
 
-// Words 0 and 1 of two vectors in turn, and words 2 and 3.
-#[inline(always)]
-fn interleaved(a: u32x4, b: u32x4) -> (u32x4, u32x4)
-    ensures low { result.0 ≡ slice_index a 0 ∷ slice_index b 0
-        ∷ slice_index a 1 ∷ slice_index b 1 ∷ [] }
-    ensures high { result.1 ≡ slice_index a 2 ∷ slice_index b 2
-        ∷ slice_index a 3 ∷ slice_index b 3 ∷ [] }
-{
-    a.interleave(b)
-}
+impl Four {
+    /// Its words as a vector.
+    #[inline(always)]
+    pub(crate) fn lanes(self) -> u32x4
+        ensures { result ≡ self }
+    {
+        self.lanes
+    }
 
-/// Vector `k` has word `k` of each of the four vectors.
-#[inline(always)]
-pub(crate) fn transposed(a: u32x4, b: u32x4, c: u32x4, d: u32x4) -> [u32x4; 4]
-    ensures { (k : ℕ) → k < 4 → slice_index_or result k []
-        ≡ slice_index a k ∷ slice_index b k ∷ slice_index c k ∷ slice_index d k ∷ [] }
-{
-    let (ac_low, ac_high) = interleaved(a, c);
-    let (bd_low, bd_high) = interleaved(b, d);
-    let (first, second) = interleaved(ac_low, bd_low);
-    let (third, fourth) = interleaved(ac_high, bd_high);
-    [first, second, third, fourth]
+    /// Message words `4 * i` to `4 * i + 3` of a block.
+    #[inline(always)]
+    pub(crate) fn of_block(block: &[u8], i: usize) -> Four
+        requires size { length block.now ≡ 64 }
+        requires row { i < 4 }
+        ensures { (k : ℕ) → k < 4
+            → slice_index result k ≡ message_word block.now (4 * i + k) }
+    {
+        Four {
+            lanes: four_words(block, i),
+        }
+    }
+
+    /// Words 0 and 1 of two vectors in turn, and words 2 and 3.
+    #[inline(always)]
+    pub(crate) fn interleave(self, other: Four) -> (Four, Four)
+        ensures low { result.0 ≡ slice_index self 0 ∷ slice_index other 0
+            ∷ slice_index self 1 ∷ slice_index other 1 ∷ [] }
+        ensures high { result.1 ≡ slice_index self 2 ∷ slice_index other 2
+            ∷ slice_index self 3 ∷ slice_index other 3 ∷ [] }
+    {
+        let (low, high) = self.lanes.interleave(other.lanes);
+        (Four { lanes: low }, Four { lanes: high })
+    }
+
+    /// Vector `k` has word `k` of each of the four vectors.
+    #[inline(always)]
+    pub(crate) fn transposed(a: Four, b: Four, c: Four, d: Four) -> [Four; 4]
+        ensures { (k : ℕ) → k < 4 → slice_index_or result k []
+            ≡ slice_index a k ∷ slice_index b k ∷ slice_index c k ∷ slice_index d k ∷ [] }
+    {
+        let (ac_low, ac_high) = a.interleave(c);
+        let (bd_low, bd_high) = b.interleave(d);
+        let (first, second) = ac_low.interleave(bd_low);
+        let (third, fourth) = ac_high.interleave(bd_high);
+        [first, second, third, fourth]
+    }
 }

@@ -6,6 +6,8 @@ ghost use Rattle.ripemd_block.specs.Standard.Words.{block_size};
 ghost use Rattle.ripemd_block.specs.Standard.Hashing.{blocks};
 ghost use Rattle.ripemd_batch.specs.Lanes.{HasWords, blocks_of, hash_after, hashed_again, list_at, listed, padded_after, targets};
 
+use crate::eight::Eight;
+use crate::four::Four;
 use crate::lane_states::LaneStates;
 use crate::lanes::Lanes;
 use crate::message::message_words;
@@ -17,7 +19,6 @@ use ripemd_block::block_api::{
     BlockFunction, ByteArray, ListBlockFunction, Ripemd128Function, Ripemd160Function,
     Ripemd256Function, Ripemd320Function, walk_digest, walk_message,
 };
-use std::simd::prelude::*;
 
 /// A hash function that can hash four or eight messages at once.
 pub trait BatchDigest: BlockDigest<Output: ByteArray> {
@@ -87,9 +88,9 @@ pub trait BatchFunction: ListBlockFunction {
 }
 
 impl BatchFunction for Ripemd128Function {
-    type Four = [u32x4; 4];
+    type Four = [Four; 4];
 
-    type Eight = [u32x8; 4];
+    type Eight = [Eight; 4];
 
     ghost use Rattle.std.proofs.Common.{arith, refl};
 
@@ -101,9 +102,9 @@ impl BatchFunction for Ripemd128Function {
 }
 
 impl BatchFunction for Ripemd160Function {
-    type Four = [u32x4; 5];
+    type Four = [Four; 5];
 
-    type Eight = [u32x8; 5];
+    type Eight = [Eight; 5];
 
     ghost use Rattle.std.proofs.Common.{arith, refl};
 
@@ -115,9 +116,9 @@ impl BatchFunction for Ripemd160Function {
 }
 
 impl BatchFunction for Ripemd256Function {
-    type Four = [u32x4; 8];
+    type Four = [Four; 8];
 
-    type Eight = [u32x8; 8];
+    type Eight = [Eight; 8];
 
     ghost use Rattle.std.proofs.Common.{arith, refl};
 
@@ -129,9 +130,9 @@ impl BatchFunction for Ripemd256Function {
 }
 
 impl BatchFunction for Ripemd320Function {
-    type Four = [u32x4; 10];
+    type Four = [Four; 10];
 
-    type Eight = [u32x8; 10];
+    type Eight = [Eight; 10];
 
     ghost use Rattle.std.proofs.Common.{arith, refl};
 

@@ -4,10 +4,8 @@ ghost use Rattle.std.specs.Prelude.{◌≡◌, ◌<◌, ◌≤◌, ◌+◌, ◌*
 ghost use Rattle.ripemd_block.specs.Standard.Words.{message_word};
 ghost use Rattle.ripemd_batch.specs.Lanes.{HasWords, list_at, targets};
 
-use crate::four::transposed;
+use crate::four::Four;
 use crate::lanes::Lanes;
-use ripemd_block::message::four_words;
-use std::simd::prelude::*;
 
 /// The sixteen message words of the first `COUNT` blocks.
 #[inline(always)]
@@ -26,7 +24,7 @@ pub(crate) fn message_words<V: Lanes>(blocks: &[&[u8; 64]; 8]) -> [V; 16]
 
 /// Message words `4 * i` to `4 * i + 3` of the four blocks from block `from` on.
 #[inline(always)]
-pub(crate) fn transposed_words(blocks: &[&[u8; 64]; 8], from: usize, i: usize) -> [u32x4; 4]
+pub(crate) fn transposed_words(blocks: &[&[u8; 64]; 8], from: usize, i: usize) -> [Four; 4]
     requires blocks { from ≤ 4 }
     requires words { i < 4 }
     ensures { (k : ℕ) → k < 4 → slice_index_or result k []
@@ -35,7 +33,7 @@ pub(crate) fn transposed_words(blocks: &[&[u8; 64]; 8], from: usize, i: usize) -
         ∷ message_word (list_at (targets blocks.now) (from + 2)) (4 * i + k)
         ∷ message_word (list_at (targets blocks.now) (from + 3)) (4 * i + k) ∷ [] }
 {
-    transposed(
+    Four::transposed(
         words_of_block(blocks, from, i),
         words_of_block(blocks, from + 1, i),
         words_of_block(blocks, from + 2, i),
@@ -45,11 +43,11 @@ pub(crate) fn transposed_words(blocks: &[&[u8; 64]; 8], from: usize, i: usize) -
 
 // Message words `4 * i` to `4 * i + 3` of block `j`.
 #[inline(always)]
-fn words_of_block(blocks: &[&[u8; 64]; 8], j: usize, i: usize) -> u32x4
+fn words_of_block(blocks: &[&[u8; 64]; 8], j: usize, i: usize) -> Four
     requires block { j < 8 }
     requires words { i < 4 }
     ensures { (k : ℕ) → k < 4 → slice_index result k
         ≡ message_word (list_at (targets blocks.now) j) (4 * i + k) }
 {
-    four_words(blocks[j], i)
+    Four::of_block(blocks[j], i)
 }

@@ -3,7 +3,7 @@ use Rattle.std.proofs.lemmas.List.{get_or_default}
 use Rattle.ripemd_block.specs.Standard.Words.{message_word}
 use Rattle.ripemd_batch.specs.Lanes.{list_at, targets}
 use Rattle.ripemd_batch.proofs.EightLanes.{below_four}
-use Rattle.ripemd_batch.proofs.four.U32x4Lanes.four_message_words.Goals as goal
+use Rattle.ripemd_batch.proofs.four.FourLanes.four_message_words.Goals as goal
 
 pub returns : goal.returns
 returns c k small j lane d =
