@@ -1,4 +1,4 @@
-/** Bytes, or a text, which stands for its UTF-8. */
+/** Bytes, or a text, which stands for its UTF-8. Anything else is refused by a TypeError. */
 export type Input = Uint8Array | string;
 
 /** A source of bytes: a Blob or File, a stream of bytes, or an iterable of bytes and texts. */
@@ -92,7 +92,7 @@ export declare const ripemd256: Hasher;
 export declare const ripemd320: Hasher;
 export declare const hmac: HmacFunction;
 
-/** Derives a key from a password (RFC 8018). An Error for numbers out of range, or where memory is too small. */
+/** Derives a key from a password (RFC 8018). A TypeError for numbers out of range, an Error where memory is too small. */
 export declare function pbkdf2(hash: HashFunction, password: Input, salt: Input, options: Pbkdf2Options): Uint8Array;
 
 /** The same key, derived in turns with other tasks. */

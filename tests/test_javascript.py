@@ -3,6 +3,7 @@ docs/JAVASCRIPT.md, and its sizes. Nothing is downloaded."""
 import fcntl
 import gzip
 import json
+import os
 import select
 import shutil
 import subprocess
@@ -140,12 +141,12 @@ def test_commands_of_the_page(archive, tmp_path):
 
 
 def test_a_build_that_waits_says_so():
-    with (ROOT / "crates.txt").open() as lock:
-        fcntl.flock(lock, fcntl.LOCK_EX)
-        with subprocess.Popen([ROOT / "build/crate", "ripemd_c"], stderr=subprocess.PIPE, text=True) as build:
-            told, _, _ = select.select([build.stderr], [], [], 60)
-            fcntl.flock(lock, fcntl.LOCK_UN)
-            assert build.stderr.read() == "make: waiting for another build\n" and told
+    lock = os.open(ROOT / "crates/ripemd_c", os.O_RDONLY)
+    fcntl.flock(lock, fcntl.LOCK_EX)
+    with subprocess.Popen([ROOT / "build/crate", "ripemd_c"], stderr=subprocess.PIPE, text=True) as build:
+        told, _, _ = select.select([build.stderr], [], [], 60)
+        os.close(lock)
+        assert build.stderr.read() == "make: waiting for another build\n" and told
     assert build.returncode == 0
 
 

@@ -31,7 +31,7 @@ const hmacKind = (bits, size = bits / 8, n = BigInt(size)) => ({
 });
 
 function ahash(hash) {
-  if (!bitsOf.has(hash)) throw new Error('hash function of nattizhu expected, such as ripemd160');
+  if (!bitsOf.has(hash)) throw new TypeError('hash function of nattizhu expected, such as ripemd160');
   return bitsOf.get(hash);
 }
 
@@ -47,8 +47,8 @@ function ofEach(records, size, action) {
 
 // What `action` makes of each message. A text is one message, not a list of its characters.
 function ofList(messages, action) {
-  if (typeof messages === 'string' || typeof messages?.[Symbol.iterator] !== 'function')
-    throw new Error('array or other iterable of messages expected');
+  if (typeof messages?.valueOf?.() === 'string' || typeof messages?.[Symbol.iterator] !== 'function')
+    throw new TypeError('array or other iterable of messages expected');
   return Array.from(messages, (message) => action(message));
 }
 

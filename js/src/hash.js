@@ -76,7 +76,7 @@ export class Hash {
   }
 
   digest(encoding) {
-    if (encoding !== undefined) throw new Error('digest() takes no encoding, and returns bytes');
+    if (encoding !== undefined) throw new TypeError('digest() takes no encoding, and returns bytes');
     this.#check();
     const digest = final(this.#run, this.#kind, this.#state);
     this.destroy();
@@ -99,7 +99,7 @@ export class Hash {
 
   _cloneInto(to) {
     to ||= new this.constructor(this.#run, this.#kind, this.#state.slice());
-    if (to.#kind !== this.#kind) throw new Error('Hash of the same function expected');
+    if (to.#kind !== this.#kind) throw new TypeError('Hash of the same function expected');
     to.#state.set(this.#state);
     to.#ended = this.#ended;
     return to;

@@ -17,7 +17,7 @@ const seen = (array) => (lengthOf.call(array) ? part(array, 0, lengthOf.call(arr
  * than these, or with a `length` of their own, are seen as a plain array, so that nothing of theirs is used.
  */
 export function abytes(given, length) {
-  if (kindOf.call(given) !== 'Uint8Array') throw new Error('Uint8Array expected');
+  if (kindOf.call(given) !== 'Uint8Array') throw new TypeError('Uint8Array expected');
   const prototype = Object.getPrototypeOf(given);
   const isPlain = (prototype === PLAIN || prototype === BUFFER) && !hasOwnProperty.call(given, 'length');
   const bytes = isPlain ? given : seen(given);
@@ -28,9 +28,9 @@ export function abytes(given, length) {
 
 /** The checks of @noble/hashes, which also name what is wrong. */
 export function anumber(name, n, least = 0, most = Infinity) {
-  if (!Number.isSafeInteger(n) || n < 0) throw new Error(`${name}: positive integer expected, got ${n}`);
-  if (n < least) throw new Error(`${name} should be >= ${least}`);
-  if (n > most) throw new Error(`${name} should be <= ${most}`);
+  if (!Number.isSafeInteger(n) || n < 0) throw new TypeError(`${name}: positive integer expected, got ${n}`);
+  if (n < least) throw new TypeError(`${name} should be >= ${least}`);
+  if (n > most) throw new TypeError(`${name} should be <= ${most}`);
 }
 
 /** The bytes of a message: of a text, its UTF-8. */

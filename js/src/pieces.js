@@ -14,7 +14,7 @@ function iterator(source, signal) {
     };
   }
   const iterate = source?.[Symbol.asyncIterator] ?? source?.[Symbol.iterator];
-  if (!iterate) throw new Error('Blob, ReadableStream or iterable expected');
+  if (!iterate) throw new TypeError('Blob, ReadableStream or iterable expected');
   return iterate.call(source);
 }
 
@@ -65,7 +65,7 @@ export async function* pieces(source, { progress, signal } = {}) {
 
 /** The digest or the tag of what a source gives, by a message or text in pieces, which ends with it. */
 export async function stream(hash, source, options) {
-  if (typeof hash?.digest !== 'function') throw new Error('Hash expected');
+  if (typeof hash?.digest !== 'function') throw new TypeError('Hash expected');
   try {
     for await (const piece of pieces(source, options)) hash.update(piece);
     return hash.digest();

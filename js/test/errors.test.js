@@ -1,4 +1,4 @@
-// What is refused, with errors like those of @noble/hashes 1.8. Nothing has changed after an error.
+// What is refused, with the messages of @noble/hashes 1.8: a wrong type or number by a TypeError. Nothing has changed after an error.
 import assert from 'node:assert/strict';
 import test from 'node:test';
 import { hmac, pbkdf2, pbkdf2Async, pieces, ripemd128, ripemd160, stream } from 'nattizhu';
@@ -14,8 +14,9 @@ const NO_HASHES = [undefined, null, 'ripemd160', {}, () => {}, digestOf, ripemd1
   Object.assign(() => {}, { create() {}, outputLen: 20, blockLen: 64 })];
 const text = 'what do ya want for nothing?', key = 'Jefe';
 
-const refused = (action, message) => assert.throws(action, { name: 'Error', message });
-const rejected = (action, message) => assert.rejects(action, { name: 'Error', message });
+const refused = (action, message, name = 'Error') => assert.throws(action, { name, message });
+const rejected = (action, message, name = 'TypeError') => assert.rejects(action, { name, message });
+const mistaken = (action, message) => refused(action, message, 'TypeError');
 
 test('no bytes', async () => {
   const message = 'Uint8Array expected', hash = ripemd160.create().update('ab'), mac = hmac.create(ripemd160, key).update('ab');
@@ -30,14 +31,14 @@ test('no bytes', async () => {
       () => hmac.verify(ripemd160, key, text, bytes), () => pbkdf2(ripemd160, bytes, 'salt', { c: 1 }),
       () => pbkdf2(ripemd160, 'password', bytes, { c: 1 }), ...listed(bytes).map((list) => () => ripemd160.list(list)),
       ...listed(bytes).map((list) => () => hmac.list(ripemd160, key, list))])
-      refused(action, message);
+      mistaken(action, message);
     await rejected(pbkdf2Async(ripemd160, bytes, 'salt', { c: 1 }), message);
     await rejected(pbkdf2Async(ripemd160, 'password', bytes, { c: 1 }), message);
     await rejected(stream(ripemd160.create(), [bytes]), message);
     await rejected(stream(hmac.create(ripemd160, key), [bytes]), message);
   }
-  refused(() => mac.verify('x'.repeat(20)), message);
-  refused(() => hash.digestInto('x'.repeat(20)), message);
+  mistaken(() => mac.verify('x'.repeat(20)), message);
+  mistaken(() => hash.digestInto('x'.repeat(20)), message);
   assert.equal(hex(hash.update('c').digest()), digestOf('abc'));
   assert.equal(hex(mac.update('c').digest()), tagOf(key, 'abc'));
 });
@@ -67,16 +68,16 @@ test('lengths that arrays do not have', async () => {
 });
 
 test('no list of messages', () => {
-  for (const messages of ['abc', '', undefined, null, 5, {}, { length: 1, 0: 'abc' }]) {
+  for (const messages of ['abc', '', new String('abc'), undefined, null, 5, {}, { length: 1, 0: 'abc' }]) {
     for (const list of [() => ripemd160.list(messages), () => hmac.list(ripemd160, key, messages)])
-      refused(list, 'array or other iterable of messages expected');
+      mistaken(list, 'array or other iterable of messages expected');
   }
 });
 
 test('encodings', () => {
   const hash = ripemd160.create().update('abc'), mac = hmac.create(ripemd160, key).update(text);
   for (const one of [hash, mac, alone.create()])
-    refused(() => one.digest('hex'), 'digest() takes no encoding, and returns bytes');
+    mistaken(() => one.digest('hex'), 'digest() takes no encoding, and returns bytes');
   assert.equal(hex(hash.digest(undefined)), digestOf('abc'));
   assert.equal(hex(mac.digest()), tagOf(key, text));
 });
@@ -118,8 +119,8 @@ test('messages that have ended', () => {
 
 test('copies into another function', () => {
   const message = 'Hash of the same function expected';
-  refused(() => ripemd160.create()._cloneInto(ripemd128.create()), message);
-  refused(() => ripemd160.create()._cloneInto(hmac.create(ripemd160, key)), message);
+  mistaken(() => ripemd160.create()._cloneInto(ripemd128.create()), message);
+  mistaken(() => ripemd160.create()._cloneInto(hmac.create(ripemd160, key)), message);
   assert.throws(() => ripemd160.create()._cloneInto({}), TypeError);
 });
 
@@ -129,7 +130,7 @@ test('no hash function', async () => {
     for (const action of [() => hmac(hash, key, text), () => hmac.create(hash, key), () => hmac.load(hash, new Uint8Array(184)),
       () => hmac.verify(hash, key, text, new Uint8Array(20)), () => hmac.each(hash, key, new Uint8Array(3), 1),
       () => hmac.list(hash, key, ['abc']), () => pbkdf2(hash, key, 'salt', { c: 1 })])
-      refused(action, message);
+      mistaken(action, message);
     await rejected(pbkdf2Async(hash, key, 'salt', { c: 1 }), message);
   }
 });
@@ -142,8 +143,9 @@ test('numbers', async () => {
       [{ c: 1, dkLen }, `dkLen: positive integer expected, got ${dkLen}`]),
     [{ c: 1, dkLen: 2 ** 53 - 1 }, 'the key does not fit in memory']];
   for (const [given, message] of options) {
-    refused(() => pbkdf2(ripemd160, 'password', 'salt', given), message);
-    await rejected(pbkdf2Async(ripemd160, 'password', 'salt', given), message);
+    const name = message.endsWith('memory') ? 'Error' : 'TypeError';
+    refused(() => pbkdf2(ripemd160, 'password', 'salt', given), message, name);
+    await rejected(pbkdf2Async(ripemd160, 'password', 'salt', given), message, name);
   }
   await rejected(pbkdf2Async(ripemd160, 'password', 'salt', { c: 1, asyncTick: -1 }),
     'asyncTick: positive integer expected, got -1');
@@ -155,11 +157,11 @@ test('records that are not whole', () => {
   const records = new Uint8Array(10);
   for (const each of [(size) => ripemd160.each(records, size), (size) => hmac.each(ripemd160, key, records, size)]) {
     for (const size of [3, 11]) refused(() => each(size), `records of ${size} bytes expected, got length=10`);
-    for (const size of [-1, 2.5, undefined, '5']) refused(() => each(size), `size: positive integer expected, got ${size}`);
-    refused(() => each(0), 'size should be >= 1');
+    for (const size of [-1, 2.5, undefined, '5']) mistaken(() => each(size), `size: positive integer expected, got ${size}`);
+    mistaken(() => each(0), 'size should be >= 1');
     assert.equal(each(5).length, 2);
   }
-  refused(() => ripemd160.each(new Uint8Array(0), 0), 'size should be >= 1');
+  mistaken(() => ripemd160.each(new Uint8Array(0), 0), 'size should be >= 1');
 });
 
 test('no sources', async () => {
@@ -173,7 +175,7 @@ test('no sources', async () => {
 test('no module of this package', async () => {
   const empty = Uint8Array.of(0, 97, 115, 109, 1, 0, 0, 0);
   for (const source of [empty, new WebAssembly.Module(empty), new Response(empty, { headers: { 'content-type': 'application/wasm' } })])
-    await rejected(load(source), 'nattizhu.wasm expected');
+    await rejected(load(source), 'nattizhu.wasm expected', 'Error');
   await assert.rejects(load(new Uint8Array(8)), WebAssembly.CompileError);
   await assert.rejects(load(new Response('')), WebAssembly.CompileError);
   await assert.rejects(load(Promise.reject(new RangeError('gone'))), RangeError);

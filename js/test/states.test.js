@@ -85,5 +85,5 @@ test('bytes that are no state', () => {
   }
   assert.throws(() => hmac.load(ripemd160, good), { name: 'Error', message: 'Uint8Array expected of length 184, got length=92' });
   assert.throws(() => ripemd128.load(good), { name: 'Error', message: 'Uint8Array expected of length 88, got length=92' });
-  assert.throws(() => ripemd160.load('x'), { name: 'Error', message: 'Uint8Array expected' });
+  assert.throws(() => ripemd160.load('x'), { name: 'TypeError', message: 'Uint8Array expected' });
 });
