@@ -59,10 +59,7 @@ fn is_skipped(text: &[u8]) -> bool
 fn is_wanted(only: Option<Variant>, variant: Variant) -> bool
     ensures { IsTrue result ↔ IsWanted only variant }
 {
-    match only {
-        Some(one) => variant == one,
-        None => true,
-    }
+    only.is_none_or(|one| one == variant)
 }
 
 /// Whether a name is that of standard input.
@@ -92,13 +89,8 @@ fn read_entry(
     ensures entry { IfOk result (IsEntry rules layout.new text.now) }
 {
     match parse_listed(alloc, rules.only, layout, without_return(text))? {
-        Some(line) => {
-            if is_taken(rules, &line) {
-                return Ok(Some(line));
-            }
-            Ok(None)
-        }
-        None => Ok(None),
+        Some(line) if is_taken(rules, &line) => Ok(Some(line)),
+        _ => Ok(None),
     }
 }
 
@@ -125,18 +117,11 @@ fn take_line(
     }
     match read_entry(alloc, rules, &mut cursor.layout, text)? {
         None => Ok(Some(number)),
-        Some(line) => {
-            push_line(lines, line)?;
-            Ok(None)
-        }
+        Some(line) => match lines.push(line) {
+            Ok(()) => Ok(None),
+            Err(_) => Err(Fault::NoMemory),
+        },
     }
-}
-
-fn push_line(lines: &mut Vec<Line>, line: Line) -> Result<(), AllocError>
-    ensures { OnOk result (lines.new.items ≡ lines.old.items ++ line ∷ []) }
-{
-    lines.push(line)?;
-    Ok(())
 }
 
 // Whether the files of the lines are read now: there are enough, or the next line may be waited for.

@@ -3,7 +3,7 @@
 ghost use Rattle.std.specs.Prelude.{◌≡◌, IfErr, IfOk};
 ghost use Rattle.std.specs.Io.Buffered.{reader_remaining};
 ghost use Rattle.std.specs.Io.BufRead.{ends_with_byte, strip_last};
-ghost use Rattle.ripemd_files.specs.Splitting.{IsPiece, ListState, ReadsOn, stage_after};
+ghost use Rattle.ripemd_files.specs.Splitting.{IsPiece, ListState, ReadsOn, stage_after, state_of};
 ghost use Rattle.ripemd_files.specs.declared.piece.Stage.TheVariants.{Among};
 
 use std::alloc::AllocError;
@@ -115,8 +115,6 @@ pub struct List<R> {
 }
 
 impl<R: Read> List<R> {
-    ghost use Rattle.ripemd_files.specs.Splitting.{state_of};
-
     /// A list of which nothing was read. Its buffer must have room.
     pub fn new(reader: BufReader<R>) -> List<R>
         ensures stage { (state_of R.remaining result).stage ≡ Among }
@@ -130,8 +128,6 @@ impl<R: Read> List<R> {
 }
 
 impl<R: Read> ReadList for List<R> {
-    ghost use Rattle.ripemd_files.specs.Splitting.{state_of};
-
     ghost state = { state_of R.remaining };
 
     fn has_line(&self) -> bool {

@@ -108,43 +108,36 @@ fn push_complaint(
     hash: &str,
     complaint: Complaint,
 ) -> io::Result<()> {
-    match complaint {
-        Complaint::MisformattedLines(1) => {
-            write!(text, "WARNING: 1 line is improperly formatted")
-        }
+    let what = match complaint {
         Complaint::MisformattedLines(count) => {
-            write!(text, "WARNING: {count} lines are improperly formatted")
-        }
-        Complaint::UnreadableFiles(1) => {
-            write!(text, "WARNING: 1 listed file could not be read")
+            let lines = if count == 1 { "line is" } else { "lines are" };
+            return write!(text, "WARNING: {count} {lines} improperly formatted");
         }
         Complaint::UnreadableFiles(count) => {
-            write!(text, "WARNING: {count} listed files could not be read")
+            let s = plural(count);
+            return write!(text, "WARNING: {count} listed file{s} could not be read");
         }
-        Complaint::Mismatches(1) => { write!(text, "WARNING: 1 computed checksum did NOT match") }
         Complaint::Mismatches(count) => {
-            write!(text, "WARNING: {count} computed checksums did NOT match")
+            let s = plural(count);
+            return write!(text, "WARNING: {count} computed checksum{s} did NOT match");
         }
         Complaint::Misformatted(number) => {
             quotef(text, charset, list)?;
-            write!(
+            return write!(
                 text,
                 ": {number}: improperly formatted {hash} checksum line"
-            )
+            );
         }
-        Complaint::NoLines => {
-            quotef(text, charset, list)?;
-            write!(text, ": no properly formatted checksum lines found")
-        }
-        Complaint::NothingVerified => {
-            quotef(text, charset, list)?;
-            write!(text, ": no file was verified")
-        }
-        Complaint::Unreadable => {
-            quotef(text, charset, list)?;
-            write!(text, ": read error")
-        }
-    }
+        Complaint::NoLines => "no properly formatted checksum lines found",
+        Complaint::NothingVerified => "no file was verified",
+        Complaint::Unreadable => "read error",
+    };
+    quotef(text, charset, list)?;
+    write!(text, ": {what}")
+}
+
+fn plural(count: u64) -> &'static str {
+    if count == 1 { "" } else { "s" }
 }
 
 // Adds a colon and the text of an error.
@@ -156,10 +149,8 @@ fn push_error(rt: &HostRuntime, text: &mut Vec<u8>, error: io::Error) -> io::Res
 
 // Cuts the number off the text of an error.
 fn without_number(text: &str) -> &str {
-    match text.split_once(" (os error ") {
-        Some((words, _)) => words,
-        None => text,
-    }
+    text.split_once(" (os error ")
+        .map_or(text, |(words, _)| words)
 }
 
 /// Writes lines to standard output and remarks to standard error.

@@ -36,11 +36,7 @@ impl Source {
             return None;
         };
         let metadata = file.metadata().ok()?;
-        if metadata.is_file() {
-            Some(metadata.len())
-        } else {
-            None
-        }
+        metadata.is_file().then_some(metadata.len())
     }
 }
 
