@@ -1,7 +1,9 @@
 //! The hasher of any block function, and of the four variants.
 
-ghost use Rattle.std.specs.Prelude.{◌≡◌, ⊤};
+ghost use Rattle.std.specs.Prelude.{◌≡◌, ⊤, refl};
 ghost use Rattle.ripemd_block.specs.States.{HashState, IsHashState, initial_state, with_tail};
+ghost use Rattle.ripemd.specs.Laws.{fed_nothing};
+ghost use Rattle.ripemd_block.specs.OverLists.{hash_over_lists};
 
 use crate::digest::{
     AlgorithmName, BlockDigest, BlockSizeUser, Digest, FixedOutputCore, HashMarker, HashMeaning,
@@ -139,8 +141,6 @@ impl<F: ListBlockFunction> Reset for BlockHasher<F> {
 impl<F: ListBlockFunction> BlockSizeUser for BlockHasher<F> {
     ghost BLOCK_SIZE = { 64 };
 
-    ghost use Rattle.std.specs.Prelude.{refl};
-
     ghost block_size_is = { refl };
 
     const BLOCK_SIZE: usize = 64;
@@ -215,16 +215,12 @@ impl<F: ListBlockFunction> Digest for BlockHasher<F> {
         digest_message::<F>(message)
     }
 
-    ghost use Rattle.ripemd.specs.Laws.{fed_nothing};
-
     ghost fed_nothing = { λ h valid.
         fed_nothing F.step h valid.count valid.tail.short };
 }
 
 impl<F: ListBlockFunction> BlockDigest for BlockHasher<F> {
     type Core = BlockCore<F>;
-
-    ghost use Rattle.ripemd_block.specs.OverLists.{hash_over_lists};
 
     ghost digest_is = { hash_over_lists F.over_lists F.start_of };
 }

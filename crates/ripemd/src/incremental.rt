@@ -3,6 +3,7 @@
 ghost use Rattle.std.specs.Prelude.{◌≡◌, ℕ, List, [], ◌++◌, ⊤};
 ghost use Rattle.ripemd_block.specs.Standard.Hashing.{hash};
 ghost use Rattle.ripemd_block.specs.States.{initial_state, fed, finish};
+ghost use Rattle.ripemd.specs.Laws as laws;
 
 use crate::digest::{Digest, OutputSizeUser};
 use crate::hashers::BlockHasher;
@@ -65,8 +66,6 @@ impl<F: ListBlockFunction> Incremental for BlockHasher<F> {
     fn finalize(self) -> F::Digest {
         Digest::finalize(self)
     }
-
-    ghost use Rattle.ripemd.specs.Laws as laws;
 
     ghost fed_nothing = { λ _. laws.fed_nothing_at_first F.step (F.list F.start_of) };
 

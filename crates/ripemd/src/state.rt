@@ -3,6 +3,7 @@
 ghost use Rattle.std.specs.Prelude.{◌≡◌, ◌+◌, ◌<◌, ◌↔◌, ◌∷◌, ◌++◌, length, drop, replicate, IsTrue};
 ghost use Rattle.ripemd_block.specs.Standard.Words.{block_size};
 ghost use Rattle.ripemd_block.specs.States.{core_and_tail};
+ghost use Rattle.ripemd_block.specs.Laws.Saved.{core_and_tail_injective};
 
 use crate::hashers::BlockHasher;
 pub use ripemd_block::block_api::DeserializeStateError;
@@ -47,8 +48,6 @@ impl<F: ResumableFunction> SerializableState for BlockHasher<F> {
             Err(DeserializeStateError)
         }
     }
-
-    ghost use Rattle.ripemd_block.specs.Laws.Saved.{core_and_tail_injective};
 
     ghost state_injective = { core_and_tail_injective F.injective_output };
 

@@ -1,6 +1,7 @@
 //! Eight words, one of each message.
 
-ghost use Rattle.std.specs.Prelude.{◌≡◌, ◌++◌};
+ghost use Rattle.std.specs.Prelude.{◌≡◌, ◌++◌, ℕ, List};
+ghost use Rattle.std.proofs.Common.{refl, rules};
 
 use crate::four::Four;
 use crate::lanes::Lanes;
@@ -10,47 +11,36 @@ use std::simd::prelude::*;
 
 /// The words of eight messages.
 #[derive(Clone, Copy)]
-pub struct Eight {
-    lanes: u32x8,
-}
+pub struct Eight(u32x8);
 
 impl Model for Eight {
-    ghost use Rattle.std.specs.Prelude.{ℕ, List};
-    ghost use Rattle.std.proofs.Common.{refl};
-
     ghost Value = { List ℕ };
 
-    ghost view = { λ w. w.lanes };
+    ghost view = { λ w. w.0 };
 
-    ghost inverse = { λ xs. record { lanes = xs } };
+    ghost inverse = { λ xs. record { 0 = xs } };
 
     ghost inverse_ok = { λ w h. refl };
 }
 
 impl Lanes for Eight {
-    ghost use Rattle.std.proofs.Common.{rules};
-
     ghost words = { λ v. v };
 
     ghost COUNT = { 8 };
 
     #[inline(always)]
     fn of(array: [u32; 8]) -> Eight {
-        Eight {
-            lanes: u32x8::from_array(array),
-        }
+        Eight(u32x8::from_array(array))
     }
 
     #[inline(always)]
     fn word(self, j: usize) -> u32 {
-        self.lanes.to_array()[j]
+        self.0.to_array()[j]
     }
 
     #[inline(always)]
     fn splat(word: u32) -> Eight {
-        Eight {
-            lanes: u32x8::splat(word),
-        }
+        Eight(u32x8::splat(word))
     }
 
     #[inline(always)]
@@ -60,35 +50,27 @@ impl Lanes for Eight {
 
     #[inline(always)]
     fn add(self, other: Eight) -> Eight {
-        Eight {
-            lanes: self.lanes + other.lanes,
-        }
+        Eight(self.0 + other.0)
     }
 
     #[inline(always)]
     fn xor(self, other: Eight) -> Eight {
-        Eight {
-            lanes: self.lanes ^ other.lanes,
-        }
+        Eight(self.0 ^ other.0)
     }
 
     #[inline(always)]
     fn and(self, other: Eight) -> Eight {
-        Eight {
-            lanes: self.lanes & other.lanes,
-        }
+        Eight(self.0 & other.0)
     }
 
     #[inline(always)]
     fn not(self) -> Eight {
-        Eight { lanes: !self.lanes }
+        Eight(!self.0)
     }
 
     #[inline(always)]
     fn rotate(self, by: u32) -> Eight {
-        Eight {
-            lanes: (self.lanes << u32x8::splat(by)) | (self.lanes >> u32x8::splat(32 - by)),
-        }
+        Eight((self.0 << u32x8::splat(by)) | (self.0 >> u32x8::splat(32 - by)))
     }
 
     #[inline(always)]
@@ -114,8 +96,6 @@ impl Eight {
     fn joined(low: Four, high: Four) -> Eight
         ensures { result ≡ low ++ high }
     {
-        Eight {
-            lanes: low.lanes().shuffle(high.lanes(), [0, 1, 2, 3, 4, 5, 6, 7]),
-        }
+        Eight(low.lanes().shuffle(high.lanes(), [0, 1, 2, 3, 4, 5, 6, 7]))
     }
 }

@@ -1,6 +1,7 @@
 //! Four words, one of each message.
 
-ghost use Rattle.std.specs.Prelude.{◌≡◌, ◌<◌, ◌+◌, ◌*◌, ℕ, [], ◌∷◌, ◌++◌, length, slice_index, slice_index_or};
+ghost use Rattle.std.specs.Prelude.{◌≡◌, ◌<◌, ◌+◌, ◌*◌, ℕ, [], ◌∷◌, ◌++◌, length, slice_index, slice_index_or, List};
+ghost use Rattle.std.proofs.Common.{refl, rules};
 ghost use Rattle.ripemd_block.specs.Standard.Words.{message_word};
 
 use crate::lanes::Lanes;
@@ -11,47 +12,36 @@ use std::simd::prelude::*;
 
 /// The words of four messages.
 #[derive(Clone, Copy)]
-pub struct Four {
-    lanes: u32x4,
-}
+pub struct Four(u32x4);
 
 impl Model for Four {
-    ghost use Rattle.std.specs.Prelude.{ℕ, List};
-    ghost use Rattle.std.proofs.Common.{refl};
-
     ghost Value = { List ℕ };
 
-    ghost view = { λ w. w.lanes };
+    ghost view = { λ w. w.0 };
 
-    ghost inverse = { λ xs. record { lanes = xs } };
+    ghost inverse = { λ xs. record { 0 = xs } };
 
     ghost inverse_ok = { λ w h. refl };
 }
 
 impl Lanes for Four {
-    ghost use Rattle.std.proofs.Common.{rules};
-
     ghost words = { λ v. v };
 
     ghost COUNT = { 4 };
 
     #[inline(always)]
     fn of(array: [u32; 8]) -> Four {
-        Four {
-            lanes: u32x4::from_array([array[0], array[1], array[2], array[3]]),
-        }
+        Four(u32x4::from_array([array[0], array[1], array[2], array[3]]))
     }
 
     #[inline(always)]
     fn word(self, j: usize) -> u32 {
-        self.lanes.to_array()[j]
+        self.0.to_array()[j]
     }
 
     #[inline(always)]
     fn splat(word: u32) -> Four {
-        Four {
-            lanes: u32x4::splat(word),
-        }
+        Four(u32x4::splat(word))
     }
 
     #[inline(always)]
@@ -61,35 +51,27 @@ impl Lanes for Four {
 
     #[inline(always)]
     fn add(self, other: Four) -> Four {
-        Four {
-            lanes: self.lanes + other.lanes,
-        }
+        Four(self.0 + other.0)
     }
 
     #[inline(always)]
     fn xor(self, other: Four) -> Four {
-        Four {
-            lanes: self.lanes ^ other.lanes,
-        }
+        Four(self.0 ^ other.0)
     }
 
     #[inline(always)]
     fn and(self, other: Four) -> Four {
-        Four {
-            lanes: self.lanes & other.lanes,
-        }
+        Four(self.0 & other.0)
     }
 
     #[inline(always)]
     fn not(self) -> Four {
-        Four { lanes: !self.lanes }
+        Four(!self.0)
     }
 
     #[inline(always)]
     fn rotate(self, by: u32) -> Four {
-        Four {
-            lanes: (self.lanes << u32x4::splat(by)) | (self.lanes >> u32x4::splat(32 - by)),
-        }
+        Four((self.0 << u32x4::splat(by)) | (self.0 >> u32x4::splat(32 - by)))
     }
 
     #[inline(always)]
@@ -108,7 +90,7 @@ impl Four {
     pub(crate) fn lanes(self) -> u32x4
         ensures { result ≡ self }
     {
-        self.lanes
+        self.0
     }
 
     /// Message words `4 * i` to `4 * i + 3` of a block.
@@ -119,9 +101,7 @@ impl Four {
         ensures { (k : ℕ) → k < 4
             → slice_index result k ≡ message_word block.now (4 * i + k) }
     {
-        Four {
-            lanes: four_words(block, i),
-        }
+        Four(four_words(block, i))
     }
 
     /// Words 0 and 1 of two vectors in turn, and words 2 and 3.
@@ -132,8 +112,8 @@ impl Four {
         ensures high { result.1 ≡ slice_index self 2 ∷ slice_index other 2
             ∷ slice_index self 3 ∷ slice_index other 3 ∷ [] }
     {
-        let (low, high) = self.lanes.interleave(other.lanes);
-        (Four { lanes: low }, Four { lanes: high })
+        let (low, high) = self.0.interleave(other.0);
+        (Four(low), Four(high))
     }
 
     /// Vector `k` has word `k` of each of the four vectors.

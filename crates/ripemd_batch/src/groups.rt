@@ -1,7 +1,8 @@
 //! Groups of at most eight messages, and the hash functions that can hash them at once.
 
 ghost use Rattle.std.specs.Prelude.{◌≡◌, ℕ, ◌+◌, ◌-◌, ◌*◌, ◌^◌, ◌<◌, ◌≤◌, min, true, false};
-ghost use Rattle.std.specs.Prelude.{length, map, replicate, slice_index, slice_index_or, []};
+ghost use Rattle.std.specs.Prelude.{length, map, replicate, slice_index, slice_index_or, [], refl};
+ghost use Rattle.std.proofs.Common.{arith};
 ghost use Rattle.ripemd_block.specs.Standard.Words.{block_size};
 ghost use Rattle.ripemd_block.specs.Standard.Hashing.{blocks};
 ghost use Rattle.ripemd_batch.specs.Lanes.{HasWords, blocks_of, hash_after, hashed_again, list_at, listed, padded_after, targets};
@@ -55,8 +56,6 @@ impl<F: BatchFunction> BatchDigest for BlockHasher<F> {
 
     type Eight = F::Eight;
 
-    ghost use Rattle.std.specs.Prelude.{refl};
-
     ghost four = { F.four };
 
     ghost eight = { F.eight };
@@ -92,8 +91,6 @@ impl BatchFunction for Ripemd128Function {
 
     type Eight = [Eight; 4];
 
-    ghost use Rattle.std.proofs.Common.{arith, refl};
-
     ghost four = { refl };
 
     ghost eight = { refl };
@@ -105,8 +102,6 @@ impl BatchFunction for Ripemd160Function {
     type Four = [Four; 5];
 
     type Eight = [Eight; 5];
-
-    ghost use Rattle.std.proofs.Common.{arith, refl};
 
     ghost four = { refl };
 
@@ -120,8 +115,6 @@ impl BatchFunction for Ripemd256Function {
 
     type Eight = [Eight; 8];
 
-    ghost use Rattle.std.proofs.Common.{arith, refl};
-
     ghost four = { refl };
 
     ghost eight = { refl };
@@ -133,8 +126,6 @@ impl BatchFunction for Ripemd320Function {
     type Four = [Four; 10];
 
     type Eight = [Eight; 10];
-
-    ghost use Rattle.std.proofs.Common.{arith, refl};
 
     ghost four = { refl };
 

@@ -1,10 +1,10 @@
 //! Digests of many messages, and tags of many texts under one key.
 
-ghost use Rattle.std.specs.Prelude.{◌≡◌, ◌+◌, ◌*◌, ◌^◌, ◌<◌, ◌≤◌, length, map};
+ghost use Rattle.std.specs.Prelude.{◌≡◌, ◌+◌, ◌*◌, ◌^◌, ◌<◌, ◌≤◌, length, map, IfSome};
 ghost use Rattle.std.specs.List.{flat_map};
 ghost use Rattle.ripemd_block.specs.Standard.Hashing.{hash};
 ghost use Rattle.ripemd_mac.specs.Hmac.{hmac};
-ghost use Rattle.ripemd_batch.specs.Lanes.{PutFrom, made_by, targets};
+ghost use Rattle.ripemd_batch.specs.Lanes.{PutFrom, made_by, targets, ListStates, listed};
 
 use crate::groups::{
     BatchDigest, StateOf, count_blocks, digest_of_digest, digest_one, group_end, message_at,
@@ -62,9 +62,6 @@ pub struct ListHasher<D: BatchDigest> {
 }
 
 impl<D: BatchDigest> Model for ListHasher<D> {
-    ghost use Rattle.std.specs.Prelude.{IfSome};
-    ghost use Rattle.ripemd_batch.specs.Lanes.{ListStates, listed};
-
     ghost Value = { ListStates };
 
     ghost view = { λ h. record {

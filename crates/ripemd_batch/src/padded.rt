@@ -1,6 +1,6 @@
 //! The blocks of a message with its padding; the whole blocks are not copied.
 
-ghost use Rattle.std.specs.Prelude.{◌≡◌, ◌-◌, ◌^◌, ◌<◌, [], ◌∷◌, ◌++◌, length, take, replicate, slice_index_or};
+ghost use Rattle.std.specs.Prelude.{◌≡◌, ◌-◌, ◌^◌, ◌<◌, [], ◌∷◌, ◌++◌, length, take, replicate, slice_index_or, ℕ, List};
 ghost use Rattle.ripemd_block.specs.Standard.Words.{block_size, eight_bytes};
 ghost use Rattle.ripemd_block.specs.Standard.Hashing.{length_place, with_padding, blocks};
 ghost use Rattle.ripemd_batch.specs.Lanes.{padded_after};
@@ -16,8 +16,6 @@ pub(crate) struct MessageBlocks<'a, 'b> {
 }
 
 impl<'a, 'b> Model for MessageBlocks<'a, 'b> {
-    ghost use Rattle.std.specs.Prelude.{ℕ, ◌<◌, List, ◌++◌, length};
-
     ghost Value = { List (List ℕ) };
 
     ghost view = { λ b. b.whole.now ++ b.last.now };

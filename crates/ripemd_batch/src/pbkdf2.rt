@@ -5,7 +5,7 @@ ghost use Rattle.std.specs.Int.{w32, to_be_bytes, div_ceil};
 ghost use Rattle.ripemd_block.specs.Standard.Hashing.{hash};
 ghost use Rattle.ripemd_mac.specs.Hmac.{filled, hmac};
 ghost use Rattle.ripemd_mac.specs.Pbkdf2.{F, pbkdf2};
-ghost use Rattle.ripemd_batch.specs.Pbkdf2.{HasBlocks, InGroup, IsFilled, block_at, combined_tags, pbkdf2_each, tag_after, total};
+ghost use Rattle.ripemd_batch.specs.Pbkdf2.{HasBlocks, InGroup, IsFilled, block_at, combined_tags, pbkdf2_each, tag_after, total, KeyList};
 ghost use Rattle.ripemd_batch.specs.Lanes.{hash_after, list_at, targets};
 
 use crate::groups::{BatchDigest, StateOf, digest_of_digest, state_of_digest};
@@ -95,10 +95,6 @@ struct KeyBlocks<'a> {
 }
 
 impl<'a> Model for KeyBlocks<'a> {
-    ghost use Rattle.std.specs.Prelude.{◌≡◌, ◌<◌, ◌*◌, ◌^◌, length};
-    ghost use Rattle.ripemd_batch.specs.Pbkdf2.{KeyList};
-    ghost use Rattle.ripemd_batch.specs.Lanes.{targets};
-
     ghost Value = { KeyList };
 
     ghost view = { λ k. record {

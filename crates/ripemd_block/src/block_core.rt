@@ -1,10 +1,12 @@
 //! The block core of a block function.
 
-ghost use Rattle.std.specs.Prelude.{◌≡◌, ◌+◌, ◌*◌, ◌%◌, ◌^◌, ◌<◌, List, [], length, ⊤};
+ghost use Rattle.std.specs.Prelude.{◌≡◌, ◌+◌, ◌*◌, ◌%◌, ◌^◌, ◌<◌, List, [], length, ⊤, refl};
 ghost use Rattle.ripemd_block.specs.Standard.Words.{block_size};
 ghost use Rattle.ripemd_block.specs.Standard.Hashing.{with_padding, blocks, walk, hash};
 ghost use Rattle.ripemd_block.specs.States.{HashState, IsHashState, IsWithoutTail, output_and_count};
 ghost use Rattle.ripemd_block.specs.States.{initial_state, after_blocks, with_tail, finish};
+ghost use Rattle.ripemd_block.specs.Laws.Walking.{after_no_blocks, after_joined_blocks};
+ghost use Rattle.ripemd_block.specs.Laws.Saved.{output_and_count_injective};
 
 use crate::arrays::{ByteArray, read_count};
 use crate::buffer::Buffer;
@@ -103,8 +105,6 @@ impl<F: ListBlockFunction> Reset for BlockCore<F> {
 impl<F: ListBlockFunction> BlockSizeUser for BlockCore<F> {
     ghost BLOCK_SIZE = { 64 };
 
-    ghost use Rattle.std.specs.Prelude.{refl};
-
     ghost block_size_is = { refl };
 
     const BLOCK_SIZE: usize = 64;
@@ -137,8 +137,6 @@ impl<F: ListBlockFunction> UpdateCore for BlockCore<F> {
         }
         self.block_count = self.block_count.wrapping_add(blocks.len() as u64);
     }
-
-    ghost use Rattle.ripemd_block.specs.Laws.Walking.{after_no_blocks, after_joined_blocks};
 
     ghost after_none = { after_no_blocks F.step F.are_words };
 
@@ -270,8 +268,6 @@ impl<F: ResumableFunction> SerializableState for BlockCore<F> {
             None => Err(DeserializeStateError),
         }
     }
-
-    ghost use Rattle.ripemd_block.specs.Laws.Saved.{output_and_count_injective};
 
     ghost state_injective = { output_and_count_injective F.injective_output };
 

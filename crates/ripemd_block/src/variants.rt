@@ -1,10 +1,15 @@
 //! The block functions of the four variants, and their cores.
 
-ghost use Rattle.std.specs.Prelude.{◌≡◌, length, codes};
+ghost use Rattle.std.specs.Prelude.{◌≡◌, length, codes, refl};
+ghost use Rattle.std.proofs.Common.{rules};
 ghost use Rattle.ripemd_block.specs.Standard.Words.{word_bytes};
 ghost use Rattle.ripemd_block.specs.Standard.Compression.{compress};
 ghost use Rattle.ripemd_block.specs.Standard.Compression.{ripemd128, ripemd160, ripemd256, ripemd320};
+ghost use Rattle.ripemd_block.specs.OverLists.{of_arrays};
 ghost use Rattle.ripemd_block.specs.States.{AreWords};
+ghost use Rattle.ripemd_block.specs.Laws.Arrays.{equal_words};
+ghost use Rattle.ripemd_block.specs.Laws.Saved.{word_bytes_output};
+ghost use Rattle.ripemd_block.specs.Laws.WordBytes.{word_bytes_injective};
 
 use crate::arrays::{read_words, write_words};
 use crate::block_core::BlockCore;
@@ -66,9 +71,6 @@ impl BlockFunction for Ripemd128Function {
         digest
     }
 
-    ghost use Rattle.ripemd_block.specs.Laws.WordBytes.{word_bytes_injective};
-    ghost use Rattle.ripemd_block.specs.Laws.Arrays.{equal_words};
-
     ghost output_injective = { word_bytes_injective 4 };
 
     ghost same_state = { equal_words };
@@ -88,9 +90,6 @@ impl ListBlockFunction for Ripemd128Function {
         registers::walk_in_registers::<Ripemd128Function>(first, blocks);
     }
 
-    ghost use Rattle.std.proofs.Common.{rules};
-    ghost use Rattle.ripemd_block.specs.OverLists.{of_arrays};
-
     ghost over_lists = { of_arrays };
 
     ghost digest_most = { Prim.search rules };
@@ -108,9 +107,6 @@ impl ResumableFunction for Ripemd128Function {
         read_words(&output, &mut words);
         Some(words)
     }
-
-    ghost use Rattle.std.specs.Prelude.{refl};
-    ghost use Rattle.ripemd_block.specs.Laws.Saved.{word_bytes_output};
 
     ghost injective_output = { word_bytes_output 4 };
 
@@ -167,9 +163,6 @@ impl BlockFunction for Ripemd160Function {
         digest
     }
 
-    ghost use Rattle.ripemd_block.specs.Laws.WordBytes.{word_bytes_injective};
-    ghost use Rattle.ripemd_block.specs.Laws.Arrays.{equal_words};
-
     ghost output_injective = { word_bytes_injective 5 };
 
     ghost same_state = { equal_words };
@@ -189,9 +182,6 @@ impl ListBlockFunction for Ripemd160Function {
         registers::walk_in_registers::<Ripemd160Function>(first, blocks);
     }
 
-    ghost use Rattle.std.proofs.Common.{rules};
-    ghost use Rattle.ripemd_block.specs.OverLists.{of_arrays};
-
     ghost over_lists = { of_arrays };
 
     ghost digest_most = { Prim.search rules };
@@ -209,9 +199,6 @@ impl ResumableFunction for Ripemd160Function {
         read_words(&output, &mut words);
         Some(words)
     }
-
-    ghost use Rattle.std.specs.Prelude.{refl};
-    ghost use Rattle.ripemd_block.specs.Laws.Saved.{word_bytes_output};
 
     ghost injective_output = { word_bytes_output 5 };
 
@@ -271,9 +258,6 @@ impl BlockFunction for Ripemd256Function {
         digest
     }
 
-    ghost use Rattle.ripemd_block.specs.Laws.WordBytes.{word_bytes_injective};
-    ghost use Rattle.ripemd_block.specs.Laws.Arrays.{equal_words};
-
     ghost output_injective = { word_bytes_injective 8 };
 
     ghost same_state = { equal_words };
@@ -293,9 +277,6 @@ impl ListBlockFunction for Ripemd256Function {
         registers::walk_in_registers::<Ripemd256Function>(first, blocks);
     }
 
-    ghost use Rattle.std.proofs.Common.{rules};
-    ghost use Rattle.ripemd_block.specs.OverLists.{of_arrays};
-
     ghost over_lists = { of_arrays };
 
     ghost digest_most = { Prim.search rules };
@@ -313,9 +294,6 @@ impl ResumableFunction for Ripemd256Function {
         read_words(&output, &mut words);
         Some(words)
     }
-
-    ghost use Rattle.std.specs.Prelude.{refl};
-    ghost use Rattle.ripemd_block.specs.Laws.Saved.{word_bytes_output};
 
     ghost injective_output = { word_bytes_output 8 };
 
@@ -377,9 +355,6 @@ impl BlockFunction for Ripemd320Function {
         digest
     }
 
-    ghost use Rattle.ripemd_block.specs.Laws.WordBytes.{word_bytes_injective};
-    ghost use Rattle.ripemd_block.specs.Laws.Arrays.{equal_words};
-
     ghost output_injective = { word_bytes_injective 10 };
 
     ghost same_state = { equal_words };
@@ -399,9 +374,6 @@ impl ListBlockFunction for Ripemd320Function {
         registers::walk_in_registers::<Ripemd320Function>(first, blocks);
     }
 
-    ghost use Rattle.std.proofs.Common.{rules};
-    ghost use Rattle.ripemd_block.specs.OverLists.{of_arrays};
-
     ghost over_lists = { of_arrays };
 
     ghost digest_most = { Prim.search rules };
@@ -419,9 +391,6 @@ impl ResumableFunction for Ripemd320Function {
         read_words(&output, &mut words);
         Some(words)
     }
-
-    ghost use Rattle.std.specs.Prelude.{refl};
-    ghost use Rattle.ripemd_block.specs.Laws.Saved.{word_bytes_output};
 
     ghost injective_output = { word_bytes_output 10 };
 

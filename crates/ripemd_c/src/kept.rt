@@ -8,6 +8,9 @@ ghost use Rattle.ripemd.specs.States.{HashState, IsHashState, core_and_tail, fed
 ghost use Rattle.ripemd_mac.specs.Hmac.{keyed_state};
 ghost use Rattle.ripemd_mac.specs.Saved.{IsKeyedState, hmac_bytes};
 ghost use Rattle.ripemd_c.specs.KeptBytes.{HasTail, IsAppended, cleared, cleared_hmac};
+ghost use Rattle.ripemd.specs.Laws.{fed_nothing_at_first};
+ghost use Rattle.ripemd.specs.SavedLaws.{core_and_tail_injective};
+ghost use Rattle.ripemd_mac.specs.Laws.{fed_nothing, hmac_bytes_injective};
 
 use ripemd::block_api::{BlockCore, ByteArray, SerializableState, update_saved, write_short};
 use ripemd::buffer::{Buffer, fill_block};
@@ -160,11 +163,7 @@ impl<F: ResumableFunction> Kept for BlockHasher<F> {
         true
     }
 
-    ghost use Rattle.ripemd.specs.Laws.{fed_nothing_at_first};
-
     ghost fed_nothing = { λ _. fed_nothing_at_first F.step (F.list F.start_of) };
-
-    ghost use Rattle.ripemd.specs.SavedLaws.{core_and_tail_injective};
 
     ghost injective = { core_and_tail_injective F.injective_output };
 }
@@ -297,8 +296,6 @@ impl<F: ResumableFunction> Kept for Hmac<BlockHasher<F>> {
             None => false,
         }
     }
-
-    ghost use Rattle.ripemd_mac.specs.Laws.{fed_nothing, hmac_bytes_injective};
 
     ghost fed_nothing = { fed_nothing (F.list F.start_of) F.step F.output };
 

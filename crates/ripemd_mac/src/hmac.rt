@@ -14,6 +14,7 @@ ghost use Rattle.ripemd_mac.specs.Hmac.{
   tag_of,
 };
 ghost use Rattle.ripemd_mac.specs.Saved.{IsKeyedState, IsSavedFor, hmac_bytes};
+ghost use Rattle.ripemd_mac.specs.Laws as laws;
 
 use ripemd::block_api::{ByteArray, write_short};
 use ripemd::digest::{BlockDigest, Digest, SerializableState};
@@ -141,8 +142,6 @@ impl<F: ListBlockFunction> Incremental for Hmac<BlockHasher<F>> {
     fn finalize(self) -> F::Digest {
         Hmac::finalize(self)
     }
-
-    ghost use Rattle.ripemd_mac.specs.Laws as laws;
 
     ghost fed_nothing = { laws.fed_nothing (F.list F.start_of) F.step F.output };
 

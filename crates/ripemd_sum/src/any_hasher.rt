@@ -3,6 +3,7 @@
 ghost use Rattle.std.specs.Prelude.{◌≡◌, ⊤};
 ghost use Rattle.ripemd.specs.Standard.Hashing.{hash};
 ghost use Rattle.ripemd.specs.States.{HashState, initial_state, fed, finish};
+ghost use Rattle.ripemd.specs.Laws as laws;
 
 use ripemd::Digest;
 use ripemd::incremental::Incremental;
@@ -49,8 +50,6 @@ impl<D: Digest> Incremental for AnyHasher<D> {
     fn finalize(self) -> D::Output {
         self.hasher.finalize()
     }
-
-    ghost use Rattle.ripemd.specs.Laws as laws;
 
     ghost fed_nothing = { λ _. laws.fed_nothing_at_first D.step D.start };
 
