@@ -38,17 +38,22 @@ FUNCTIONS = $(shell sed -n 's/^function \([^ ]*\) .*/\1/p' tests/data/interface.
 SITE = $(shell python3 -c 'import sys; sys.version_info < (3, 11) or \
   print("lib/python%d.%d/site-packages" % sys.version_info[:2])' 2>/dev/null)
 
-.PHONY: all library wheel js dist toolchain prefix check mutants gate fuzz bench install install-program install-library \
-  install-provider install-python uninstall clean
+.PHONY: all ripemd_sum rmdsum library wheel js dist toolchain prefix check mutants gate fuzz bench install \
+  install-program install-library install-provider install-python uninstall clean
 
 # The libraries are proved first, where they have changed.
 all: toolchain
 	@[ -z '$(TARGET)' ] || { echo 'make: the programs and make install are for x86-64: leave TARGET out' >&2; exit 1; }
 	@[ -e $(FILES_PROGRAM) ] || \
 	  echo 'make: proving and building the programs: some minutes the first time' >&2
-	@build/tell build/crate ripemd_sum $(PROCESSOR) >/dev/null
-	@build/tell build/crate rmdsum $(if $(CPU),$(CPU),x86-64 x86-64-v3) >/dev/null
+	@build/tell $(MAKE) --no-print-directory -j2 ripemd_sum rmdsum >/dev/null
 	$(if $(CPU),,@build/program $(FILES_PROGRAM))
+
+ripemd_sum:
+	@build/crate $@ $(PROCESSOR)
+
+rmdsum:
+	@build/crate $@ $(if $(CPU),$(CPU),x86-64 x86-64-v3)
 
 toolchain:
 	@rt version >/dev/null 2>&1 || { echo 'make: the command rt of the Rattle toolchain does not run;' \
