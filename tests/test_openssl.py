@@ -345,7 +345,7 @@ print(*(f"{hashlib.new(name).name} {name in hashlib.algorithms_available}" for n
     env = {"OPENSSL_MODULES": modules, "OPENSSL_CONF": configurations["itself"]}
     assert run("/usr/bin/python3", "-c", code, env=env).stdout == "undefined False ripemd160 True\n"
     said = (ROOT / "docs/PYTHON.md").read_text("utf-8")
-    assert "`undefined`" in said and "`algorithms_available`" in said
+    assert "`undefined`" in said and "`hashlib.algorithms_available`" in said
 
 
 def dgst(env, *words):
