@@ -1,25 +1,24 @@
 -- What a check finds of the files of some lines.
-use Rattle.std.proofs.Common.{◌≡◌, ◌≢◌, ◌⊎◌, ℕ, zero, suc, ◌+◌, ◌<◌, ◌≤◌, ◌-◌, ◌^◌, List, [], ◌∷◌, ◌++◌, flat_map, length, take, drop, get_or, Option, Bool, true, refl, sym, ap, ◌∙◌, inl, inr, arith, append_assoc}
+use Rattle.std.proofs.Common.{◌≡◌, ◌≢◌, ◌⊎◌, ℕ, zero, suc, ◌+◌, ◌<◌, ◌≤◌, ◌-◌, ◌^◌, List, [], ◌++◌, flat_map, length, take, get_or, Option, Bool, true, refl, sym, ap, ◌∙◌, inl, inr, arith, append_assoc}
 use Rattle.std.specs.List.{AllZip, list_any}
 use Rattle.std.specs.Io.KnownBytes.{Consumes}
 use Rattle.std.proofs.KnownBytes.{Consumes-nil, Consumes-trans}
 use Rattle.std.proofs.lemmas.Slice.Zip.{AllZip-long}
-use Rattle.std.proofs.lemmas.List.{append-nil, length-append, length-take-le, take_all}
+use Rattle.std.proofs.lemmas.List.{append-nil, length-append, length-take-le}
 use Rattle.std.proofs.lemmas.Grind.{flat_map-append, fold-append}
-use Rattle.std.proofs.Math.Seq.{take-add}
 use Rattle.ripemd.specs.Standard.Hashing.{ripemd}
 use Rattle.ripemd_files.proofs.Types.{Fault, Write, NoMemory, TooManyLines, Line, Layout, Variant, Rules, Cursor, Group, Outcome, Stage, Verdict, Options, Tally}
 use Rattle.ripemd_files.specs.declared.piece.Stage.TheVariants.{Among, Ended, Failed}
 use Rattle.ripemd_files.specs.Files.{OfFirst, Place, ComesTo, parameters_of}
-use Rattle.ripemd_files.specs.Said.{Explains, Pends, Stops, Tells, Told, written}
+use Rattle.ripemd_files.specs.Said.{Explains, Stops, Tells, Told}
 use Rattle.ripemd_files.specs.Splitting.{IsEnded, IsWhole, ListState, lines_of}
-use Rattle.ripemd_files.specs.Checking.{Event, Events, IsEventOf, IsNamed, IsOutcomeOf, IsTally, checked, counted, has_verdict, is_difference, is_match, is_misformatted, is_unreadable, items_of_event, verdict_of}
+use Rattle.ripemd_files.specs.Checking.{Counts, Event, IsEventOf, IsNamed, IsOutcomeOf, IsTally, checked, counted, has_verdict, is_difference, is_match, is_misformatted, is_unreadable, items_of_event, verdict_of}
 use Rattle.ripemd_files.specs.Groups.{ChecksFirst, ChecksLines, ChecksSoFar, EndsAs, ExplainsReading, ReadsGroup, StopsReading, misformatted_events}
 use Rattle.ripemd_files.specs.Lists.{ChecksList, IsReport, Reaches, Reports, StopsList, last_remarks, layout_behind, succeeds}
 use Rattle.ripemd_files.proofs.Cutting.{cut, ended_since, whole_more}
 use Rattle.ripemd_files.proofs.Grouped.{group_partly, group_reports, reports_more}
-use Rattle.ripemd_files.proofs.Telling.{no_memory, pends_done, pends_more, pends_none, pends_stops, pends_undone, stops_after, stops_for, stops_now, tells_more, tells_none}
-use Rattle.ripemd_files.proofs.Zips.{all_zip_append, all_zip_at, all_zip_next, first_of, take_within}
+use Rattle.ripemd_files.proofs.Telling.{stops_after, stops_for, stops_now, tells_more, tells_none}
+use Rattle.ripemd_files.proofs.Zips.{all_zip_at, first_of}
 
 -- some events have counts
 some_tally : (events : List Event) → (tally : Tally) × IsTally events tally
@@ -48,110 +47,23 @@ named_till variant lines names (suc i) line within is first other named =
     first_of _ (suc i) lines names (omega (arith, within)) named
     (λ _. omega (arith, AllZip-long _ _ _ named, length-take-le (suc i) lines (omega (arith, within))))
 
--- what is told of some lines, of which it is not written all yet
-pub record ToldSoFar {File : Type 0} (place : Place File) (options : Options) (lines : List Line) (old new : Told) (report : List ℕ) (tally next : Tally)
-    : Type 0 where
-  pub events : List Event
-  pub are : Events place options lines events tally next
-  pub pends : Pends old new [] report (flat_map (items_of_event options) events)
+-- counts of no events, of some and others, and of what came of a line
+pub counts_none : (tally : Tally) → Counts tally [] tally
+counts_none tally earlier counted = rw append-nil counted
 
-no_events : {File : Type 0} (place : Place File) (options : Options) (tally : Tally) → Events place options [] [] tally tally
-no_events place options tally = record { each = tt; counts = λ earlier counted. rw append-nil counted }
+pub counts_more : (a b c : Tally) (events others : List Event) → Counts a events b → Counts b others c → Counts a (events ++ others) c
+counts_more a b c events others first second earlier counted = rw (← append_assoc) (second (earlier ++ events) (first earlier counted))
 
--- no line
-pub told_none : {File : Type 0} (place : Place File) (options : Options) (old : Told) (tally : Tally) → ToldSoFar place options [] old old [] tally tally
-told_none place options old tally = record { events = []; are = no_events place options tally; pends = pends_none old [] }
-
-pub checks_none : {File : Type 0} (place : Place File) (options : Options) (old : Told) (tally : Tally) → ChecksLines place options [] old old tally tally
-checks_none place options old tally = record { events = []; are = no_events place options tally; tells = tells_none old }
-
--- the next line of some whose files were read
-module _ {File : Type 0} (place : Place File) (options : Options) (lines : List Line) (outcomes : List Outcome)
-    (read : AllZip (IsOutcomeOf place) lines outcomes) where
-  module _ (k : ℕ) (line : Line) (outcome : Outcome) (verdict : Verdict) (a b c : Told) (report : List ℕ) (first now : Tally)
-      (within : k < length outcomes) (is_line : line ≡ get_or lines k line) (is_outcome : outcome ≡ get_or outcomes k outcome)
-      (is_verdict : verdict ≡ verdict_of options.ignore_missing line.digest.items outcome)
-      (before : ToldSoFar place options (take k lines) a b report first now) where
-    abbrev event : Event
-    event = checked line.name.items verdict
-
-    with_it : flat_map (items_of_event options) (before.events ++ event ∷ []) ≡ flat_map (items_of_event options) before.events ++ items_of_event options event
-    with_it = rw (flat_map-append, append-nil) refl
-
-    each_next : AllZip (IsEventOf place options.ignore_missing) (take (k + 1) lines) (before.events ++ event ∷ [])
-    each_next =
-        let short : k < length lines = omega (arith, AllZip-long _ _ _ read, within) in
-        let comes : IsOutcomeOf place line outcome =
-        rw (← is_line, ← is_outcome) at (all_zip_at (IsOutcomeOf place) lines outcomes k line outcome read short) in
-        all_zip_next _ lines before.events k line event short (sym is_line) before.are.each
-        (outcome, comes, ap (checked line.name.items) is_verdict)
-
-    pub told_next : (more : List ℕ) (next : Tally) → Pends b c report more (items_of_event options event)
-        → ((earlier : List Event) (name : List ℕ) → IsTally earlier now → IsTally (earlier ++ checked name verdict ∷ []) next)
-        → ToldSoFar place options (take (k + 1) lines) a c more first next
-    told_next more next pends counts = record {
-      events = before.events ++ event ∷ [];
-      are = record {
-        each = each_next;
-        counts = λ earlier counted. rw (← append_assoc) (counts (earlier ++ before.events) line.name.items (before.are.counts earlier counted));
-      };
-      pends = rw with_it (pends_more a b c [] report more _ _ before.pends pends);
-    }
-
-    -- where the run ends
-    pub told_till : (fault : Fault) → Stops ⊥ b c (written report ++ items_of_event options event) fault → ChecksFirst place options lines a c fault
-    told_till fault stops = record {
-      count = k + 1;
-      events = before.events ++ event ∷ [];
-      each = each_next;
-      stops = rw with_it (pends_stops ⊥ a b c report _ _ fault before.pends stops);
-    }
-
--- all of them
-module _ {File : Type 0} (place : Place File) (options : Options) (lines : List Line) (k : ℕ) (a b c : Told) (report : List ℕ) (first now : Tally)
-    (before : ToldSoFar place options (take k lines) a b report first now) where
-  pub told_all : length lines ≤ k → Tells b c (written report) → ChecksLines place options lines a c first now
-  told_all over wrote = record {
-    events = before.events;
-    are = rw (take_all k lines over) at before.are;
-    tells = pends_done a b c report _ before.pends wrote;
-  }
-
-  pub told_unwritten : (fault : Fault) → Stops ⊥ b c (written report) fault → ChecksFirst place options lines a c fault
-  told_unwritten fault stops =
-      record { count = k; events = before.events; each = before.are.each; stops = pends_undone ⊥ a b c report _ fault before.pends stops }
-
--- the lines from a place on, after those before it
-module _ {File : Type 0} (place : Place File) (options : Options) (lines : List Line) (start : ℕ) (a b : Told) (first now : Tally)
-    (before : ChecksLines place options (take start lines) a b first now) where
-  pub checks_lines_on : (c : Told) (end : ℕ) (next : Tally) → start ≤ end → ChecksLines place options (take (end - start) (drop start lines)) b c now next
-      → ChecksLines place options (take end lines) a c first next
-  checks_lines_on c end next le after =
-      let same : start + (end - start) ≡ end = omega (arith, le) in
-      record {
-        events = before.events ++ after.events;
-        are = record {
-          each = rw (← take-add, same) at (all_zip_append _ _ _ _ _ before.are.each after.are.each);
-          counts = λ earlier counted. rw (← append_assoc) (after.are.counts (earlier ++ before.events) (before.are.counts earlier counted));
-        };
-        tells = rw flat_map-append (tells_more a b c _ _ before.tells after.tells);
-      }
-
-  -- or the first of these
-  pub checks_part : (c : Told) (end : ℕ) (fault : Fault) → ChecksFirst place options (take (end - start) (drop start lines)) b c fault
-      → ChecksFirst place options lines a c fault
-  checks_part c end fault after =
-      let (count, same) = take_within after.count (end - start) (drop start lines) in
-      record {
-        count = start + count;
-        events = before.events ++ after.events;
-        each = rw (same, ← take-add) at (all_zip_append _ _ _ _ _ before.are.each after.each);
-        stops = rw flat_map-append (stops_after ⊥ a b c _ _ fault before.tells after.stops);
-      }
-
-  -- there is no memory for the next
-  pub checks_no_more : ChecksFirst place options lines a b NoMemory
-  checks_no_more = record { count = start; events = before.events; each = before.are.each; stops = no_memory ⊥ a b _ before.tells }
+-- what came of the next of some lines, the files of which were read
+pub event_at : {File : Type 0} (place : Place File) (ignore_missing : Bool) (lines : List Line) (outcomes : List Outcome)
+    → AllZip (IsOutcomeOf place) lines outcomes → (k : ℕ) (line : Line) (outcome : Outcome) → k < length outcomes → line ≡ get_or lines k line
+    → outcome ≡ get_or outcomes k outcome → (verdict : Verdict) → verdict ≡ verdict_of ignore_missing line.digest.items outcome
+    → IsEventOf place ignore_missing line (checked line.name.items verdict)
+event_at place ignore_missing lines outcomes read k line outcome within is_line is_outcome verdict is =
+    let comes : IsOutcomeOf place line outcome =
+    rw (← is_line, ← is_outcome) at
+        (all_zip_at (IsOutcomeOf place) lines outcomes k line outcome read (omega (arith, AllZip-long _ _ _ read, within))) in
+    (outcome, comes, ap (checked line.name.items) is)
 
 -- nothing of a list yet
 pub checks_begin : {File : Type 0} (place : Place File) (options : Options) (kinds : Rules) (cursor : Cursor) (list : Option (List ℕ)) (told : Told)
@@ -243,18 +155,18 @@ module _ {File : Type 0} {place : Place File} {options : Options} {kinds : Rules
         → StopsList place options kinds first.layout old next.left a c fault
     stops_lines {c = c} {fault = fault} are_lines checks =
         let (lines, behind, split, reports) =
-        group_partly place options.ignore_missing kinds reads.reads checks.count checks.events (rw are_lines at checks.each) in
-        stopped next.left c reads.reads.bytes reads.rest lines behind checks.events fault reads.reads.consumed ends split reports (stops_for _ b c _ fault checks.stops)
+        group_partly place options.ignore_missing kinds reads.reads checks.count checks.found (rw are_lines at checks.each) in
+        stopped next.left c reads.reads.bytes reads.rest lines behind checks.found fault reads.reads.consumed ends split reports (stops_for _ b c _ fault checks.stops)
 
     -- or of all
     module _ {lines : List Line} {c : Told} {counted : Tally} (are_lines : lines ≡ group.lines.items)
         (checks : ChecksLines place options lines b c tally counted) where
       abbrev found : List Event
-      found = checks.events ++ misformatted_events group.misformatted
+      found = checks.found ++ misformatted_events group.misformatted
 
       -- what comes of all of its lines
       reported : Reports place options.ignore_missing kinds now.layout now.number (lines_of reads.reads.bytes) found
-      reported = group_reports place options.ignore_missing kinds reads.reads checks.events (rw are_lines at checks.are.each)
+      reported = group_reports place options.ignore_missing kinds reads.reads checks.found (rw are_lines at checks.each)
 
       -- and the one that says nothing ended the run
       pub stops_misformatted : {d : Told} {fault : Fault}
@@ -269,11 +181,11 @@ module _ {File : Type 0} {place : Place File} {options : Options} {kinds : Rules
           (counts : (earlier : List Event) → IsTally earlier counted → IsTally (earlier ++ misformatted_events group.misformatted) next_tally) where
         told_on : Tells a d (flat_map (items_of_event options) (so_far.events ++ found))
         told_on =
-            rw (flat_map-append (items_of_event options) so_far.events, flat_map-append (items_of_event options) checks.events)
+            rw (flat_map-append (items_of_event options) so_far.events, flat_map-append (items_of_event options) checks.found)
             (tells_more a b d _ _ so_far.tells (tells_more b c d _ _ checks.tells bad))
 
         counted_all : IsTally (so_far.events ++ found) next_tally
-        counted_all = rw (← append_assoc) (counts (so_far.events ++ checks.events) (checks.are.counts so_far.events so_far.counts))
+        counted_all = rw (← append_assoc) (counts (so_far.events ++ checks.found) (checks.counts so_far.events so_far.counts))
 
         layout_over : after.layout ≡ layout_behind kinds first.layout (lines_of so_far.bytes ++ lines_of reads.reads.bytes)
         layout_over = rw (fold-append, ← so_far.layout) reads.reads.layout

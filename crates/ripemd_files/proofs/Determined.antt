@@ -1,12 +1,11 @@
 -- Where all is known of a folder, one thing is right.
-use Rattle.std.proofs.Common.{◌≡◌, ◌≢◌, ◌⊎◌, ℕ, ◌+◌, ◌<◌, ◌++◌, List, [], ◌∷◌, length, take, map, flat_map, Option, Some, Bool, true, false, All, refl, sym, ap, subst, ◌∙◌, arith, inl, inr, append_assoc}
+use Rattle.std.proofs.Common.{◌≡◌, ◌≢◌, ◌⊎◌, ℕ, ◌+◌, ◌<◌, ◌++◌, List, [], ◌∷◌, length, take, flat_map, Option, Some, Bool, true, false, refl, sym, ap, subst, ◌∙◌, arith, inl, inr, append_assoc}
 use Rattle.ripemd_files.specs.Lines.{line_of, end_of}
 use Rattle.std.specs.Prelude.{Result, Ok, unwrap_or, Err}
 use Rattle.std.specs.List.{AllZip, list_all}
 use Rattle.std.specs.Io.KnownBytes.{Consumes, IsAtEnd}
 use Rattle.std.specs.declared.io.Error.{Error}
 use Rattle.std.proofs.lemmas.List.{append-nil, length-append}
-use Rattle.std.proofs.lemmas.List.Elements.{All-tail, All-head}
 use Rattle.std.proofs.Math.Seq.{take-append_seam}
 use Rattle.ripemd.specs.Standard.Hashing.{ripemd}
 use Rattle.ripemd_files.proofs.Types.{Layout, Standard, Rules, Outcome, Digest, Refused, Broken, Stage, Style, Options, Tally, Verdict}
@@ -14,7 +13,7 @@ use Rattle.ripemd_files.specs.declared.piece.Stage.TheVariants.{Among, Ended}
 use Rattle.ripemd_files.specs.Checking.{Event, IsTally, checked, misformatted, verdict_of, verdict_of_digest}
 use Rattle.ripemd_files.specs.Determined.{IsKnown, Print, Report, Start}
 use Rattle.ripemd_files.specs.Lists.{Entry, IsEventOn, IsReport, WasRead, body_of_line}
-use Rattle.ripemd_files.specs.Printing.{Reading, items_on, was_read, Prints}
+use Rattle.ripemd_files.specs.Printing.{IsReading, Reading, items_of_reading, items_on, was_read}
 use Rattle.ripemd_files.specs.Files.{Breaks, ComesTo, Gives, Place, parameters_of}
 use Rattle.ripemd_files.specs.Said.{Adds, Item, unreadable, written}
 use Rattle.ripemd_files.specs.Splitting.{lines_of}
@@ -158,32 +157,23 @@ module _ (contents : List ℕ → Result (List ℕ) Error) (style : Style) where
   abbrev are_given : List (List ℕ) → Bool
   are_given = list_all (λ (name : List ℕ). is_given (contents name))
 
-module _ {File : Type 0} (place : Place File) (contents : List ℕ → Result (List ℕ) Error) (style : Style) (known : IsKnown place contents) where
-  abbrev IsRead : Reading → Type 0
-  IsRead r = ComesTo place (ripemd (parameters_of style.variant)) r.name r.outcome
+-- what is printed of files is by what their names give
+prints_by : {File : Type 0} (place : Place File) (contents : List ℕ → Result (List ℕ) Error) (style : Style) → IsKnown place contents
+    → (names : List (List ℕ)) (rs : List Reading) → AllZip (IsReading place style) names rs
+    → (flat_map (items_of_reading style) rs ≡ items contents style names)
+    × (list_all (λ (r : Reading). was_read r.outcome) rs ≡ are_given contents style names)
+prints_by place contents style known [] [] read = (refl, refl)
+prints_by place contents style known (name ∷ names) (r ∷ rs) read =
+    let here = items_at place contents known style name r.outcome read.0.1 in
+    let more = prints_by place contents style known names rs read.1 in
+    (rw (read.0.0, here.0, more.0) refl, rw (here.1, more.1) refl)
+prints_by place contents style known _ _ read = absurd read
 
-  of_readings : (rs : List Reading) → All IsRead rs
-      → (flat_map (λ (r : Reading). items_on style r.name r.outcome) rs ≡ items contents style (map (λ (r : Reading). r.name) rs))
-      × (list_all (λ (r : Reading). was_read r.outcome) rs ≡ are_given contents style (map (λ (r : Reading). r.name) rs))
-  of_readings [] read = (refl, refl)
-  of_readings (r ∷ rs) read =
-      let here = items_at place contents known style r.name r.outcome (All-head IsRead r rs read) in
-      let more = of_readings rs (All-tail IsRead r rs read) in
-      (rw (here.0, more.0) refl, rw (here.1, more.1) refl)
-
-  -- what is printed of files is by what their names give
-  prints_by : (names : List (List ℕ)) (told : List Item) (all : Bool) → Prints place style names told all
-      → (told ≡ items contents style names) × (all ≡ are_given contents style names)
-  prints_by names told all prints = rw prints.named at (rw (← prints.said, ← prints.answer) at (of_readings prints.readings prints.each))
-
-module _ {File : Type 0} (place : Place File) (contents : List ℕ → Result (List ℕ) Error) (style : Style) (files : List (List ℕ))
-    (before : List Item) (failure : Option Error) (known : IsKnown place contents)
-    (one : Print place style files (record { items = Some before; failure = failure })) where
-  by_one : (one.prints.items ≡ items contents style files) × (one.all ≡ are_given contents style files)
-  by_one = prints_by place contents style known files one.prints.items one.all one.prints.prints
-
-  pub one_print : (other : Print place style files (record { items = Some before; failure = failure }))
-      → (one.told.items ≡ other.told.items) × (one.all ≡ other.all)
-  one_print other =
-      let by_other = prints_by place contents style known files other.prints.items other.all other.prints.prints in
-      (cc (by_one.0, by_other.0, grown _ _ _ one.prints.tells.adds, grown _ _ _ other.prints.tells.adds), by_one.1 ∙ sym by_other.1)
+pub one_print : {File : Type 0} (place : Place File) (contents : List ℕ → Result (List ℕ) Error) (style : Style) (names : List (List ℕ))
+    (before : List Item) (failure : Option Error) → IsKnown place contents
+    → (one other : Print place style names (record { items = Some before; failure = failure }))
+    → (one.told.items ≡ other.told.items) × (one.all ≡ other.all)
+one_print place contents style names before failure known one other =
+    let a = prints_by place contents style known names one.prints.found one.prints.each in
+    let b = prints_by place contents style known names other.prints.found other.prints.each in
+    (cc (a.0, b.0, grown _ _ _ one.prints.tells.adds, grown _ _ _ other.prints.tells.adds), cc (a.1, b.1, one.prints.counts, other.prints.counts))

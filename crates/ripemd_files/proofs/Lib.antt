@@ -8,6 +8,7 @@ pub mod Ends
 pub mod Pieces
 pub mod Zips
 pub mod Telling
+pub mod InTurn
 pub mod Printed
 pub mod Checked
 pub mod Cutting

@@ -1,6 +1,6 @@
 -- What a check says of the files that a list names, and how it ends.
 use Rattle.std.specs.Prelude.{◌≡◌, ◌-◌, ◌^◌, ℕ, List, [], ◌∷◌, ◌++◌, codes, Bool, true, false, ◌&&◌, ◌||◌, ◌==◌, not, if◌then◌else◌, count_by, min}
-use Rattle.std.specs.List.{list_any, AllZip}
+use Rattle.std.specs.List.{list_any}
 use Rattle.std.specs.Str.{bytes_eq}
 use Rattle.std.specs.IoError.{error_kind}
 use Rattle.std.specs.declared.io.Error.{Error}
@@ -154,7 +154,6 @@ IsEventOf place ignore_missing line event =
     (outcome : Outcome) × IsOutcomeOf place line outcome
     × (event ≡ checked line.name.items (verdict_of ignore_missing line.digest.items outcome))
 
--- the files that some lines name were read, and what was found is these events
-pub record Events {File : Type 0} (place : Place File) (options : Options) (lines : List Line) (events : List Event) (tally next : Tally) : Type 0 where
-  pub each : AllZip (IsEventOf place options.ignore_missing) lines events
-  pub counts : (earlier : List Event) → IsTally earlier tally → IsTally (earlier ++ events) next
+-- behind any events these are counted
+abbrev pub Counts : Tally → List Event → Tally → Type 0
+Counts before events after = (earlier : List Event) → IsTally earlier before → IsTally (earlier ++ events) after

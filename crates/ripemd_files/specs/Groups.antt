@@ -1,5 +1,5 @@
 -- How the code reads a list: some lines at once.
-use Rattle.std.specs.Prelude.{◌≡◌, ◌+◌, ◌<◌, ◌≤◌, ◌^◌, ℕ, List, [], ◌∷◌, ◌++◌, length, map, take, flat_map, Option, Some, None, ⊤}
+use Rattle.std.specs.Prelude.{◌≡◌, ◌+◌, ◌<◌, ◌≤◌, ◌^◌, ℕ, List, [], ◌∷◌, ◌++◌, length, map, flat_map, Option, Some, None, ⊤}
 use Rattle.std.specs.List.{AllZip}
 use Rattle.std.specs.Io.KnownBytes.{Consumes}
 use Rattle.ripemd_files.specs.declared.line.Line.{Line}
@@ -16,8 +16,8 @@ use Rattle.ripemd_files.specs.declared.verdict.Options.{Options}
 use Rattle.ripemd_files.specs.declared.verdict.Tally.{Tally}
 use Rattle.ripemd_files.specs.declared.fault.Fault.{Fault}
 use Rattle.ripemd_files.specs.declared.fault.Fault.TheVariants.{Write, NoMemory, TooManyLines}
-use Rattle.ripemd_files.specs.Said.{Stops, Tells, Told}
-use Rattle.ripemd_files.specs.Checking.{Event, Events, IsEventOf, IsTally, items_of_event, misformatted}
+use Rattle.ripemd_files.specs.Said.{Tells, TellsEach, TellsFirst, Told}
+use Rattle.ripemd_files.specs.Checking.{Counts, Event, IsEventOf, IsTally, items_of_event, misformatted}
 use Rattle.ripemd_files.specs.Lists.{Entry, IsTaken, Reports, entries_of, entry_of, layout_after, layout_behind}
 
 -- what a line says, by the layout of its list, if that counts
@@ -88,17 +88,12 @@ pub record StopsReading (old new : Option (List ℕ)) (number : ℕ) (fault : Fa
   pub why : ExplainsReading number bytes fault
 
 -- what was found of some lines was told and counted
-pub record ChecksLines {File : Type 0} (place : Place File) (options : Options) (lines : List Line) (old new : Told) (tally next : Tally) : Type 0 where
-  pub events : List Event
-  pub are : Events place options lines events tally next
-  pub tells : Tells old new (flat_map (items_of_event options) events)
+abbrev pub ChecksLines : {File : Type 0} → Place File → Options → List Line → (old new : Told) → (before after : Tally) → Type 0
+ChecksLines place options = TellsEach (IsEventOf place options.ignore_missing) (items_of_event options) Counts
 
 -- or of the first of them, and then the run ended
-pub record ChecksFirst {File : Type 0} (place : Place File) (options : Options) (lines : List Line) (old new : Told) (fault : Fault) : Type 0 where
-  pub count : ℕ
-  pub events : List Event
-  pub each : AllZip (IsEventOf place options.ignore_missing) (take count lines) events
-  pub stops : Stops ⊥ old new (flat_map (items_of_event options) events) fault
+abbrev pub ChecksFirst : {File : Type 0} → Place File → Options → List Line → (old new : Told) → Fault → Type 0
+ChecksFirst place options = TellsFirst (IsEventOf place options.ignore_missing) (items_of_event options)
 
 -- what comes of all lines of a list so far was told and counted
 pub record ChecksSoFar {File : Type 0} (place : Place File) (options : Options) (rules : Rules) (first now : Cursor)

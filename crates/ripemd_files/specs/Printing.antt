@@ -1,5 +1,5 @@
 -- What is printed of files: for each a line with its digest and its name, and an error for each that can't be read.
-use Rattle.std.specs.Prelude.{◌≡◌, ℕ, List, [], ◌∷◌, ◌++◌, map, flat_map, take, Bool, true, false, All}
+use Rattle.std.specs.Prelude.{◌≡◌, ℕ, List, [], ◌∷◌, ◌++◌, Bool, true, false, ◌&&◌}
 use Rattle.std.specs.List.{list_all}
 use Rattle.ripemd.specs.Standard.Hashing.{ripemd}
 use Rattle.ripemd_files.specs.declared.printing.Style.{Style}
@@ -7,7 +7,7 @@ use Rattle.ripemd_files.specs.declared.outcome.Outcome.{Outcome}
 use Rattle.ripemd_files.specs.declared.outcome.Outcome.TheVariants.{Digest, Refused, Broken}
 use Rattle.ripemd_files.specs.Lines.{line_of, end_of}
 use Rattle.ripemd_files.specs.Files.{Place, ComesTo, parameters_of}
-use Rattle.ripemd_files.specs.Said.{Item, Stops, Tells, Told, unreadable, written}
+use Rattle.ripemd_files.specs.Said.{Item, TellsEach, TellsFirst, Told, unreadable, written}
 use Rattle.ripemd_files.specs.declared.fault.Fault.{Fault}
 
 -- a file by its name, and what came of reading it
@@ -36,24 +36,21 @@ was_read (Broken error) = false
 abbrev pub items_on : Style → List ℕ → Outcome → List Item
 items_on style name outcome = remarks_on name outcome ++ written (line_for style name outcome)
 
--- the files of these names were read in order, and this is told of them: for each its line or its error
-pub record Prints {File : Type 0} (place : Place File) (style : Style) (names : List (List ℕ)) (items : List Item) (all : Bool) : Type 0 where
-  pub readings : List Reading
-  pub named : map (λ (r : Reading). r.name) readings ≡ names
-  pub each : All (λ (r : Reading). ComesTo place (ripemd (parameters_of style.variant)) r.name r.outcome) readings
-  pub said : items ≡ flat_map (λ (r : Reading). items_on style r.name r.outcome) readings
-  pub answer : all ≡ list_all (λ (r : Reading). was_read r.outcome) readings
+-- the file of a name was read
+abbrev pub IsReading : {File : Type 0} → Place File → Style → List ℕ → Reading → Type 0
+IsReading place style name reading = (reading.name ≡ name) × ComesTo place (ripemd (parameters_of style.variant)) name reading.outcome
 
--- it was told of all
-pub record PrintsAll {File : Type 0} (place : Place File) (style : Style) (names : List (List ℕ)) (old new : Told) (all : Bool) : Type 0 where
-  pub items : List Item
-  pub prints : Prints place style names items all
-  pub tells : Tells old new items
+abbrev pub items_of_reading : Style → Reading → List Item
+items_of_reading style reading = items_on style reading.name reading.outcome
 
--- or of the first of them, and then the run ended
-pub record PrintsFirst {File : Type 0} (place : Place File) (style : Style) (names : List (List ℕ)) (old new : Told) (fault : Fault) : Type 0 where
-  pub count : ℕ
-  pub items : List Item
-  pub all : Bool
-  pub prints : Prints place style (take count names) items all
-  pub stops : Stops ⊥ old new items fault
+-- all were read before, and these too
+abbrev pub AllRead : Bool → List Reading → Bool → Type 0
+AllRead before readings after = after ≡ before && list_all (λ (reading : Reading). was_read reading.outcome) readings
+
+-- the files of these names were read in order, and told of, each by its line or its error; and whether all were read
+abbrev pub PrintsAll : {File : Type 0} → Place File → Style → (names : List (List ℕ)) → (old new : Told) → (all : Bool) → Type 0
+PrintsAll place style names old new all = TellsEach (IsReading place style) (items_of_reading style) AllRead names old new true all
+
+-- or the first of them, and then the run ended
+abbrev pub PrintsFirst : {File : Type 0} → Place File → Style → (names : List (List ℕ)) → (old new : Told) → Fault → Type 0
+PrintsFirst place style = TellsFirst (IsReading place style) (items_of_reading style)

@@ -1,5 +1,6 @@
 -- What a run tells: the lines that it writes, and its remarks beside them, in order.
-use Rattle.std.specs.Prelude.{◌≡◌, ℕ, List, ◌++◌, map, Option, Some, None, ⊤}
+use Rattle.std.specs.Prelude.{◌≡◌, ℕ, List, ◌++◌, map, flat_map, take, Option, Some, None, ⊤}
+use Rattle.std.specs.List.{AllZip}
 use Rattle.std.specs.declared.io.Error.{Error}
 use Rattle.ripemd_files.specs.declared.fault.Fault.{Fault}
 use Rattle.ripemd_files.specs.declared.fault.Fault.TheVariants.{Write, NoMemory, TooManyLines}
@@ -48,6 +49,24 @@ Explains too_many old new TooManyLines = too_many × (new.failure ≡ old.failur
 pub record Stops (too_many : Type 0) (old new : Told) (items : List Item) (fault : Fault) : Type 0 where
   pub told : AddsFirst old.items new.items items
   pub why : Explains too_many old new fault
+
+-- ---- of each of some things
+
+-- of each of these things this was found, in order; it was told, and counted
+pub record TellsEach {A B C : Type 0} (IsFound : A → B → Type 0) (items_of : B → List Item) (Counts : C → List B → C → Type 0)
+    (things : List A) (old new : Told) (before after : C) : Type 0 where
+  pub found : List B
+  pub each : AllZip IsFound things found
+  pub tells : Tells old new (flat_map items_of found)
+  pub counts : Counts before found after
+
+-- or of the first of them, and the run ended when the first part of it was told
+pub record TellsFirst {A B : Type 0} (IsFound : A → B → Type 0) (items_of : B → List Item) (things : List A) (old new : Told) (fault : Fault)
+    : Type 0 where
+  pub count : ℕ
+  pub found : List B
+  pub each : AllZip IsFound (take count things) found
+  pub stops : Stops ⊥ old new (flat_map items_of found) fault
 
 -- ---- as the code tells it
 

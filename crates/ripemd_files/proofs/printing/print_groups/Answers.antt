@@ -1,10 +1,11 @@
 use Rattle.std.proofs.Common.{rules, arith, ◌∙◌}
 use Rattle.std.proofs.lemmas.List.{drop-map, take-map}
-use Rattle.ripemd_files.proofs.Printed.{first_from, prints_no_more, prints_nothing, prints_on, prints_part}
+use Rattle.ripemd_files.proofs.InTurn.{each_none, each_on, first_all, first_on}
+use Rattle.ripemd_files.proofs.Printed.{first_from, prints_after, read_more, read_none}
 use Rattle.ripemd_files.proofs.printing.print_groups.Goals as goal
 
 pub loop-start-init : goal.loop-start-init
-loop-start-init g c = record { printed = prints_nothing _ _ _; within = omega arith }
+loop-start-init g c = record { printed = each_none read_none read_more _ _; within = omega arith }
 
 pub print_outcomes-requires : goal.print_outcomes-requires
 print_outcomes-requires g c = record {
@@ -13,14 +14,15 @@ print_outcomes-requires g c = record {
 }
 
 pub returns-in_err-outcomes-clause-err : goal.returns-in_err-outcomes-clause-err
-returns-in_err-outcomes-clause-err g c = search (rules, prints_no_more _ _ _ _ _ _ _ c.loop-start.invariant.printed)
+returns-in_err-outcomes-clause-err g c = search (rules, first_all read_none read_more c.loop-start.invariant.printed)
 
 pub returns-in_err-read-clause-err : goal.returns-in_err-read-clause-err
 returns-in_err-read-clause-err g c =
-    search (rules, prints_part _ _ _ _ _ _ _ c.loop-start.invariant.printed _ _ _ (rw (← take-map, ← drop-map) at c.in_err-read.ensures.err))
+    search (rules, first_on read_none read_more c.loop-start.invariant.printed _ _ _ (rw (← take-map, ← drop-map) at c.in_err-read.ensures.err))
 
 pub loop-start-preserved : goal.loop-start-preserved
 loop-start-preserved g c = record {
-  printed = prints_on _ _ _ _ _ _ _ c.loop-start.invariant.printed _ _ _ (omega arith) (rw (← take-map, ← drop-map) at c.in_ok-read.ensures.ok);
+  printed = each_on read_none read_more c.loop-start.invariant.printed _ _ _ (omega arith)
+      (prints_after _ _ _ _ _ _ _ (rw (← take-map, ← drop-map) at c.in_ok-read.ensures.ok));
   within = (first_from _ c.args.names.now _ c.loop-start.start c.len.result c.loop-start.invariant.within (search rules) c.in_ok-outcomes.ensures).0;
 }
