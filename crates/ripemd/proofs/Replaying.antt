@@ -6,9 +6,7 @@ use Rattle.std.proofs.lemmas.List.{map-append, map-set, length-map, get_or-map}
 use Rattle.std.proofs.lemmas.List.Elements.{All-push, All-get_or}
 use Rattle.ripemd_block.specs.States.{HashState, initial_state}
 use Rattle.ripemd_block.specs.Laws.Pieces.{fed_nothing}
-use Rattle.ripemd.specs.declared.replay.Command.{Command}
-use Rattle.ripemd.specs.declared.replay.ReplayError.{ReplayError}
-use Rattle.ripemd.specs.declared.replay.ReplayError.TheVariants.{OutOfMemory}
+use Rattle.ripemd.specs.Types.{Command, ReplayError, OutOfMemory}
 use Rattle.ripemd.specs.Replay.{History, Machine, from_state, state, Grows, Does, Runs, Explains}
 use Rattle.ripemd.specs.Replay.{add_hasher, set_hasher, add_saved, add_digest}
 use Rattle.ripemd.specs.Held.{Holds}

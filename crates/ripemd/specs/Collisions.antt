@@ -2,8 +2,7 @@
 -- messages, where different pairs of state and block lead to the same state.
 use Rattle.std.specs.Prelude.{◌≡◌, ◌≢◌, ℕ, ◌+◌, ◌-◌, ◌<◌, List, [], length, take, slice_index_or, Option, Some}
 use Rattle.ripemd_block.specs.Standard.Hashing.{padded_message, blocks, walk}
-use Rattle.ripemd.specs.declared.witness.Meeting.{Meeting}
-use Rattle.ripemd.specs.declared.witness.Collision.{Collision}
+use Rattle.ripemd.specs.Types.{Meeting, Collision}
 
 -- a state and the block that comes next
 abbrev pub Pair : Type 0 → Type 0

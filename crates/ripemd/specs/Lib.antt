@@ -1,3 +1,5 @@
+-- The types of the code.
+pub mod Types
 -- The definitions that the contracts cite, of ripemd_block.
 pub use Rattle.ripemd_block.specs.Standard
 pub use Rattle.ripemd_block.specs.States

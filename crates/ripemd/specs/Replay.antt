@@ -3,10 +3,7 @@
 use Rattle.std.specs.Prelude.{◌≡◌, ◌≢◌, ℕ, ◌<◌, ◌≤◌, List, [], ◌∷◌, ◌++◌, length, take, Option, Some, None, ⊤}
 use Rattle.std.specs.List.{slice_get, slice_index_or, slice_set}
 use Rattle.ripemd_block.specs.States.{HashState, initial_state, fed, finish}
-use Rattle.ripemd.specs.declared.replay.Command.{Command}
-use Rattle.ripemd.specs.declared.replay.Command.TheVariants.{New, Update, Reset, Finish, Fork, Save, Load, Import}
-use Rattle.ripemd.specs.declared.replay.ReplayError.{ReplayError}
-use Rattle.ripemd.specs.declared.replay.ReplayError.TheVariants.{NoHasher, NoSaved, BadState, OutOfMemory}
+use Rattle.ripemd.specs.Types.{Command, New, Update, Reset, Finish, Fork, Save, Load, Import, ReplayError, NoHasher, NoSaved, BadState, OutOfMemory}
 
 -- ---- what the machine has
 

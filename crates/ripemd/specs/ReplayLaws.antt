@@ -12,10 +12,7 @@ use Rattle.ripemd_block.specs.Standard.Compression.{Parameters, compress}
 use Rattle.ripemd_block.specs.Standard.Hashing.{hash, ripemd}
 use Rattle.ripemd_block.specs.States.{HashState, initial_state, new_state}
 use Rattle.ripemd_block.specs.Laws.Pieces.{finish_fed}
-use Rattle.ripemd.specs.declared.replay.Command.{Command}
-use Rattle.ripemd.specs.declared.replay.Command.TheVariants.{New, Update, Reset, Finish, Fork, Save, Load, Import}
-use Rattle.ripemd.specs.declared.replay.ReplayError.{ReplayError}
-use Rattle.ripemd.specs.declared.replay.ReplayError.TheVariants.{NoHasher, NoSaved, BadState, OutOfMemory}
+use Rattle.ripemd.specs.Types.{Command, New, Update, Reset, Finish, Fork, Save, Load, Import, ReplayError, NoHasher, NoSaved, BadState, OutOfMemory}
 use Rattle.ripemd.specs.Replay.{Machine, empty_machine, from_state, feed, digest}
 use Rattle.ripemd.specs.Replay.{Grows, Does, Runs, Gives, Explains, Stops}
 

@@ -4,12 +4,8 @@ use Rattle.std.specs.List.{flat_map}
 use Rattle.std.specs.Borrow.{Bor}
 use Rattle.ripemd_block.specs.Standard.Hashing.{padded_message, blocks}
 use Rattle.ripemd_block.specs.States.{HashState, initial_state, fed, finish}
-use Rattle.ripemd.specs.declared.witness.Collision.{Collision}
+use Rattle.ripemd.specs.Types.{Collision, Command, New, Update, Reset, Finish, Fork, Save, Load, Import, ReplayError, NoHasher, NoSaved, BadState, OutOfMemory}
 use Rattle.ripemd.specs.Collisions.{CollideAt, IsCollision, IsOnlyCollision}
-use Rattle.ripemd.specs.declared.replay.Command.{Command}
-use Rattle.ripemd.specs.declared.replay.Command.TheVariants.{New, Update, Reset, Finish, Fork, Save, Load, Import}
-use Rattle.ripemd.specs.declared.replay.ReplayError.{ReplayError}
-use Rattle.ripemd.specs.declared.replay.ReplayError.TheVariants.{NoHasher, NoSaved, BadState, OutOfMemory}
 use Rattle.ripemd.specs.Replay.{Gives, Stops}
 
 -- ---- collisions

@@ -6,7 +6,7 @@ use Rattle.std.proofs.lemmas.Bool.Decides.{nat_tests}
 use Rattle.std.proofs.lemmas.Slice.Eq.{bytes_eq-Decides}
 use Rattle.std.proofs.lemmas.List.Folds.{list_any_at}
 use Rattle.ripemd.specs.Standard.Hashing.{ripemd}
-use Rattle.ripemd_files.proofs.Types.{Form, Layout, Standard, Newline, Variant, Rules, Outcome, Digest, Verdict, Differs, Matches}
+use Rattle.ripemd_files.specs.Types.{Form, Layout, Standard, Newline, Variant, Rules, Outcome, Digest, Verdict, Differs, Matches}
 use Rattle.ripemd_files.specs.Lines.{IsLine, RoundTrips, is_end}
 use Rattle.ripemd_files.specs.Files.{ComesTo, Gives, Place, parameters_of}
 use Rattle.ripemd_files.specs.Checking.{checked, verdict_of}

@@ -11,10 +11,7 @@ use Rattle.std.proofs.lemmas.Slice.Eq.{bytes_eq-Decides}
 use Rattle.std.proofs.lemmas.Option.{same_Some, option_and_then_some}
 use Rattle.hex.specs.Hex.{is_hex_digit}
 use Rattle.hex.proofs.HexLemmas.{decode_of-ok}
-use Rattle.ripemd_files.specs.declared.line.Variant.{Variant}
-use Rattle.ripemd_files.specs.declared.line.Variant.TheVariants.{R128, R160, R256, R320}
-use Rattle.ripemd_files.specs.declared.line.Layout.{Layout}
-use Rattle.ripemd_files.specs.declared.line.Layout.TheVariants.{Standard, Reversed}
+use Rattle.ripemd_files.specs.Types.{Variant, R128, R160, R256, R320, Layout, Standard, Reversed}
 use Rattle.ripemd_files.specs.Lines.{size_of, bits_of, IsLabel, is_blank, IsBlank, IsDigest, IsSeparator, IsUntagged, IsTagged}
 use Rattle.ripemd_files.specs.Reading.{strip, skip_blanks, split_blank, split_close, variant_of, strip_bits, strip_label, Found, text_at, untagged_at, skip_space, tagged_at, either_at, found_at, digest_at}
 use Rattle.std.specs.Option.{option_or}

@@ -7,8 +7,7 @@ use Rattle.std.proofs.lemmas.Slice.Zip.{AllZip-long}
 use Rattle.std.proofs.lemmas.List.{append-nil, length-append, length-take-le}
 use Rattle.std.proofs.lemmas.Grind.{flat_map-append, fold-append}
 use Rattle.ripemd.specs.Standard.Hashing.{ripemd}
-use Rattle.ripemd_files.proofs.Types.{Fault, Write, NoMemory, TooManyLines, Line, Layout, Variant, Rules, Cursor, Group, Outcome, Stage, Verdict, Options, Tally}
-use Rattle.ripemd_files.specs.declared.piece.Stage.TheVariants.{Among, Ended, Failed}
+use Rattle.ripemd_files.specs.Types.{Fault, Write, NoMemory, TooManyLines, Line, Layout, Variant, Rules, Cursor, Group, Outcome, Stage, Verdict, Options, Tally, Among, Ended, Failed}
 use Rattle.ripemd_files.specs.Files.{OfFirst, Place, ComesTo, parameters_of}
 use Rattle.ripemd_files.specs.Said.{Explains, Stops, Tells, Told}
 use Rattle.ripemd_files.specs.Splitting.{IsEnded, IsWhole, ListState, lines_of}

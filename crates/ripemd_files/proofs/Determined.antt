@@ -4,12 +4,10 @@ use Rattle.ripemd_files.specs.Lines.{line_of, end_of}
 use Rattle.std.specs.Prelude.{Result, Ok, unwrap_or, Err}
 use Rattle.std.specs.List.{AllZip, list_all}
 use Rattle.std.specs.Io.KnownBytes.{Consumes, IsAtEnd}
-use Rattle.std.specs.declared.io.Error.{Error}
+use Rattle.ripemd_files.specs.Types.{Error, Layout, Standard, Rules, Outcome, Digest, Refused, Broken, Stage, Style, Options, Tally, Verdict, Among, Ended}
 use Rattle.std.proofs.lemmas.List.{append-nil, length-append}
 use Rattle.std.proofs.Math.Seq.{take-append_seam}
 use Rattle.ripemd.specs.Standard.Hashing.{ripemd}
-use Rattle.ripemd_files.proofs.Types.{Layout, Standard, Rules, Outcome, Digest, Refused, Broken, Stage, Style, Options, Tally, Verdict}
-use Rattle.ripemd_files.specs.declared.piece.Stage.TheVariants.{Among, Ended}
 use Rattle.ripemd_files.specs.Checking.{Event, IsTally, checked, misformatted, verdict_of, verdict_of_digest}
 use Rattle.ripemd_files.specs.Determined.{IsKnown, Print, Report, Start}
 use Rattle.ripemd_files.specs.Lists.{Entry, IsEventOn, IsReport, WasRead, body_of_line}

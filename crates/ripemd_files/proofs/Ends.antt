@@ -4,10 +4,7 @@ use Rattle.std.specs.List.{list_any}
 use Rattle.std.proofs.lemmas.Bool.Decides.{nat_tests}
 use Rattle.std.proofs.lemmas.List.Folds.{list_any-append}
 use Rattle.hex.specs.Hex.{encode_lower, is_hex_digit}
-use Rattle.ripemd_files.specs.declared.line.Variant.{Variant}
-use Rattle.ripemd_files.specs.declared.line.Form.{Form}
-use Rattle.ripemd_files.specs.declared.line.Layout.{Layout}
-use Rattle.ripemd_files.specs.declared.line.Ending.TheVariants.{Newline, Zero}
+use Rattle.ripemd_files.specs.Types.{Variant, Form, Layout, Newline, Zero}
 use Rattle.ripemd_files.specs.Lines.{is_special, is_end, IsBlank, escaped, mark_of, text_of, body_of, line_of, IsLine, RoundTrips}
 use Rattle.ripemd_files.proofs.Bodies.{AreDigits, lacks_where, digits_of, starts-form}
 use Rattle.ripemd_files.proofs.Written.{IsDigest-written}

@@ -2,25 +2,16 @@
 use Rattle.std.proofs.Common.{◌≡◌, ◌⊎◌, ◌≤◌, ◌<◌, ◌^◌, ℕ, suc, zero, ◌+◌, List, [], ◌∷◌, ◌++◌, length, map, take, Option, Some, None, Bool, inl, inr, refl, sym, ap, ◌∙◌, append_assoc, arith}
 use Rattle.std.specs.List.{AllZip}
 use Rattle.std.specs.Io.KnownBytes.{Consumes}
-use Rattle.std.specs.declared.io.Error.{Error}
+use Rattle.ripemd_files.specs.Types.{Error, Layout, Line, Rules, Cursor, Group, Piece, Among, Fault, NoMemory}
 use Rattle.std.proofs.KnownBytes.{Consumes-nil, Consumes-trans}
 use Rattle.std.proofs.lemmas.Bool.{cases_Bool}
 use Rattle.std.proofs.lemmas.List.{append-nil, length-append, length-map, length-take, take-append-le, take-map, take_min}
 use Rattle.std.proofs.lemmas.Grind.{fold-append}
-use Rattle.ripemd_files.specs.declared.line.Layout.{Layout}
-use Rattle.ripemd_files.specs.declared.line.Line.{Line}
-use Rattle.ripemd_files.specs.declared.list.Rules.{Rules}
-use Rattle.ripemd_files.specs.declared.list.Cursor.{Cursor}
-use Rattle.ripemd_files.specs.declared.list.Group.{Group}
-use Rattle.ripemd_files.specs.declared.piece.Piece.{Piece}
 use Rattle.ripemd_files.specs.declared.piece.Piece.TheVariants as pieces
-use Rattle.ripemd_files.specs.declared.piece.Stage.TheVariants.{Among}
 use Rattle.ripemd_files.specs.Files.{Place}
 use Rattle.ripemd_files.specs.Splitting.{IsPiece, IsWhole, ListState, ReadsOn, lines_of, stage_after}
 use Rattle.ripemd_files.specs.Checking.{Event, IsEventOf, misformatted}
 use Rattle.ripemd_files.specs.Lists.{Entry, IsEventOn, Reports, entries_of, entry_of, is_passed_over, layout_after, layout_behind}
-use Rattle.ripemd_files.specs.declared.fault.Fault.{Fault}
-use Rattle.ripemd_files.specs.declared.fault.Fault.TheVariants.{NoMemory}
 use Rattle.ripemd_files.specs.Groups.{ExplainsReading, ReadsGroup, ReadsLines, Meaning, Means, StopsReading, Takes, misformatted_events, meanings}
 use Rattle.ripemd_files.specs.Groups.Meaning.{names, nothing}
 use Rattle.ripemd_files.proofs.Cutting.{cut, ended_since, lines_first, lines_last, whole_more}

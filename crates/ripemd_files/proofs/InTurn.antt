@@ -4,7 +4,7 @@ use Rattle.std.specs.List.{AllZip}
 use Rattle.std.proofs.lemmas.List.{append-nil, take_all}
 use Rattle.std.proofs.lemmas.Grind.{flat_map-append}
 use Rattle.std.proofs.Math.Seq.{take-add}
-use Rattle.ripemd_files.proofs.Types.{Fault, NoMemory}
+use Rattle.ripemd_files.specs.Types.{Fault, NoMemory}
 use Rattle.ripemd_files.specs.Said.{Item, Pends, Stops, Tells, TellsEach, TellsFirst, Told, written}
 use Rattle.ripemd_files.proofs.Telling.{no_memory, pends_done, pends_more, pends_none, pends_stops, pends_undone, stops_after, tells_more, tells_none}
 use Rattle.ripemd_files.proofs.Zips.{all_zip_append, all_zip_next, take_within}

@@ -7,9 +7,7 @@ use Rattle.std.proofs.lemmas.Bool.Decides.{nat_tests}
 use Rattle.std.proofs.lemmas.List.Sums.{AllPass-from_list_all}
 use Rattle.hex.specs.Hex.{is_hex_digit}
 use Rattle.hex.proofs.HexLemmas.{decode_of-digits}
-use Rattle.ripemd_files.specs.declared.line.Variant.{Variant}
-use Rattle.ripemd_files.specs.declared.line.Layout.{Layout}
-use Rattle.ripemd_files.specs.declared.line.Layout.TheVariants.{Standard, Reversed}
+use Rattle.ripemd_files.specs.Types.{Variant, Layout, Standard, Reversed}
 use Rattle.ripemd_files.specs.Lines.{size_of}
 use Rattle.ripemd_files.specs.Reading.{Found, skip_blanks, strip_mark, strip_label, variant_of, untagged_at}
 use Rattle.ripemd_files.specs.Layouts.{has_digits, is_wanted_length, layout_at, layout_of, HasLayout}

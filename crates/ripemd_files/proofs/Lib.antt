@@ -1,4 +1,3 @@
-pub mod Types
 pub mod Places
 pub mod Names
 pub mod Bodies

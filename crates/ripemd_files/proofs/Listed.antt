@@ -2,7 +2,7 @@
 use Rattle.std.proofs.Common.{◌≡◌, ◌≢◌, ℕ, List, [], ◌∷◌, ◌++◌, codes, map, Option, Some, None, unwrap_or, IsTrue, refl, sym}
 use Rattle.std.specs.Prelude.{IsFalse, option_map}
 use Rattle.std.proofs.lemmas.List.{append-nil, map-append}
-use Rattle.ripemd_files.proofs.Types.{Variant, Layout, Standard, Line, Rules, Cursor}
+use Rattle.ripemd_files.specs.Types.{Variant, Layout, Standard, Line, Rules, Cursor}
 use Rattle.ripemd_files.specs.Lines.{Says}
 use Rattle.ripemd_files.specs.Lists.{IsTaken, IsWanted, body_of_line, entry_of, is_passed_over, layout_after}
 use Rattle.ripemd_files.specs.Reading.{said_by, said_of}

@@ -7,7 +7,7 @@ use Rattle.std.proofs.Math.Bool.{and_assoc, and-true}
 use Rattle.std.specs.List.{AllZip}
 use Rattle.ripemd.specs.Standard.Hashing.{ripemd}
 use Rattle.ripemd_batch.specs.Lanes.{targets}
-use Rattle.ripemd_files.proofs.Types.{NoMemory, Style, Outcome}
+use Rattle.ripemd_files.specs.Types.{NoMemory, Style, Outcome}
 use Rattle.ripemd_files.specs.Files.{ComesTo, OfFirst, Place, parameters_of}
 use Rattle.ripemd_files.specs.Said.{TellsEach, Told}
 use Rattle.ripemd_files.specs.Printing.{AllRead, IsReading, PrintsAll, PrintsFirst, Reading, items_of_reading, was_read}

@@ -3,9 +3,7 @@ use Rattle.std.proofs.Common.{◌≡◌, ℕ, Bool, false, List, [], ◌∷◌, 
 use Rattle.std.specs.Prelude.{option_map, IfSome}
 use Rattle.std.proofs.lemmas.Bool.Decides.{nat_tests}
 use Rattle.std.proofs.lemmas.Option.{same_Some, none-some, option_and_then_some}
-use Rattle.ripemd_files.specs.declared.line.Variant.{Variant}
-use Rattle.ripemd_files.specs.declared.line.Layout.{Layout}
-use Rattle.ripemd_files.specs.declared.line.Line.{Line}
+use Rattle.ripemd_files.specs.Types.{Variant, Layout, Line}
 use Rattle.ripemd_files.specs.Lines.{is_blank, IsBlank, mark_of, IsLine, Says}
 use Rattle.ripemd_files.specs.Reading.{skip_blanks, strip_mark, found_at, digest_at, name_at, Said, said_by, said_of}
 use Rattle.ripemd_files.proofs.Names.{name_at-said, name_at-spelled}

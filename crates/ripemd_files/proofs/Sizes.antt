@@ -11,8 +11,7 @@ use Rattle.ripemd_block.specs.Standard.Compression.{Lines, Parameters, compress,
 use Rattle.ripemd_block.specs.Standard.Hashing.{blocks, hash, padded_message}
 use Rattle.ripemd_block.specs.Laws.WordBytes.{length-word_bytes}
 use Rattle.ripemd.specs.Standard.Hashing.{ripemd}
-use Rattle.ripemd_files.specs.declared.line.Variant.{Variant}
-use Rattle.ripemd_files.specs.declared.line.Variant.TheVariants.{R128, R160}
+use Rattle.ripemd_files.specs.Types.{Variant, R128, R160}
 use Rattle.ripemd_files.specs.Lines.{size_of}
 use Rattle.ripemd_files.specs.Files.{parameters_of}
 

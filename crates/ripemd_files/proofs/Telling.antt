@@ -1,8 +1,7 @@
 -- What is told, one thing after another.
 use Rattle.std.proofs.Common.{◌≡◌, ℕ, List, [], ◌++◌, Option, Some, None, refl, sym, ◌∙◌, append_assoc}
-use Rattle.std.specs.declared.io.Error.{Error}
+use Rattle.ripemd_files.specs.Types.{Error, Fault, Write, NoMemory, TooManyLines}
 use Rattle.std.proofs.lemmas.List.{append-nil, map-append}
-use Rattle.ripemd_files.proofs.Types.{Fault, Write, NoMemory, TooManyLines}
 use Rattle.ripemd_files.specs.Said.{Adds, AddsFirst, Explains, Item, Pends, Stops, Tells, Told, written}
 
 adds_none : (old : Option (List Item)) → Adds old old []

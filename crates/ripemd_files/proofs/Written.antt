@@ -4,12 +4,7 @@ use Rattle.std.specs.Prelude.{codes}
 use Rattle.std.proofs.lemmas.Bool.Decides.{nat_tests}
 use Rattle.hex.specs.Hex.{encode_lower, lower_digits}
 use Rattle.hex.proofs.HexLemmas.{length-encode_with, decode_of-encode_lower}
-use Rattle.ripemd_files.specs.declared.line.Variant.{Variant}
-use Rattle.ripemd_files.specs.declared.line.Form.{Form}
-use Rattle.ripemd_files.specs.declared.line.Form.TheVariants.{Text, Binary, Tagged}
-use Rattle.ripemd_files.specs.declared.line.Ending.{Ending}
-use Rattle.ripemd_files.specs.declared.line.Layout.{Layout}
-use Rattle.ripemd_files.specs.declared.line.Layout.TheVariants.{Standard, Reversed}
+use Rattle.ripemd_files.specs.Types.{Variant, Form, Text, Binary, Tagged, Ending, Layout, Standard, Reversed}
 use Rattle.ripemd_files.specs.Lines.{label_of, text_of, body_of, line_of, is_marked, IsDigest, IsUntagged, IsTagged, IsLine, IsReadable, RoundTrips}
 use Rattle.ripemd_files.proofs.Names.{Spells-escaped}
 

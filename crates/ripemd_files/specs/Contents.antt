@@ -1,9 +1,6 @@
 -- What a file gave, as it is read.
 use Rattle.std.specs.Prelude.{◌≡◌, ℕ, List, []}
-use Rattle.ripemd_files.specs.declared.digests.Content.{Content}
-use Rattle.ripemd_files.specs.declared.digests.Content.TheVariants.{Short, Read}
-use Rattle.ripemd_files.specs.declared.outcome.Outcome.{Outcome}
-use Rattle.ripemd_files.specs.declared.outcome.Outcome.TheVariants.{Digest, Refused, Broken}
+use Rattle.ripemd_files.specs.Types.{Content, Short, Read, Outcome, Digest, Refused, Broken}
 use Rattle.ripemd_files.specs.Files.{Place, Gives, ComesTo}
 
 -- the outcome is this digest

@@ -1,10 +1,6 @@
 -- What is right where all is known of a folder.
 use Rattle.std.specs.Prelude.{◌≡◌, ℕ, ◌^◌, ◌<◌, List, length, Option, Some, Result, Ok, Err, Bool}
-use Rattle.std.specs.declared.io.Error.{Error}
-use Rattle.ripemd_files.specs.declared.line.Layout.{Layout}
-use Rattle.ripemd_files.specs.declared.list.Rules.{Rules}
-use Rattle.ripemd_files.specs.declared.printing.Style.{Style}
-use Rattle.ripemd_files.specs.declared.verdict.Options.{Options}
+use Rattle.ripemd_files.specs.Types.{Error, Layout, Rules, Style, Options}
 use Rattle.ripemd_files.specs.Lists.{ChecksList}
 use Rattle.ripemd_files.specs.Printing.{PrintsAll}
 use Rattle.ripemd_files.specs.Files.{Place}

@@ -2,20 +2,9 @@
 use Rattle.std.specs.Prelude.{◌≡◌, ◌+◌, ◌<◌, ◌≤◌, ◌^◌, ℕ, List, [], ◌∷◌, ◌++◌, length, map, flat_map, Option, Some, None, ⊤}
 use Rattle.std.specs.List.{AllZip}
 use Rattle.std.specs.Io.KnownBytes.{Consumes}
-use Rattle.ripemd_files.specs.declared.line.Line.{Line}
-use Rattle.ripemd_files.specs.declared.line.Layout.{Layout}
-use Rattle.ripemd_files.specs.declared.list.Rules.{Rules}
-use Rattle.ripemd_files.specs.declared.list.Cursor.{Cursor}
-use Rattle.ripemd_files.specs.declared.list.Group.{Group}
-use Rattle.ripemd_files.specs.declared.piece.Stage.{Stage}
-use Rattle.ripemd_files.specs.declared.piece.Stage.TheVariants.{Among, Ended, Failed}
-use Rattle.ripemd_files.specs.declared.line.Variant.{Variant}
+use Rattle.ripemd_files.specs.Types.{Line, Layout, Rules, Cursor, Group, Stage, Among, Ended, Failed, Variant, Options, Tally, Fault, Write, NoMemory, TooManyLines}
 use Rattle.ripemd_files.specs.Splitting.{lines_of, IsEnded, IsOneLine, IsWhole, ListState}
 use Rattle.ripemd_files.specs.Files.{Place}
-use Rattle.ripemd_files.specs.declared.verdict.Options.{Options}
-use Rattle.ripemd_files.specs.declared.verdict.Tally.{Tally}
-use Rattle.ripemd_files.specs.declared.fault.Fault.{Fault}
-use Rattle.ripemd_files.specs.declared.fault.Fault.TheVariants.{Write, NoMemory, TooManyLines}
 use Rattle.ripemd_files.specs.Said.{Tells, TellsEach, TellsFirst, Told}
 use Rattle.ripemd_files.specs.Checking.{Counts, Event, IsEventOf, IsTally, items_of_event, misformatted}
 use Rattle.ripemd_files.specs.Lists.{Entry, IsTaken, Reports, entries_of, entry_of, layout_after, layout_behind}

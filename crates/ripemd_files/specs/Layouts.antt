@@ -2,9 +2,7 @@
 use Rattle.std.specs.Prelude.{◌≡◌, ℕ, ◌*◌, ◌==◌, ◌&&◌, Bool, true, false, if◌then◌else◌, List, ◌++◌, length, Option, Some, None, is_some, IfSome}
 use Rattle.std.specs.List.{list_all}
 use Rattle.hex.specs.Hex.{is_hex_digit}
-use Rattle.ripemd_files.specs.declared.line.Variant.{Variant}
-use Rattle.ripemd_files.specs.declared.line.Layout.{Layout}
-use Rattle.ripemd_files.specs.declared.line.Layout.TheVariants.{Standard, Reversed}
+use Rattle.ripemd_files.specs.Types.{Variant, Layout, Standard, Reversed}
 use Rattle.ripemd_files.specs.Lines.{size_of, mark_of, IsBlank, IsDigest, IsUntagged}
 use Rattle.ripemd_files.specs.Reading.{Found, skip_blanks, strip_mark, strip_label, untagged_at}
 

@@ -1,3 +1,5 @@
+-- The types of the code.
+pub mod Types
 -- What a line is: what has to be trusted.
 pub mod Lines
 -- Lines that coreutils wrote, and lines that it refused.

@@ -2,15 +2,7 @@
 use Rattle.std.specs.Prelude.{◌≡◌, ◌≢◌, ◌⊎◌, ℕ, ◌*◌, ◌==◌, ◌||◌, Bool, false, IsTrue, if◌then◌else◌, List, [], ◌∷◌, ◌++◌, length, flat_map, codes, Option, Some, None, Ok, MatchBool, ⊤}
 use Rattle.std.specs.List.{list_any, list_all}
 use Rattle.hex.specs.Hex.{encode_lower, decode_of, IsBytes}
-use Rattle.ripemd_files.specs.declared.line.Variant.{Variant}
-use Rattle.ripemd_files.specs.declared.line.Variant.TheVariants.{R128, R160, R256, R320}
-use Rattle.ripemd_files.specs.declared.line.Line.{Line}
-use Rattle.ripemd_files.specs.declared.line.Form.{Form}
-use Rattle.ripemd_files.specs.declared.line.Form.TheVariants.{Text, Binary, Tagged}
-use Rattle.ripemd_files.specs.declared.line.Layout.{Layout}
-use Rattle.ripemd_files.specs.declared.line.Layout.TheVariants.{Standard, Reversed}
-use Rattle.ripemd_files.specs.declared.line.Ending.{Ending}
-use Rattle.ripemd_files.specs.declared.line.Ending.TheVariants.{Newline, Zero}
+use Rattle.ripemd_files.specs.Types.{Variant, R128, R160, R256, R320, Line, Form, Text, Binary, Tagged, Layout, Standard, Reversed, Ending, Newline, Zero}
 
 -- ---- variants
 

@@ -4,22 +4,13 @@ use Rattle.std.specs.List.{AllZip, fold}
 use Rattle.std.specs.Io.BufRead.{strip_last}
 use Rattle.std.specs.Io.KnownBytes.{Consumes}
 use Rattle.ripemd.specs.Standard.Hashing.{ripemd}
-use Rattle.ripemd_files.specs.declared.line.Variant.{Variant}
-use Rattle.ripemd_files.specs.declared.line.Layout.{Layout}
-use Rattle.ripemd_files.specs.declared.line.Layout.TheVariants.{Standard}
+use Rattle.ripemd_files.specs.Types.{Variant, Layout, Standard, Rules, Outcome, Stage, Among, Ended, Failed, Options, Tally, Fault}
 use Rattle.ripemd_files.specs.declared.log.Complaint.TheVariants as complaints
-use Rattle.ripemd_files.specs.declared.list.Rules.{Rules}
-use Rattle.ripemd_files.specs.declared.outcome.Outcome.{Outcome}
-use Rattle.ripemd_files.specs.declared.piece.Stage.{Stage}
-use Rattle.ripemd_files.specs.declared.piece.Stage.TheVariants.{Among, Ended, Failed}
-use Rattle.ripemd_files.specs.declared.verdict.Options.{Options}
-use Rattle.ripemd_files.specs.declared.verdict.Tally.{Tally}
 use Rattle.ripemd_files.specs.Lines.{IsLine}
 use Rattle.std.specs.Option.{option_or}
 use Rattle.ripemd_files.specs.Layouts.{layout_of}
 use Rattle.ripemd_files.specs.Splitting.{lines_of, IsEnded, IsOneLine, IsWhole, ListState}
 use Rattle.ripemd_files.specs.Files.{Place, ComesTo, parameters_of}
-use Rattle.ripemd_files.specs.declared.fault.Fault.{Fault}
 use Rattle.ripemd_files.specs.Said.{Item, Stops, Tells, Told, about_list}
 use Rattle.ripemd_files.specs.Checking.{Event, IsTally, checked, closing_remarks, is_success, items_of_event, misformatted, verdict_of}
 

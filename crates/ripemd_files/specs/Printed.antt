@@ -4,15 +4,8 @@ use Rattle.std.specs.List.{list_any}
 use Rattle.ripemd.specs.Collisions.{IsCollision}
 use Rattle.ripemd.specs.Standard.Compression.{compress, ripemd128, ripemd160, ripemd256, ripemd320}
 use Rattle.ripemd.specs.Standard.Hashing.{ripemd}
-use Rattle.ripemd_files.specs.declared.agreement.VariantCollision.{VariantCollision}
+use Rattle.ripemd_files.specs.Types.{VariantCollision, Form, Layout, Standard, Newline, Variant, R128, R160, R256, R320, Rules}
 use Rattle.ripemd_files.specs.declared.agreement.VariantCollision.TheVariants as collisions
-use Rattle.ripemd_files.specs.declared.line.Form.{Form}
-use Rattle.ripemd_files.specs.declared.line.Layout.{Layout}
-use Rattle.ripemd_files.specs.declared.line.Layout.TheVariants.{Standard}
-use Rattle.ripemd_files.specs.declared.line.Ending.TheVariants.{Newline}
-use Rattle.ripemd_files.specs.declared.line.Variant.{Variant}
-use Rattle.ripemd_files.specs.declared.line.Variant.TheVariants.{R128, R160, R256, R320}
-use Rattle.ripemd_files.specs.declared.list.Rules.{Rules}
 use Rattle.ripemd_files.specs.Lines.{IsReadable, line_of}
 use Rattle.ripemd_files.specs.Lists.{IsWanted}
 use Rattle.ripemd_files.specs.Files.{parameters_of}

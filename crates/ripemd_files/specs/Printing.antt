@@ -2,13 +2,10 @@
 use Rattle.std.specs.Prelude.{◌≡◌, ℕ, List, [], ◌∷◌, ◌++◌, Bool, true, false, ◌&&◌}
 use Rattle.std.specs.List.{list_all}
 use Rattle.ripemd.specs.Standard.Hashing.{ripemd}
-use Rattle.ripemd_files.specs.declared.printing.Style.{Style}
-use Rattle.ripemd_files.specs.declared.outcome.Outcome.{Outcome}
-use Rattle.ripemd_files.specs.declared.outcome.Outcome.TheVariants.{Digest, Refused, Broken}
+use Rattle.ripemd_files.specs.Types.{Style, Outcome, Digest, Refused, Broken, Fault}
 use Rattle.ripemd_files.specs.Lines.{line_of, end_of}
 use Rattle.ripemd_files.specs.Files.{Place, ComesTo, parameters_of}
 use Rattle.ripemd_files.specs.Said.{Item, TellsEach, TellsFirst, Told, unreadable, written}
-use Rattle.ripemd_files.specs.declared.fault.Fault.{Fault}
 
 -- a file by its name, and what came of reading it
 pub record Reading : Type 0 where

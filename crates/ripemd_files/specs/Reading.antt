@@ -5,12 +5,7 @@ use Rattle.std.specs.Option.{option_or}
 use Rattle.std.specs.Result.{result_ok}
 use Rattle.std.specs.Str.{bytes_eq}
 use Rattle.hex.specs.Hex.{decode_of}
-use Rattle.ripemd_files.specs.declared.line.Variant.{Variant}
-use Rattle.ripemd_files.specs.declared.line.Variant.TheVariants.{R128, R160, R256, R320}
-use Rattle.ripemd_files.specs.declared.line.Layout.{Layout}
-use Rattle.ripemd_files.specs.declared.line.Layout.TheVariants.{Standard, Reversed}
-use Rattle.ripemd_files.specs.declared.line.Line.{Line}
-use Rattle.ripemd_files.specs.declared.reading.Parts.{Parts}
+use Rattle.ripemd_files.specs.Types.{Variant, R128, R160, R256, R320, Layout, Standard, Reversed, Line, Parts}
 use Rattle.ripemd_files.specs.Lines.{size_of, is_blank}
 
 infixl 10 ◌>>=◌

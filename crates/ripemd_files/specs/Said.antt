@@ -1,10 +1,7 @@
 -- What a run tells: the lines that it writes, and its remarks beside them, in order.
 use Rattle.std.specs.Prelude.{◌≡◌, ℕ, List, ◌++◌, map, flat_map, take, Option, Some, None, ⊤}
 use Rattle.std.specs.List.{AllZip}
-use Rattle.std.specs.declared.io.Error.{Error}
-use Rattle.ripemd_files.specs.declared.fault.Fault.{Fault}
-use Rattle.ripemd_files.specs.declared.fault.Fault.TheVariants.{Write, NoMemory, TooManyLines}
-use Rattle.ripemd_files.specs.declared.log.Complaint.{Complaint}
+use Rattle.ripemd_files.specs.Types.{Error, Fault, Write, NoMemory, TooManyLines, Complaint}
 
 -- a byte that is written, or a remark: that the file of a name can't be read, with the error, or what is wrong with a list
 pub data Item : Type 0 where

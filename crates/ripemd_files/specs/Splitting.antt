@@ -4,9 +4,8 @@ use Rattle.std.specs.List.{list_any, onto_first}
 use Rattle.std.specs.Io.KnownBytes.{Consumes, IsAtEnd}
 use Rattle.std.specs.Io.Buffered.{reader_remaining}
 use Rattle.ripemd_files.specs.declared.piece.List.{List as Reader}
-use Rattle.ripemd_files.specs.declared.piece.Piece.{Piece}
-use Rattle.ripemd_files.specs.declared.piece.Piece.TheVariants.{Whole, Last, Nothing, Failed}
-use Rattle.ripemd_files.specs.declared.piece.Stage.{Stage}
+use Rattle.ripemd_files.specs.Types.{Piece, Whole, Last, Nothing, Stage}
+use Rattle.ripemd_files.specs.declared.piece.Piece.TheVariants.{Failed}
 use Rattle.ripemd_files.specs.declared.piece.Stage.TheVariants as stages
 
 -- the lines of a list, without the newlines that end them; after the last newline there is none

@@ -2,14 +2,7 @@
 -- those of the last record, with its digest and label in place of these (tests/test_lines.py compares
 -- them). The digests are the authors'.
 use Rattle.std.specs.Prelude.{◌≡◌, ℕ, List, [], ◌∷◌, ◌++◌, codes}
-use Rattle.ripemd_files.specs.declared.line.Variant.{Variant}
-use Rattle.ripemd_files.specs.declared.line.Variant.TheVariants.{R128, R160, R256, R320}
-use Rattle.ripemd_files.specs.declared.line.Form.{Form}
-use Rattle.ripemd_files.specs.declared.line.Form.TheVariants.{Text, Binary, Tagged}
-use Rattle.ripemd_files.specs.declared.line.Layout.{Layout}
-use Rattle.ripemd_files.specs.declared.line.Layout.TheVariants.{Standard, Reversed}
-use Rattle.ripemd_files.specs.declared.line.Ending.{Ending}
-use Rattle.ripemd_files.specs.declared.line.Ending.TheVariants.{Newline, Zero}
+use Rattle.ripemd_files.specs.Types.{Variant, R128, R160, R256, R320, Form, Text, Binary, Tagged, Layout, Standard, Reversed, Ending, Newline, Zero}
 use Rattle.ripemd_files.specs.Lines.{line_of, end_of, IsLine}
 
 -- the digests of "abc" as text

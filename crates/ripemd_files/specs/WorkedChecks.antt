@@ -2,24 +2,9 @@
 -- and label.
 use Rattle.std.specs.Prelude.{◌≡◌, ℕ, List, [], ◌∷◌, ◌++◌, codes, count_by, Bool, true, false, ◌&&◌, if◌then◌else◌, Some, None, Ok, ⊤}
 use Rattle.std.specs.IoError.{error_kind}
-use Rattle.std.specs.declared.io.Error.{Error}
+use Rattle.ripemd_files.specs.Types.{Error, Variant, R128, R160, R256, R320, Form, Text, Binary, Tagged, Ending, Newline, Zero, Standard, Reversed, Rules, Outcome, Refused, Broken, Style, Verdict, Matches, Differs, Missing, Unreadable, Options, Tally}
 use Rattle.std.specs.declared.io.ErrorKind.TheVariants as kinds
-use Rattle.ripemd_files.specs.declared.line.Variant.{Variant}
-use Rattle.ripemd_files.specs.declared.line.Variant.TheVariants.{R128, R160, R256, R320}
-use Rattle.ripemd_files.specs.declared.line.Form.{Form}
-use Rattle.ripemd_files.specs.declared.line.Form.TheVariants.{Text, Binary, Tagged}
-use Rattle.ripemd_files.specs.declared.line.Ending.{Ending}
-use Rattle.ripemd_files.specs.declared.line.Ending.TheVariants.{Newline, Zero}
-use Rattle.ripemd_files.specs.declared.line.Layout.TheVariants.{Standard, Reversed}
-use Rattle.ripemd_files.specs.declared.list.Rules.{Rules}
 use Rattle.ripemd_files.specs.declared.log.Complaint.TheVariants as complaints
-use Rattle.ripemd_files.specs.declared.outcome.Outcome.{Outcome}
-use Rattle.ripemd_files.specs.declared.outcome.Outcome.TheVariants.{Refused, Broken}
-use Rattle.ripemd_files.specs.declared.printing.Style.{Style}
-use Rattle.ripemd_files.specs.declared.verdict.Verdict.{Verdict}
-use Rattle.ripemd_files.specs.declared.verdict.Verdict.TheVariants.{Matches, Differs, Missing, Unreadable}
-use Rattle.ripemd_files.specs.declared.verdict.Options.{Options}
-use Rattle.ripemd_files.specs.declared.verdict.Tally.{Tally}
 use Rattle.ripemd_files.specs.Said.{about_list, unreadable, written}
 use Rattle.ripemd_files.specs.Printing.{items_on, line_for, remarks_on, was_read}
 use Rattle.ripemd_files.specs.Checking.{Event, IsTally, checked, closing_remarks, counted, is_misformatted, is_success, items_of_event, line_of_event, misformatted, remarks_on_event, verdict_of}

@@ -1,9 +1,7 @@
 -- Lists of lines: how they are split, and in which layout lines stand. sha256sum of coreutils takes the same layouts from
 -- a first line, with its own digests and label.
 use Rattle.std.specs.Prelude.{◌≡◌, ℕ, List, [], ◌∷◌, ◌++◌, codes, Option, Some, None}
-use Rattle.ripemd_files.specs.declared.line.Variant.TheVariants.{R128, R160, R256, R320}
-use Rattle.ripemd_files.specs.declared.line.Layout.{Layout}
-use Rattle.ripemd_files.specs.declared.line.Layout.TheVariants.{Standard, Reversed}
+use Rattle.ripemd_files.specs.Types.{R128, R160, R256, R320, Layout, Standard, Reversed}
 use Rattle.ripemd_files.specs.Splitting.{lines_of}
 use Rattle.ripemd_files.specs.Layouts.{layout_of}
 use Rattle.ripemd_files.specs.Worked.{digits_of, digits_then}

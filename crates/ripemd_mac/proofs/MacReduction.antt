@@ -7,7 +7,7 @@ use Rattle.std.proofs.lemmas.Slice.Eq.{bytes_eq-Decides}
 use Rattle.std.specs.Str.{bytes_eq}
 use Rattle.std.specs.Prelude.{IsErr, OnErr, IsNone, IfSome, IsSomeAnd, MatchOption}
 use Rattle.ripemd.specs.Collisions.{IsCollision, IsOnlyCollision}
-use Rattle.ripemd.specs.declared.witness.Collision.{Collision}
+use Rattle.ripemd.specs.Types.{Collision}
 use Rattle.ripemd_mac.specs.declared.reduction.MacCollision.{MacCollision}
 use Rattle.ripemd_mac.specs.declared.reduction.MacCollision.TheVariants.{Inner, Outer}
 use Rattle.ripemd_mac.specs.Hmac.{key_block, masked, inner_message, outer_message, hmac}

@@ -3,7 +3,7 @@ use Rattle.std.proofs.Common.{◌≡◌, ℕ, ◌+◌, ◌≤◌, Option, List, 
 use Rattle.std.specs.Io.KnownBytes.{Consumes}
 use Rattle.std.proofs.KnownBytes.{Consumes-trans}
 use Rattle.std.proofs.lemmas.List.{length-take-le}
-use Rattle.ripemd_sum.specs.declared.tracked.Tracked.{Tracked}
+use Rattle.ripemd_sum.specs.Types.{Tracked}
 use Rattle.ripemd_sum.specs.Track.{inner_of, taken_of}
 use Rattle.ripemd_sum.specs.Runs.{Gives}
 

@@ -2,8 +2,7 @@
 use Rattle.std.specs.Prelude.{◌≡◌, ℕ, ◌*◌, ◌≤◌, List, [], ◌∷◌, length, codes, Ok}
 use Rattle.std.specs.List.{AllPass}
 use Rattle.hex.specs.Hex.{decode_of, is_hex_digit}
-use Rattle.ripemd_sum.specs.declared.variant.Variant.{Variant}
-use Rattle.ripemd_sum.specs.declared.variant.Variant.TheVariants.{R128, R160, R256, R320}
+use Rattle.ripemd_sum.specs.Types.{Variant, R128, R160, R256, R320}
 
 -- the name of a variant
 abbrev pub name_of : Variant → List ℕ

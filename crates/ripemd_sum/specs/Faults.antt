@@ -1,10 +1,7 @@
 -- What the errors of a run say of its reader and its writer.
 use Rattle.std.specs.Prelude.{◌≡◌, ℕ, List, true, codes, Option, Result, MatchResult}
-use Rattle.ripemd_sum.specs.declared.fault.ReadFault.{ReadFault}
+use Rattle.ripemd_sum.specs.Types.{ReadFault, RunFault, Read, TooLong, Write, Tracked}
 use Rattle.ripemd_sum.specs.declared.fault.ReadFault.TheVariants as reading
-use Rattle.ripemd_sum.specs.declared.fault.RunFault.{RunFault}
-use Rattle.ripemd_sum.specs.declared.fault.RunFault.TheVariants.{Read, TooLong, Write}
-use Rattle.ripemd_sum.specs.declared.tracked.Tracked.{Tracked}
 use Rattle.ripemd_sum.specs.Track.{has_failed}
 use Rattle.ripemd_sum.specs.Runs.{GivesAll, FailsToGive, GivesTooMuch, Gets}
 

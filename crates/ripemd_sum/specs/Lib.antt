@@ -1,3 +1,5 @@
+-- The types of the code.
+pub mod Types
 -- What the program promises: what has to be trusted of a run.
 pub mod Arguments
 pub mod Runs

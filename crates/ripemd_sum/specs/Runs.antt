@@ -5,9 +5,7 @@ use Rattle.hex.specs.Hex.{encode_lower}
 use Rattle.ripemd.specs.Standard.Compression.{Parameters, ripemd128, ripemd160, ripemd256, ripemd320}
 use Rattle.ripemd.specs.Standard.Hashing.{ripemd}
 use Rattle.ripemd_mac.specs.Hmac.{hmac}
-use Rattle.ripemd_sum.specs.declared.tracked.Tracked.{Tracked}
-use Rattle.ripemd_sum.specs.declared.variant.Variant.{Variant}
-use Rattle.ripemd_sum.specs.declared.variant.Variant.TheVariants.{R128, R160, R256, R320}
+use Rattle.ripemd_sum.specs.Types.{Tracked, Variant, R128, R160, R256, R320}
 use Rattle.ripemd_sum.specs.Track.{inner_of, has_failed, taken_of}
 
 -- the variant of the definitions that a variant of the program names

@@ -1,7 +1,7 @@
 -- What a tracked reader or writer shows: the reader or writer itself, whether a call of it has
 -- failed, and how many bytes it has given.
 use Rattle.std.specs.Prelude.{◌≡◌, ℕ, Bool, false}
-use Rattle.ripemd_sum.specs.declared.tracked.Tracked.{Tracked}
+use Rattle.ripemd_sum.specs.Types.{Tracked}
 
 -- the reader or writer itself
 abbrev pub inner_of : {T : Type 0} → Tracked T → T

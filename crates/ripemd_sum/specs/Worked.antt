@@ -1,14 +1,9 @@
 -- Worked cases of what the program promises, as facts that these definitions compute to. The digests
 -- are the authors', and the tag is that of RFC 2286.
 use Rattle.std.specs.Prelude.{◌≡◌, ℕ, Bool, true, false, List, [], ◌∷◌, Option, None, Some, codes, replicate}
-use Rattle.std.specs.declared.io.Error.{Error}
-use Rattle.ripemd_sum.specs.declared.variant.Variant.{Variant}
-use Rattle.ripemd_sum.specs.declared.variant.Variant.TheVariants.{R128, R160, R256, R320}
-use Rattle.ripemd_sum.specs.declared.fault.RunFault.TheVariants.{Read, TooLong, Write}
+use Rattle.ripemd_sum.specs.Types.{Error, Variant, R128, R160, R256, R320, Read, TooLong, Write, Tracked, RunFault}
 use Rattle.ripemd_sum.specs.Arguments.{Chooses, IsKeyText, ChoosesMac, HasKey, AsksNothing}
-use Rattle.ripemd_sum.specs.declared.tracked.Tracked.{Tracked}
 use Rattle.ripemd_sum.specs.Runs.{digest_line, tag_line, GivesAll, FailsToGive, GivesTooMuch, Gets}
-use Rattle.ripemd_sum.specs.declared.fault.RunFault.{RunFault}
 use Rattle.ripemd_sum.specs.Faults.{message_of, ExplainsRun}
 
 -- ---- lines

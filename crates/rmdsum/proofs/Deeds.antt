@@ -3,15 +3,8 @@ use Rattle.std.proofs.Common.{◌≡◌, ◌≢◌, ◌<◌, ◌+◌, ℕ, Bool,
 use Rattle.std.specs.Prelude.{Vec, is_none}
 use Rattle.std.proofs.Math.Bool.{and-true}
 use Rattle.std.proofs.lemmas.List.{append-nil, map-append, take_more}
-use Rattle.ripemd_files.specs.declared.line.Variant.{Variant}
-use Rattle.ripemd_files.specs.declared.list.Rules.{Rules}
-use Rattle.ripemd_files.specs.declared.printing.Style.{Style}
-use Rattle.ripemd_files.specs.declared.verdict.Options.{Options}
-use Rattle.rmdsum.specs.declared.names.Wrong.{Wrong}
-use Rattle.rmdsum.specs.declared.request.NameSource.{NameSource}
-use Rattle.rmdsum.specs.declared.request.Request.TheVariants.{Run}
-use Rattle.rmdsum.specs.declared.request.Work.{Work}
-use Rattle.rmdsum.specs.declared.request.Work.TheVariants.{Check, Print}
+use Rattle.ripemd_files.specs.Types.{Variant, Rules, Style, Options}
+use Rattle.rmdsum.specs.Types.{Wrong, NameSource, Run, Work, Check, Print}
 use Rattle.ripemd_files.specs.Said.{Adds}
 use Rattle.rmdsum.specs.Runs.{AreRules, Deed, Item, Extends, IsOf, Handles, IsRun, Performs, items, handled, succeeded}
 use Rattle.rmdsum.specs.Runs.Item.{Name}

@@ -2,11 +2,7 @@
 use Rattle.std.proofs.Common.{List, [], Result, Ok, Err, IsErr, append_assoc, arith}
 use Rattle.std.specs.Prelude.{IfOk, MatchResult, reverse}
 use Rattle.std.proofs.lemmas.List.{append-nil, reverse-append}
-use Rattle.rmdsum.specs.declared.arguments.Next.{Next}
-use Rattle.rmdsum.specs.declared.arguments.Stop.{Stop}
-use Rattle.rmdsum.specs.declared.refusals.Misuse.{Misuse}
-use Rattle.rmdsum.specs.declared.request.Request.{Request}
-use Rattle.rmdsum.specs.declared.request.Settings.{Settings}
+use Rattle.rmdsum.specs.Types.{Next, Stop, Misuse, Request, Settings}
 use Rattle.rmdsum.specs.Words.{Said}
 use Rattle.rmdsum.specs.Asked.{Asks, Holds, IsRefused}
 use Rattle.rmdsum.specs.Arguments.{Reading, then_reads, Answers, Reads}

@@ -2,26 +2,14 @@
 use Rattle.std.specs.Prelude.{◌≡◌, ℕ, ◌*◌, ◌==◌, Bool, true, false, if◌then◌else◌, List, [], ◌∷◌, ◌++◌, reverse, Option, Some, None, bytes_eq, Result, Ok, Err, ⊤}
 use Rattle.std.specs.Fmt.{decimal}
 use Rattle.ripemd_files.specs.Lines.{bits_of, size_of}
-use Rattle.ripemd_files.specs.declared.line.Variant.{Variant}
-use Rattle.ripemd_files.specs.declared.line.Variant.TheVariants.{R128, R160, R256, R320}
-use Rattle.rmdsum.specs.declared.switches.Flag.{Flag}
+use Rattle.ripemd_files.specs.Types.{Variant, R128, R160, R256, R320}
+use Rattle.rmdsum.specs.Types.{Flag, Parameter, Algorithm, FilesFrom, Switch, Found, Nothing, One, Several, Misuse, Stop, Next, Any, Operand, Value, ShortValue, Request, Settings}
 use Rattle.rmdsum.specs.declared.switches.Flag.TheVariants.{Help, Version}
-use Rattle.rmdsum.specs.declared.switches.Parameter.{Parameter}
-use Rattle.rmdsum.specs.declared.switches.Parameter.TheVariants.{Algorithm, FilesFrom}
-use Rattle.rmdsum.specs.declared.switches.Switch.{Switch}
 use Rattle.rmdsum.specs.declared.switches.Switch.TheVariants as switches
-use Rattle.rmdsum.specs.declared.switches.Found.{Found}
-use Rattle.rmdsum.specs.declared.switches.Found.TheVariants.{Nothing, One, Several}
-use Rattle.rmdsum.specs.declared.refusals.Misuse.{Misuse}
 use Rattle.rmdsum.specs.declared.refusals.Misuse.TheVariants as misuses
-use Rattle.rmdsum.specs.declared.arguments.Stop.{Stop}
 use Rattle.rmdsum.specs.declared.arguments.Stop.TheVariants as stops
-use Rattle.rmdsum.specs.declared.arguments.Next.{Next}
-use Rattle.rmdsum.specs.declared.arguments.Next.TheVariants.{Any, Operand, Value, ShortValue}
-use Rattle.rmdsum.specs.declared.request.Request.{Request}
 use Rattle.rmdsum.specs.declared.request.Request.TheVariants as requests
 use Rattle.rmdsum.specs.Options.{by_letter, by_name}
-use Rattle.rmdsum.specs.declared.request.Settings.{Settings}
 use Rattle.rmdsum.specs.Words.{Said}
 use Rattle.rmdsum.specs.Words.Said.{Sets, Hashes, NamedIn, Names}
 use Rattle.rmdsum.specs.Asked.{Asks, IsRefused, Holds}

@@ -1,27 +1,12 @@
 -- What the program is asked for.
 use Rattle.std.specs.Prelude.{◌≡◌, ℕ, ◌&&◌, Bool, true, false, if◌then◌else◌, List, [], ◌∷◌, map, codes, Option, Some, None, unwrap_or, option_map, is_some, IsSome, slice_get, vec_items, ◌⊎◌}
-use Rattle.ripemd_files.specs.declared.line.Variant.{Variant}
-use Rattle.ripemd_files.specs.declared.line.Variant.TheVariants.{R160}
-use Rattle.ripemd_files.specs.declared.line.Form.{Form}
+use Rattle.ripemd_files.specs.Types.{Variant, R160, Form, Ending, Options}
 use Rattle.ripemd_files.specs.declared.line.Form.TheVariants as forms
-use Rattle.ripemd_files.specs.declared.line.Ending.{Ending}
 use Rattle.ripemd_files.specs.declared.line.Ending.TheVariants as endings
-use Rattle.ripemd_files.specs.declared.verdict.Options.{Options}
-use Rattle.rmdsum.specs.declared.switches.Flag.{Flag}
+use Rattle.rmdsum.specs.Types.{Flag, Misuse, TextWithTag, ZeroWithCheck, TagWithCheck, ModeWithCheck, OnlyWithCheck, ExtraOperand, Mode, Telling, NameSource, Operands, From, Request, Help, Version, Run, Work, Print, Check, Settings}
 use Rattle.rmdsum.specs.declared.switches.Flag.TheVariants as flags
-use Rattle.rmdsum.specs.declared.refusals.Misuse.{Misuse}
-use Rattle.rmdsum.specs.declared.refusals.Misuse.TheVariants.{TextWithTag, ZeroWithCheck, TagWithCheck, ModeWithCheck, OnlyWithCheck, ExtraOperand}
-use Rattle.rmdsum.specs.declared.request.Mode.{Mode}
 use Rattle.rmdsum.specs.declared.request.Mode.TheVariants.{Binary, Text}
-use Rattle.rmdsum.specs.declared.request.Telling.{Telling}
 use Rattle.rmdsum.specs.declared.request.Telling.TheVariants.{Quiet, Status, Warn}
-use Rattle.rmdsum.specs.declared.request.NameSource.{NameSource}
-use Rattle.rmdsum.specs.declared.request.NameSource.TheVariants.{Operands, From}
-use Rattle.rmdsum.specs.declared.request.Request.{Request}
-use Rattle.rmdsum.specs.declared.request.Request.TheVariants.{Help, Version, Run}
-use Rattle.rmdsum.specs.declared.request.Work.{Work}
-use Rattle.rmdsum.specs.declared.request.Work.TheVariants.{Print, Check}
-use Rattle.rmdsum.specs.declared.request.Settings.{Settings}
 use Rattle.rmdsum.specs.Words.{Said, gives, last, names_of, hash_in, file_in, mode_in, telling_in}
 
 -- ---- options that exclude one another

@@ -1,3 +1,5 @@
+-- The types of the code.
+pub mod Types
 -- What the arguments ask for.
 pub mod Options
 pub mod Words

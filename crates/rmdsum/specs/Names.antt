@@ -3,11 +3,9 @@ use Rattle.std.specs.Prelude.{◌≡◌, ◌≢◌, ◌⊎◌, ◌+◌, ℕ, len
 use Rattle.std.specs.Io.KnownBytes.{IsAtEnd}
 use Rattle.std.specs.Io.Buffered.{reader_remaining}
 use Rattle.std.specs.declared.io.buffered.BufReader.{BufReader}
-use Rattle.ripemd_files.specs.declared.piece.Piece.TheVariants.{Whole, Last}
+use Rattle.ripemd_files.specs.Types.{Whole, Last}
 use Rattle.ripemd_files.specs.Splitting.{IsPiece}
-use Rattle.rmdsum.specs.declared.names.Wrong.{Wrong}
-use Rattle.rmdsum.specs.declared.names.Wrong.TheVariants.{Unread, Empty, Input}
-use Rattle.rmdsum.specs.declared.names.Entry.{Entry}
+use Rattle.rmdsum.specs.Types.{Wrong, Unread, Empty, Input, Entry}
 use Rattle.rmdsum.specs.declared.names.Entry.TheVariants as entries
 
 -- what is left of a file, where that is known: nothing, once it was read to its end

@@ -1,14 +1,9 @@
 -- The options by their names.
 use Rattle.std.specs.Prelude.{ℕ, ◌==◌, Bool, if◌then◌else◌, List, [], ◌∷◌, codes, Option, Some, None, filter, nat_eq}
 use Rattle.std.specs.List.{starts_with}
-use Rattle.rmdsum.specs.declared.switches.Flag.{Flag}
-use Rattle.rmdsum.specs.declared.switches.Parameter.{Parameter}
-use Rattle.rmdsum.specs.declared.switches.Parameter.TheVariants.{Algorithm, FilesFrom}
-use Rattle.rmdsum.specs.declared.switches.Switch.{Switch}
+use Rattle.rmdsum.specs.Types.{Flag, Parameter, Algorithm, FilesFrom, Switch, Found, Nothing, One, Several, Binary, IgnoreMissing, Progress, Quiet, Status, Strict, Tag, Text, Warn, Zero}
 use Rattle.rmdsum.specs.declared.switches.Switch.TheVariants as switches
-use Rattle.rmdsum.specs.declared.switches.Found.{Found}
-use Rattle.rmdsum.specs.declared.switches.Found.TheVariants.{Nothing, One, Several}
-use Rattle.rmdsum.specs.declared.switches.Flag.TheVariants.{Binary, Check, Help, IgnoreMissing, Progress, Quiet, Status, Strict, Tag, Text, Version, Warn, Zero}
+use Rattle.rmdsum.specs.declared.switches.Flag.TheVariants.{Check, Help, Version}
 
 -- what stands after `--`
 abbrev pub flag_name : Flag → List ℕ

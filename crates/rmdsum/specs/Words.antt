@@ -2,13 +2,10 @@
 use Rattle.std.specs.Prelude.{ℕ, Bool, false, List, [], ◌∷◌, ◌++◌, Option, Some, None, bytes_eq}
 use Rattle.std.specs.List.{list_any}
 use Rattle.std.specs.Option.{option_or}
-use Rattle.ripemd_files.specs.declared.line.Variant.{Variant}
-use Rattle.rmdsum.specs.declared.switches.Flag.{Flag}
-use Rattle.rmdsum.specs.declared.switches.Flag.TheVariants.{Binary, Quiet, Status, Tag, Text, Warn}
+use Rattle.ripemd_files.specs.Types.{Variant}
+use Rattle.rmdsum.specs.Types.{Flag, Binary, Quiet, Status, Tag, Text, Warn, Mode, Telling}
 use Rattle.rmdsum.specs.Options.{flag_name}
-use Rattle.rmdsum.specs.declared.request.Mode.{Mode}
 use Rattle.rmdsum.specs.declared.request.Mode.TheVariants as modes
-use Rattle.rmdsum.specs.declared.request.Telling.{Telling}
 use Rattle.rmdsum.specs.declared.request.Telling.TheVariants as tellings
 
 -- an option without a value, a hash, the name of a file that has names, the name of a file

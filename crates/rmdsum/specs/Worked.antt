@@ -1,27 +1,16 @@
 -- Worked command lines. tests/test_rmdsum.py compares such lines with `sha256sum`.
 use Rattle.std.specs.Prelude.{◌≡◌, ◌↔◌, ℕ, Bool, true, false, List, [], ◌∷◌, map, codes, Some, None, Ok, Err, vec_items, Vec}
 use Rattle.std.specs.Global.{Global}
-use Rattle.std.specs.declared.io.Error.{Error}
-use Rattle.ripemd_files.specs.declared.line.Variant.TheVariants.{R128, R160, R256, R320}
+use Rattle.rmdsum.specs.Types.{Error, Binary, IgnoreMissing, Progress, Quiet, Status, Strict, Tag, Text, Warn, Zero, Algorithm, FilesFrom, Any, Operand, TextWithTag, ZeroWithCheck, TagWithCheck, ModeWithCheck, OnlyWithCheck, ExtraOperand, Run, Help, Version, NameSource, Operands, Work, Unread, Input, Empty}
+use Rattle.ripemd_files.specs.Types.{R128, R160, R256, R320, Variant, Style, Options}
 use Rattle.ripemd_files.specs.declared.line.Form.TheVariants as forms
 use Rattle.ripemd_files.specs.declared.line.Ending.TheVariants as endings
-use Rattle.rmdsum.specs.declared.switches.Flag.TheVariants.{Binary, Check, IgnoreMissing, Progress, Quiet, Status, Strict, Tag, Text, Warn, Zero}
-use Rattle.rmdsum.specs.declared.switches.Parameter.TheVariants.{Algorithm, FilesFrom}
-use Rattle.rmdsum.specs.declared.arguments.Next.TheVariants.{Any, Operand}
-use Rattle.rmdsum.specs.declared.refusals.Misuse.TheVariants.{TextWithTag, ZeroWithCheck, TagWithCheck, ModeWithCheck, OnlyWithCheck, ExtraOperand}
+use Rattle.rmdsum.specs.declared.switches.Flag.TheVariants.{Check}
 use Rattle.rmdsum.specs.Words.{gives, last, names_of, file_in, mode_in}
 use Rattle.rmdsum.specs.Words.Said.{Sets, Hashes, NamedIn, Names}
 use Rattle.rmdsum.specs.Arguments.{reading, Answers}
-use Rattle.rmdsum.specs.declared.request.Request.TheVariants.{Run, Help, Version}
-use Rattle.rmdsum.specs.declared.request.NameSource.{NameSource}
-use Rattle.rmdsum.specs.declared.request.NameSource.TheVariants.{Operands}
-use Rattle.rmdsum.specs.declared.request.Work.{Work}
 use Rattle.rmdsum.specs.Arguments.Reading.{Goes, Stops}
 use Rattle.rmdsum.specs.Arguments.Why.{AsksHelp, AsksVersion, UnknownLong, Ambiguous, UnwantedValue, MissingValue, UnknownShort, MissingShortValue, UnknownVariant}
-use Rattle.ripemd_files.specs.declared.line.Variant.{Variant}
-use Rattle.ripemd_files.specs.declared.printing.Style.{Style}
-use Rattle.ripemd_files.specs.declared.verdict.Options.{Options}
-use Rattle.rmdsum.specs.declared.names.Wrong.TheVariants.{Unread, Input, Empty}
 use Rattle.rmdsum.specs.declared.request.Work.TheVariants as works
 use Rattle.rmdsum.specs.Names.{Continues}
 use Rattle.rmdsum.specs.Runs.{Deed, IsRun, DoesAsked, Performs}

@@ -1,5 +1,5 @@
 use Rattle.std.proofs.Common.{ℕ, List, [], ◌∷◌}
-use Rattle.ripemd_sum.specs.declared.variant.Variant.{Variant}
+use Rattle.ripemd_sum.specs.Types.{Variant}
 use Rattle.ripemd_sum.specs.Arguments.{Chooses, ChoosesMac}
 use Rattle.ripemd_sum.proofs.perform.Goals as goal
 

@@ -1,8 +1,7 @@
 use Rattle.std.proofs.Common.{◌≡◌, ℕ, zero, suc, List, [], ◌∷◌, take, Some, refl, arith}
 use Rattle.std.specs.List.{slice_get}
 use Rattle.ripemd_block.specs.States.{HashState}
-use Rattle.ripemd.specs.declared.replay.Command.{Command}
-use Rattle.ripemd.specs.declared.replay.Command.TheVariants.{New, Load}
+use Rattle.ripemd.specs.Types.{Command, New, Load}
 use Rattle.ripemd.specs.Replay.{Machine, empty_machine, hasher_of, Does, Runs}
 use Rattle.ripemd.specs.Worked.{NoSecond}
 use Rattle.ripemd.proofs.facts.commands.Goals as goal

@@ -1,5 +1,5 @@
 use Rattle.std.proofs.Common.{rules, arith, refl, ◌∙◌}
-use Rattle.ripemd_files.specs.declared.piece.Stage.TheVariants.{Ended, Failed}
+use Rattle.ripemd_files.specs.Types.{Ended, Failed}
 use Rattle.ripemd_files.proofs.Checked.{checks_begin, checks_on, checks_over, stops_lines, stops_misformatted, stops_over, stops_reading_list}
 use Rattle.ripemd_files.proofs.checking.check_groups.Goals as goal
 

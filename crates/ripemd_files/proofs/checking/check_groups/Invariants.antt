@@ -1,5 +1,5 @@
 use Rattle.std.proofs.Common.{◌≡◌, ◌-◌, ◌^◌, ◌<◌}
-use Rattle.ripemd_files.specs.declared.piece.Stage.TheVariants.{Among}
+use Rattle.ripemd_files.specs.Types.{Among}
 use Rattle.ripemd_files.specs.Groups.{ChecksSoFar}
 use Rattle.ripemd_files.proofs.checking.check_groups.Given as goal
 

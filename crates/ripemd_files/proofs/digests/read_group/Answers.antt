@@ -1,8 +1,5 @@
 use Rattle.std.proofs.Common.{ℕ, List, subst, sym}
-use Rattle.ripemd_files.specs.declared.digests.Content.{Content}
-use Rattle.ripemd_files.specs.declared.digests.Content.TheVariants.{Short, Read}
-use Rattle.ripemd_files.specs.declared.outcome.Outcome.{Outcome}
-use Rattle.ripemd_files.specs.declared.outcome.Outcome.TheVariants.{Digest}
+use Rattle.ripemd_files.specs.Types.{Content, Short, Read, Outcome, Digest}
 use Rattle.ripemd_files.specs.Files.{Place, ComesTo}
 use Rattle.ripemd_files.specs.Contents.{Follows, IsContent}
 use Rattle.ripemd_files.proofs.Zips.{all_first, first_through}

@@ -1,5 +1,5 @@
 use Rattle.std.proofs.Common.{◌≡◌, ◌-◌, ◌^◌, ◌≤◌, ◌<◌, [], length, None}
-use Rattle.ripemd_files.specs.declared.piece.Stage.TheVariants.{Among}
+use Rattle.ripemd_files.specs.Types.{Among}
 use Rattle.ripemd_files.specs.Groups.{ReadsLines}
 use Rattle.ripemd_files.specs.Splitting.{IsWhole}
 use Rattle.ripemd_files.proofs.list.read_lines.Given as goal

@@ -6,8 +6,7 @@ use Rattle.ripemd.specs.Standard.Words.{word_bytes}
 use Rattle.ripemd.specs.Standard.Compression.{ripemd160, compress}
 use Rattle.ripemd.specs.Standard.Hashing.{ripemd}
 use Rattle.ripemd.specs.States.{IsState, hasher_bytes}
-use Rattle.ripemd.specs.declared.replay.Command.{Command}
-use Rattle.ripemd.specs.declared.replay.Command.TheVariants.{New, Update, Fork, Finish}
+use Rattle.ripemd.specs.Types.{Command, New, Update, Fork, Finish}
 use Rattle.ripemd.specs.Replay.{Gives}
 use Rattle.ripemd.specs.ReplayLaws.{ripemd_of_new, gives_once, gives_or_stops}
 use Rattle.ripemd_block.specs.Laws.Saved.{hasher_bytes_injective}

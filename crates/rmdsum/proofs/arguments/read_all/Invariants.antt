@@ -1,5 +1,5 @@
 use Rattle.std.proofs.Common.{map, drop, vec_items}
-use Rattle.rmdsum.specs.declared.arguments.Next.TheVariants.{Any}
+use Rattle.rmdsum.specs.Types.{Any}
 use Rattle.rmdsum.specs.Arguments.{reading}
 use Rattle.rmdsum.proofs.Readings.{ReadsOn}
 use Rattle.rmdsum.proofs.arguments.read_all.Given as goal

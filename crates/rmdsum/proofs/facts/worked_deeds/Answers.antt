@@ -1,7 +1,5 @@
 use Rattle.std.proofs.Common.{◌≡◌, Bool, false, [], ◌∷◌, codes, Ok, Err, refl, inl, inr}
-use Rattle.rmdsum.specs.declared.arguments.Next.TheVariants.{Any}
-use Rattle.rmdsum.specs.declared.refusals.Misuse.TheVariants.{ZeroWithCheck}
-use Rattle.rmdsum.specs.declared.request.Request.TheVariants.{Help, Version, Run}
+use Rattle.rmdsum.specs.Types.{Any, ZeroWithCheck, Help, Version, Run}
 use Rattle.rmdsum.specs.Arguments.{reading}
 use Rattle.rmdsum.specs.Runs.{Deed, DoesAsked}
 use Rattle.rmdsum.specs.Runs.Deed.{Refuses}

@@ -1,5 +1,5 @@
 use Rattle.std.proofs.Common.{map, take, vec_items}
-use Rattle.rmdsum.specs.declared.request.Work.TheVariants.{Check}
+use Rattle.rmdsum.specs.Types.{Check}
 use Rattle.rmdsum.specs.Runs.{Extends, Handles}
 use Rattle.rmdsum.specs.Runs.Item.{Name}
 use Rattle.rmdsum.proofs.worker.check_lists.Given as goal

@@ -1,6 +1,6 @@
 use Rattle.std.proofs.Common.{rules, ◌≡◌, [], ◌∷◌, ◌++◌, ◌∙◌}
 use Rattle.rmdsum.specs.Names.{left_in, IsEntry}
-use Rattle.rmdsum.specs.declared.names.Entry.TheVariants.{Name}
+use Rattle.rmdsum.specs.Types.{Name}
 use Rattle.rmdsum.proofs.Entries.{named}
 use Rattle.rmdsum.proofs.names.Names.next.Goals as goal
 
