@@ -4,12 +4,7 @@ ghost use Rattle.std.specs.Prelude.{◌≡◌, ◌≢◌, ◌<◌, ◌^◌, ◌�
 ghost use Rattle.hex.specs.Hex.{IsBytes};
 ghost use Rattle.ripemd_files.specs.Lines.{size_of};
 ghost use Rattle.ripemd.specs.Standard.Hashing.{ripemd};
-ghost use Rattle.ripemd_files.specs.declared.line.Form.{Form};
-ghost use Rattle.ripemd_files.specs.declared.line.Layout.{Layout};
-ghost use Rattle.ripemd_files.specs.declared.line.Variant.{Variant};
-ghost use Rattle.ripemd_files.specs.declared.list.Rules.{Rules};
-ghost use Rattle.ripemd_files.specs.declared.verdict.Verdict.{Verdict};
-ghost use Rattle.ripemd_files.specs.declared.verdict.Verdict.TheVariants.{Differs, Matches};
+ghost use Rattle.ripemd_files.specs.Types.{Form, Layout, Variant, Rules, Verdict, Differs, Matches};
 ghost use Rattle.ripemd_files.specs.Checking.{checked, verdict_of_digest};
 ghost use Rattle.ripemd_files.specs.Lists.{IsEventOn, IsTaken};
 ghost use Rattle.ripemd_files.specs.Printed.{IsCollisionOf, IsPrinted, printed_line};

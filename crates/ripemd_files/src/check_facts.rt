@@ -3,14 +3,8 @@
 
 ghost use Rattle.std.specs.Prelude.{◌≡◌, ◌⊎◌, ℕ, List, [], ◌∷◌, Bool, Option, Some, Result, length};
 ghost use Rattle.std.specs.declared.io.Error.{Error};
-ghost use Rattle.ripemd_files.specs.declared.outcome.Outcome.{Outcome};
-ghost use Rattle.ripemd_files.specs.declared.line.Layout.{Layout};
-ghost use Rattle.ripemd_files.specs.declared.list.Rules.{Rules};
-ghost use Rattle.ripemd_files.specs.declared.printing.Style.{Style};
-ghost use Rattle.ripemd_files.specs.declared.verdict.Options.{Options};
-ghost use Rattle.ripemd_files.specs.declared.verdict.Tally.{Tally};
+ghost use Rattle.ripemd_files.specs.Types.{Outcome, Layout, Rules, Style, Options, Tally, Ended};
 ghost use Rattle.ripemd_files.specs.Determined.{IsKnown, Print, Report, Start};
-ghost use Rattle.ripemd_files.specs.declared.piece.Stage.TheVariants.{Ended};
 ghost use Rattle.ripemd_files.specs.Said.{Item};
 ghost use Rattle.ripemd_files.specs.Contents.{IsDigest};
 ghost use Rattle.ripemd_files.specs.Checking.{Event};

@@ -3,7 +3,7 @@
 ghost use Rattle.std.specs.Prelude.{◌≡◌, ◌&&◌, not, ◌<◌, ◌++◌, [], ◌∷◌, flat_map, get_or, length, IfErr, IfOk, IsErr, None, OnOk, List};
 ghost use Rattle.std.specs.List.{AllZip};
 ghost use Rattle.ripemd_batch.specs.Lanes.{targets};
-ghost use Rattle.ripemd_files.specs.declared.piece.Stage.TheVariants.{Among};
+ghost use Rattle.ripemd_files.specs.Types.{Among};
 ghost use Rattle.ripemd_files.specs.Files.{OfFirst};
 ghost use Rattle.ripemd_files.specs.Said.{Pends, Stops, Tells, about_list, written};
 ghost use Rattle.ripemd_files.specs.Lists.{ChecksList, StopsList};

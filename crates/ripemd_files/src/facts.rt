@@ -3,10 +3,7 @@
 
 ghost use Rattle.std.specs.Prelude.{◌≡◌, ◌≢◌, ◌==◌, ℕ, List, ◌∷◌, false};
 ghost use Rattle.std.specs.List.{list_any};
-ghost use Rattle.ripemd_files.specs.declared.line.Variant.{Variant};
-ghost use Rattle.ripemd_files.specs.declared.line.Layout.{Layout};
-ghost use Rattle.ripemd_files.specs.declared.line.Form.{Form};
-ghost use Rattle.ripemd_files.specs.declared.line.Ending.TheVariants.{Newline, Zero};
+ghost use Rattle.ripemd_files.specs.Types.{Variant, Layout, Form, Newline, Zero};
 ghost use Rattle.ripemd_files.specs.Lines.{IsLine, RoundTrips, line_of, is_end};
 ghost use Rattle.ripemd_files.specs.Worked.{WrittenLines, EscapedLines, UntaggedLines, MarkedLines, TaggedLines, ReversedLines, RefusedLines, RefusedTags, Zeros};
 

@@ -1,7 +1,7 @@
 //! Errors that end a run.
 
 ghost use Rattle.std.specs.Prelude.{◌≡◌};
-ghost use Rattle.ripemd_files.specs.declared.fault.Fault.TheVariants.{NoMemory};
+ghost use Rattle.ripemd_files.specs.Types.{NoMemory};
 
 use std::alloc::AllocError;
 use std::io;

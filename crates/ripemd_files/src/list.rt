@@ -2,7 +2,7 @@
 
 ghost use Rattle.std.specs.Prelude.{◌≡◌, ◌≢◌, ◌↔◌, ◌+◌, ◌<◌, ◌^◌, ◌++◌, ◌∷◌, [], codes, false, length, IfErr, IfOk, IsFalse, IsTrue, OnOk};
 ghost use Rattle.ripemd_files.specs.Lists.{IsTaken, IsWanted, body_of_line, is_passed_over, layout_after};
-ghost use Rattle.ripemd_files.specs.declared.piece.Stage.TheVariants.{Among};
+ghost use Rattle.ripemd_files.specs.Types.{Among};
 ghost use Rattle.ripemd_files.specs.Groups.{ExplainsReading, IsEntry, ReadsGroup, StopsReading, Takes};
 
 use crate::digests::FILES_AT_ONCE;

@@ -2,9 +2,7 @@
 //! facts.
 
 ghost use Rattle.std.specs.Prelude.{◌≡◌, ◌≢◌, ℕ, List, [], ◌∷◌, ◌++◌, Option, Some};
-ghost use Rattle.ripemd_files.specs.declared.line.Variant.{Variant};
-ghost use Rattle.ripemd_files.specs.declared.line.Layout.{Layout};
-ghost use Rattle.ripemd_files.specs.declared.line.Layout.TheVariants.{Standard, Reversed};
+ghost use Rattle.ripemd_files.specs.Types.{Variant, Layout, Standard, Reversed};
 ghost use Rattle.ripemd_files.specs.Layouts.{layout_of, HasLayout};
 ghost use Rattle.ripemd_files.specs.Splitting.{lines_of, IsOneLine};
 ghost use Rattle.ripemd_files.specs.WorkedLists.{SplitLists, StandardLayouts, ReversedLayouts, NoLayouts};

@@ -4,7 +4,7 @@ ghost use Rattle.std.specs.Prelude.{◌≡◌, IfErr, IfOk};
 ghost use Rattle.std.specs.Io.Buffered.{reader_remaining};
 ghost use Rattle.std.specs.Io.BufRead.{ends_with_byte, strip_last};
 ghost use Rattle.ripemd_files.specs.Splitting.{IsPiece, ListState, ReadsOn, stage_after, state_of};
-ghost use Rattle.ripemd_files.specs.declared.piece.Stage.TheVariants.{Among};
+ghost use Rattle.ripemd_files.specs.Types.{Among};
 
 use std::alloc::AllocError;
 use std::io;

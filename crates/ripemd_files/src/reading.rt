@@ -1,10 +1,7 @@
 //! Lines that are read.
 
 ghost use Rattle.std.specs.Prelude.{◌≡◌, ℕ, List, false, IfOk, IfSome, option_map, unwrap_or};
-ghost use Rattle.ripemd_files.specs.declared.line.Variant.{Variant};
-ghost use Rattle.ripemd_files.specs.declared.line.Form.{Form};
-ghost use Rattle.ripemd_files.specs.declared.line.Layout.TheVariants.{Standard};
-ghost use Rattle.ripemd_files.specs.declared.line.Ending.{Ending};
+ghost use Rattle.ripemd_files.specs.Types.{Variant, Form, Standard, Ending};
 ghost use Rattle.ripemd_files.specs.Lines.{is_blank, IsLine, Says, RoundTrips, line_of};
 ghost use Rattle.ripemd_files.specs.Layouts.{layout_at, layout_of};
 ghost use Rattle.ripemd_files.specs.Reading.{strip, skip_blanks, split_blank, split_close, variant_of, strip_bits, strip_label, text_at, untagged_at, skip_space, tagged_at, found_at, digest_at, meant_by, unescaped, name_at, strip_mark, said_by, found_of, said_of};

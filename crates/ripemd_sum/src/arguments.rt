@@ -3,7 +3,7 @@
 ghost use Rattle.std.specs.Prelude.{◌≡◌, ◌≤◌, ◌↔◌, ℕ, Ok, Some, IfSome, map, take, string_bytes};
 ghost use Rattle.hex.specs.Hex.{decode_of};
 ghost use Rattle.ripemd_sum.specs.Arguments.{Chooses, IsKeyText, ChoosesMac, HasKey};
-ghost use Rattle.ripemd_sum.specs.declared.variant.Variant.{Variant};
+ghost use Rattle.ripemd_sum.specs.Types.{Variant};
 
 use crate::variant::Variant;
 

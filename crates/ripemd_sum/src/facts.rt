@@ -1,7 +1,7 @@
 //! Worked cases of the definitions, as contracts of functions that do nothing.
 
 ghost use Rattle.std.specs.Prelude.{◌≡◌};
-ghost use Rattle.std.specs.declared.io.Error.{Error};
+ghost use Rattle.ripemd_sum.specs.Types.{Error};
 ghost use Rattle.ripemd_sum.specs.Runs.{most_bytes, most_bytes_under_a_key};
 ghost use Rattle.ripemd_sum.specs.Worked.{LinesOfAbc, LineOfATag, LinesOfErrors, AskForDigests, AskForTags, AskForNothing, LengthsOfKeys};
 ghost use Rattle.ripemd_sum.specs.Worked.{RunsToTheEnd, RunsThatStop, Writings, WorkedErrors};

@@ -16,7 +16,7 @@ ghost use Rattle.ripemd_sum.specs.Track.{Ready};
 ghost use Rattle.ripemd_sum.specs.Arguments.{Chooses, ChoosesMac, HasKey, AsksNothing};
 ghost use Rattle.ripemd_sum.specs.Runs.{digest_line, tag_line, most_bytes, most_bytes_under_a_key};
 ghost use Rattle.ripemd_sum.specs.Faults.{IsRun};
-ghost use Rattle.ripemd_sum.specs.declared.variant.Variant.{Variant};
+ghost use Rattle.ripemd_sum.specs.Types.{Variant};
 
 use arguments::{choose, choose_mac};
 use engine::{run, run_mac};

@@ -2,7 +2,7 @@
 
 ghost use Rattle.std.specs.Prelude.{◌≡◌, ◌↔◌, Some};
 ghost use Rattle.ripemd_sum.specs.Arguments.{name_of};
-ghost use Rattle.ripemd_sum.specs.declared.variant.Variant.{Variant};
+ghost use Rattle.ripemd_sum.specs.Types.{Variant};
 
 /// A hash that the program has.
 #[derive(Clone, Copy, PartialEq, Eq, Debug)]

@@ -2,7 +2,7 @@
 
 ghost use Rattle.std.specs.Prelude.{◌≡◌, IfOk, map, vec_items};
 ghost use Rattle.rmdsum.specs.declared.arguments.Stop.TheVariants.{OutOfMemory};
-ghost use Rattle.rmdsum.specs.declared.arguments.Next.TheVariants.{Any};
+ghost use Rattle.rmdsum.specs.Types.{Any};
 ghost use Rattle.rmdsum.specs.Arguments.{variant_named, Answers, Reads, reading, says, long_says, letters_say, flag_says, value_says};
 
 use crate::refusals::Misuse;

@@ -2,7 +2,7 @@
 
 ghost use Rattle.std.specs.Prelude.{◌≡◌, ◌+◌, [], ℕ, true, false, IfOk, OnOk, IfSome, IsSome, IsSomeAnd, None, is_none, map, vec_items, Vec};
 ghost use Rattle.std.specs.Global.{Global};
-ghost use Rattle.rmdsum.specs.declared.request.NameSource.TheVariants.{From, Operands};
+ghost use Rattle.rmdsum.specs.Types.{From, Operands};
 ghost use Rattle.rmdsum.specs.Names.{left_in, Continues, IsEntry, IsNamed};
 
 use crate::messages::{Message, say};

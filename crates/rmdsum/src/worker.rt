@@ -1,8 +1,7 @@
 //! A run of the program.
 
 ghost use Rattle.std.specs.Prelude.{◌≡◌, [], ◌∷◌, List, Option, IfOk, is_none, map, vec_items};
-ghost use Rattle.rmdsum.specs.declared.arguments.Next.TheVariants.{Any};
-ghost use Rattle.rmdsum.specs.declared.request.Work.TheVariants.{Check};
+ghost use Rattle.rmdsum.specs.Types.{Any, Check};
 ghost use Rattle.ripemd_files.specs.Said.{Adds};
 ghost use Rattle.rmdsum.specs.Arguments.{reading};
 ghost use Rattle.rmdsum.specs.Runs.{AreRules, Deed, Extends, DoesAsked, Performs, IsRun, Handles};
