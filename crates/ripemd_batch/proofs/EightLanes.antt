@@ -1,6 +1,5 @@
 -- What holds of each of eight, four or sixteen places holds of all of them.
-use Rattle.std.proofs.Common.{ℕ, ◌<◌}
-use borrow.Author.Count.{below_none, below_more}
+use Rattle.std.proofs.Common.{ℕ, ◌<◌, below_none, below_more}
 
 module _ (P : ℕ → Type 0) where
   pub below_four : P 0 → P 1 → P 2 → P 3 → (j : ℕ) → j < 4 → P j

@@ -1,6 +1,5 @@
 -- The kept bytes of an HMAC state: two hash states.
-use Rattle.std.proofs.Common.{◌≡◌, ℕ, ◌+◌, List, ◌++◌, length, take, drop, sym, ap, ◌∙◌, arith, refl}
-use Rattle.std.proofs.lemmas.List.{take_at, drop_at, length-take}
+use Rattle.std.proofs.Common.{◌≡◌, ℕ, ◌+◌, List, ◌++◌, length, take, drop, sym, ap, ◌∙◌, arith, refl, take_at, drop_at, length-take}
 use Rattle.ripemd.specs.States.{core_and_tail}
 use Rattle.ripemd.specs.OverLists.{IsInjectiveOutput}
 use Rattle.ripemd_mac.specs.Hmac.{KeyedState}

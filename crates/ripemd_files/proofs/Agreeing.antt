@@ -1,7 +1,6 @@
 -- Lines that were printed, and are checked.
-use Rattle.std.proofs.Common.{rules, ◌≡◌, ◌≢◌, ℕ, Bool, false, List, [], ◌∷◌, length, Option, None, unwrap_or, refl, sym, subst, ◌∙◌, arith}
+use Rattle.std.proofs.Common.{rules, ◌≡◌, ◌≢◌, ℕ, Bool, false, List, [], ◌∷◌, length, Option, None, unwrap_or, refl, sym, subst, ◌∙◌, arith, ◌↔◌, ◌⊎◌, IsNone, IsSomeAnd, MatchOption}
 use Rattle.std.specs.List.{list_any}
-use Rattle.std.specs.Prelude.{◌↔◌, ◌⊎◌, IsNone, IsSomeAnd, MatchOption}
 use Rattle.std.proofs.lemmas.Bool.Decides.{nat_tests}
 use Rattle.std.proofs.lemmas.Slice.Eq.{bytes_eq-Decides}
 use Rattle.std.proofs.lemmas.List.Folds.{list_any_at}

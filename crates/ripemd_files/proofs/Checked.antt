@@ -1,10 +1,9 @@
 -- What a check finds of the files of some lines.
-use Rattle.std.proofs.Common.{◌≡◌, ◌≢◌, ◌⊎◌, ℕ, zero, suc, ◌+◌, ◌<◌, ◌≤◌, ◌-◌, ◌^◌, List, [], ◌++◌, flat_map, length, take, get_or, Option, Bool, true, refl, sym, ap, ◌∙◌, inl, inr, arith, append_assoc}
+use Rattle.std.proofs.Common.{◌≡◌, ◌≢◌, ◌⊎◌, ℕ, zero, suc, ◌+◌, ◌<◌, ◌≤◌, ◌-◌, ◌^◌, List, [], ◌++◌, flat_map, length, take, get_or, Option, Bool, true, refl, sym, ap, ◌∙◌, inl, inr, arith, append_assoc, append-nil, length-append, length-take-le}
 use Rattle.std.specs.List.{AllZip, list_any}
 use Rattle.std.specs.Io.KnownBytes.{Consumes}
 use Rattle.std.proofs.KnownBytes.{Consumes-nil, Consumes-trans}
 use Rattle.std.proofs.lemmas.Slice.Zip.{AllZip-long}
-use Rattle.std.proofs.lemmas.List.{append-nil, length-append, length-take-le}
 use Rattle.std.proofs.lemmas.Grind.{flat_map-append, fold-append}
 use Rattle.ripemd.specs.Standard.Hashing.{ripemd}
 use Rattle.ripemd_files.specs.Types.{Fault, Write, NoMemory, TooManyLines, Line, Layout, Variant, Rules, Cursor, Group, Outcome, Stage, Verdict, Options, Tally, Among, Ended, Failed}

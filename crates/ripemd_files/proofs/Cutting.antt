@@ -1,10 +1,9 @@
 -- Lists, split into lines.
-use Rattle.std.proofs.Common.{◌≡◌, ◌≢◌, ℕ, ◌+◌, ◌-◌, ◌==◌, true, false, List, [], ◌∷◌, ◌++◌, length, take, Option, All, IfSome, refl, arith, inl, inr, append_assoc, ◌<◌}
+use Rattle.std.proofs.Common.{◌≡◌, ◌≢◌, ℕ, ◌+◌, ◌-◌, ◌==◌, true, false, List, [], ◌∷◌, ◌++◌, length, take, Option, All, IfSome, refl, arith, inl, inr, append_assoc, ◌<◌, ne_eqb}
 use Rattle.std.specs.List.{list_any}
 use Rattle.std.specs.Io.{StopsAt, appended_bytes}
 use Rattle.std.specs.Io.KnownBytes.{Consumes}
 use Rattle.std.specs.Io.BufRead.{take_through, drop_through, ends_with_byte, strip_last, DropsThrough}
-use Rattle.std.proofs.lemmas.Bool.{ne_eqb}
 use Rattle.std.proofs.lemmas.List.{append-nil, take_all, take_more}
 use Rattle.std.proofs.lemmas.List.Elements.{All-weaker}
 use Rattle.std.proofs.lemmas.List.Folds.{list_any-append, list_any_none}

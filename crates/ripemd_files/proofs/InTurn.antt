@@ -1,9 +1,7 @@
 -- Of things in turn something is found, told and counted.
-use Rattle.std.proofs.Common.{◌≡◌, ℕ, ◌+◌, ◌-◌, ◌<◌, ◌≤◌, List, [], ◌∷◌, ◌++◌, flat_map, length, take, drop, get_or, refl, arith}
+use Rattle.std.proofs.Common.{◌≡◌, ℕ, ◌+◌, ◌-◌, ◌<◌, ◌≤◌, List, [], ◌∷◌, ◌++◌, flat_map, length, take, drop, get_or, refl, arith, append-nil, take_all, take-add}
 use Rattle.std.specs.List.{AllZip}
-use Rattle.std.proofs.lemmas.List.{append-nil, take_all}
 use Rattle.std.proofs.lemmas.Grind.{flat_map-append}
-use Rattle.std.proofs.Math.Seq.{take-add}
 use Rattle.ripemd_files.specs.Types.{Fault, NoMemory}
 use Rattle.ripemd_files.specs.Said.{Item, Pends, Stops, Tells, TellsEach, TellsFirst, Told, written}
 use Rattle.ripemd_files.proofs.Telling.{no_memory, pends_done, pends_more, pends_none, pends_stops, pends_undone, stops_after, tells_more, tells_none}
@@ -28,7 +26,7 @@ module _ {A B C : Type 0} {IsFound : A → B → Type 0} {items_of : B → List 
   each_none old n = record { found = []; each = tt; tells = tells_none old; counts = none n }
 
   -- of the next thing
-  module _ {things : List A} {k : ℕ} {a b : Told} {lines : List ℕ} {n m : C} (before : TellsSoFar IsFound items_of Counts (take k things) a b lines n m)
+  module _ (things : List A) (k : ℕ) {a b : Told} {lines : List ℕ} {n m : C} (before : TellsSoFar IsFound items_of Counts (take k things) a b lines n m)
       (thing : A) (one : B) (within : k < length things) (is : get_or things k thing ≡ thing) (found : IsFound thing one) where
     each_next : AllZip IsFound (take (k + 1) things) (before.found ++ one ∷ [])
     each_next = all_zip_next IsFound things before.found k thing one within is before.each found
@@ -55,7 +53,7 @@ module _ {A B C : Type 0} {IsFound : A → B → Type 0} {items_of : B → List 
     }
 
   -- of all of them
-  module _ {things : List A} {k : ℕ} {a b : Told} {lines : List ℕ} {n m : C} (before : TellsSoFar IsFound items_of Counts (take k things) a b lines n m) where
+  module _ (things : List A) (k : ℕ) {a b : Told} {lines : List ℕ} {n m : C} (before : TellsSoFar IsFound items_of Counts (take k things) a b lines n m) where
     pub each_written : (c : Told) → length things ≤ k → Tells b c (written lines) → TellsEach IsFound items_of Counts things a c n m
     each_written c over wrote = record {
       found = before.found;
@@ -69,7 +67,7 @@ module _ {A B C : Type 0} {IsFound : A → B → Type 0} {items_of : B → List 
         record { count = k; found = before.found; each = before.each; stops = pends_undone ⊥ a b c lines _ fault before.pends stops }
 
   -- of those from a place on, after those before it
-  module _ {things : List A} {start : ℕ} {a b : Told} {n m : C} (before : TellsEach IsFound items_of Counts (take start things) a b n m) where
+  module _ (things : List A) (start : ℕ) {a b : Told} {n m : C} (before : TellsEach IsFound items_of Counts (take start things) a b n m) where
     pub each_on : (c : Told) (end : ℕ) (next : C) → start ≤ end
         → TellsEach IsFound items_of Counts (take (end - start) (drop start things)) b c m next
         → TellsEach IsFound items_of Counts (take end things) a c n next

@@ -1,8 +1,6 @@
 -- What loops over the places of a text find.
-use Rattle.std.proofs.Common.{◌≡◌, ◌≢◌, ℕ, ◌+◌, ◌-◌, ◌<◌, true, false, List, [], ◌∷◌, ◌++◌, length, get_or, take, drop, Option, Some, None, append_assoc, arith}
-use Rattle.std.specs.Prelude.{option_map}
+use Rattle.std.proofs.Common.{◌≡◌, ◌≢◌, ℕ, ◌+◌, ◌-◌, ◌<◌, true, false, List, [], ◌∷◌, ◌++◌, length, get_or, take, drop, Option, Some, None, append_assoc, arith, option_map, ne_eqb}
 use Rattle.std.proofs.lemmas.List.{drop_more, append-nil, length-drop, take-append-drop, take_all}
-use Rattle.std.proofs.lemmas.Bool.{ne_eqb}
 use Rattle.ripemd_files.specs.Reading.{split_close, unescaped, meant_by}
 
 -- ---- the last closing parenthesis

@@ -1,5 +1,5 @@
 -- What is printed of files, one after another.
-use Rattle.std.proofs.Common.{◌≡◌, ℕ, List, [], ◌∷◌, ◌++◌, Bool, ◌&&◌, refl, sym, ap, arith, length, take, get_or, ◌+◌, ◌-◌, ◌<◌, ◌≤◌, drop, Bor}
+use Rattle.std.proofs.Common.{◌≡◌, ℕ, List, [], ◌++◌, Bool, true, ◌&&◌, refl, sym, ap, arith, length, take, get_or, ◌+◌, ◌-◌, ◌<◌, ◌≤◌, drop, Bor}
 use Rattle.std.proofs.lemmas.List.{length-drop, length-map, length-take, take-map, take-take}
 use Rattle.std.proofs.lemmas.List.Folds.{list_all-append}
 use Rattle.std.proofs.lemmas.Slice.Zip.{AllZip-long}
@@ -21,8 +21,8 @@ read_none all = sym (and-true all)
 pub read_more : (a b c : Bool) (some others : List Reading) → AllRead a some b → AllRead b others c → AllRead a (some ++ others) c
 read_more a b c some others first second = rw (second, first, list_all-append, and_assoc) refl
 
-pub read_one : (all was : Bool) (reading : Reading) → was ≡ was_read reading.outcome → AllRead all (reading ∷ []) (all && was)
-read_one all was reading is = rw (is, and-true) refl
+pub read_one : (all was : Bool) (outcome : Outcome) → was ≡ was_read outcome → (all && was) ≡ (all && (was_read outcome && true))
+read_one all was outcome is = rw (is, and-true) refl
 
 -- the next of some files that were read
 pub reading_at : {File : Type 0} (place : Place File) (style : Style) (names : List (List ℕ)) (outcomes : List Outcome)

@@ -1,9 +1,7 @@
 -- A digest has the length of its variant, and consists of bytes.
-use Rattle.std.proofs.Common.{◌≡◌, ◌⊎◌, ℕ, zero, suc, ◌+◌, ◌≤◌, List, [], ◌∷◌, ◌++◌, length, take, drop, Option, inl, inr, refl, sym, ◌∙◌, arith}
+use Rattle.std.proofs.Common.{◌≡◌, ◌⊎◌, ℕ, zero, suc, ◌+◌, ◌≤◌, List, [], ◌∷◌, ◌++◌, length, take, drop, Option, inl, inr, refl, sym, ◌∙◌, arith, slice_get, length-append, length-take, length-drop, length-set}
 use Rattle.std.specs.List.{fold}
-use Rattle.std.specs.Prelude.{slice_get}
 use Rattle.std.specs.Int.{to_le_bytes, w32}
-use Rattle.std.proofs.lemmas.List.{length-append, length-take, length-drop, length-set}
 use Rattle.hex.specs.Hex.{IsBytes}
 use Rattle.ripemd_block.specs.Standard.Words.{word_bytes}
 use Rattle.ripemd_block.specs.Standard.Schedule.{Line, left_line, right_line}

@@ -1,6 +1,5 @@
 -- The blocks of a derived key, one U after another, and how they lie in the key.
-use Rattle.std.proofs.Common.{◌≡◌, ℕ, zero, suc, ◌+◌, ◌-◌, ◌*◌, ◌<◌, ◌≤◌, inl, inr, min, arith, refl, ap, ap₂, sym, ◌∙◌, length-append}
-use Rattle.std.proofs.Common.{List, [], ◌∷◌, ◌++◌, length, map, replicate, take, drop}
+use Rattle.std.proofs.Common.{◌≡◌, ℕ, zero, suc, ◌+◌, ◌-◌, ◌*◌, ◌<◌, ◌≤◌, inl, inr, min, arith, refl, ap, ap₂, sym, ◌∙◌, length-append, List, [], ◌∷◌, ◌++◌, length, map, replicate, take, drop, mul-le-mul_right}
 use Rattle.std.specs.Int.Bits.{bit_xor}
 use Rattle.std.specs.Simd.Lanes.{zip2}
 use Rattle.std.specs.List.{range_with_len, flat_map, fold}
@@ -14,7 +13,6 @@ use Rattle.std.proofs.lemmas.Grind.{div_ceil_times, flat_map-append}
 use Rattle.std.proofs.lemmas.List.Folds.{flat_map-map}
 use Rattle.std.proofs.lemmas.List.{append-nil, nil_from_length, take-append-le, length-take-le, take_all, length-drop}
 use Rattle.std.proofs.Math.Seq.{take-append_seam, take-append-add}
-use Rattle.std.proofs.Math.Nat.{mul-le-mul_right}
 use Rattle.ripemd_mac.specs.Hmac.{filled}
 use Rattle.ripemd_mac.specs.Pbkdf2.{INT, U, F}
 

@@ -1,8 +1,6 @@
 -- Bytes compared by the bitwise or of their differences.
-use Rattle.std.proofs.Common.{◌≡◌, ℕ, ◌+◌, ◌≤◌, ◌<◌, ◌↔◌, IsTrue, nat_eq}
-use Rattle.std.proofs.Common.{List, length, get_or, bit_or, ap, ◌∙◌, arith, rules}
+use Rattle.std.proofs.Common.{◌≡◌, ℕ, ◌+◌, ◌≤◌, ◌<◌, ◌↔◌, IsTrue, nat_eq, List, length, get_or, bit_or, ap, ◌∙◌, arith, rules, below_more}
 use Rattle.std.specs.Int.Bits.{bit_xor, xor_assoc, xor_self, xor_zero_l, xor_zero_r, or_zero_l}
-use borrow.Author.Count.{below_more}
 use Rattle.std.proofs.lemmas.List.{same_lists, get_or_default}
 use Rattle.std.proofs.lemmas.Nat.{le_or_l, le_or_r}
 

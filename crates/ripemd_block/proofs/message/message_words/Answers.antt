@@ -1,5 +1,4 @@
-use Rattle.std.proofs.Common.{◌∙◌, refl, arith, w8, Fits}
-use Rattle.std.proofs.lemmas.List.{take_all}
+use Rattle.std.proofs.Common.{◌∙◌, refl, arith, w8, Fits, take_all}
 use Rattle.std.proofs.lemmas.Simd.{Each1-from_get_or, below_from_Fits, get_or_wider}
 use Rattle.ripemd_block.specs.Standard.Words.{message_word}
 use Rattle.ripemd_block.specs.Code.Lines.{message_words}

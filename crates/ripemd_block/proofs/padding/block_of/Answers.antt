@@ -1,5 +1,4 @@
-use Rattle.std.proofs.Common.{◌≡◌, ℕ, ◌*◌, ◌∙◌, length, ap, arith, w32, Fits}
-use Rattle.std.proofs.lemmas.List.{take_all}
+use Rattle.std.proofs.Common.{◌≡◌, ℕ, ◌*◌, ◌∙◌, length, ap, arith, w32, Fits, take_all}
 use Rattle.std.proofs.lemmas.Simd.{Each1-from_get_or, below_from_Fits}
 use lib.Lanes.{digits_l, number_l}
 use Rattle.ripemd_block.proofs.Writing.{words_narrowed}

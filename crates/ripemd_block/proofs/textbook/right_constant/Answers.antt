@@ -1,6 +1,5 @@
 -- The table lists the constants of the rounds, which compute.
-use Rattle.std.proofs.Common.{◌+◌, arith}
-use Rattle.std.proofs.lemmas.Bool.{le-leb}
+use Rattle.std.proofs.Common.{◌+◌, arith, le-leb}
 use Rattle.ripemd_block.specs.Standard.Schedule.{cube_root_constant}
 use Rattle.ripemd_block.proofs.Tables.{value_at}
 use Rattle.ripemd_block.proofs.textbook.right_constant.Goals as goal

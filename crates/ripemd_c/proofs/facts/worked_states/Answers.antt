@@ -3,8 +3,7 @@ use Rattle.ripemd.specs.Standard.Words.{word_bytes}
 use Rattle.ripemd.specs.Standard.Compression.{ripemd160, registers_after, lines_after, compress}
 use Rattle.ripemd.specs.Standard.Hashing.{with_padding, blocks, partial_block, hash}
 use Rattle.ripemd.specs.States.{HashState, new_state, fed, finish, output_and_count, core_and_tail}
-use Rattle.ripemd.specs.SavedLaws.{length-core_and_tail}
-use Rattle.ripemd_block.specs.Laws.Saved.{word_bytes_output}
+use Rattle.ripemd_block.specs.Laws.Saved.{length-core_and_tail, word_bytes_output}
 use Rattle.ripemd.proofs.Saved.{tail_back}
 use Rattle.ripemd_mac.specs.Laws.{inner_part, outer_part}
 use Rattle.ripemd.specs.Published.{hexadecimal}

@@ -1,5 +1,4 @@
-use Rattle.std.proofs.Common.{◌≡◌, ◌+◌, ◌-◌, ◌∙◌, [], refl, length, take, drop, get_or, arith}
-use Rattle.std.proofs.lemmas.List.{length-drop, length-take-le}
+use Rattle.std.proofs.Common.{◌≡◌, ◌+◌, ◌-◌, ◌∙◌, [], refl, length, take, drop, get_or, arith, length-drop, length-take-le}
 use Rattle.ripemd.specs.States.{with_tail, output_and_count}
 use Rattle.ripemd_block.specs.Laws.Saved.{core_and_tail-split}
 use Rattle.ripemd_c.proofs.KeptBytes.{cleared_front, kept_core, with_valid}

@@ -1,5 +1,4 @@
-use Rattle.std.proofs.Common.{◌≡◌, ℕ, ◌+◌, ◌-◌, ◌++◌, length, sym, ◌∙◌, arith}
-use Rattle.std.proofs.lemmas.List.{take_at, drop_at}
+use Rattle.std.proofs.Common.{◌≡◌, ℕ, ◌+◌, ◌-◌, ◌++◌, length, sym, ◌∙◌, arith, take_at, drop_at}
 use Rattle.ripemd_c.specs.KeptStates.{kept_in}
 use Rattle.ripemd_c.proofs.KeptStates.{updated}
 use Rattle.ripemd_c.proofs.states.update_kept.Goals as goal

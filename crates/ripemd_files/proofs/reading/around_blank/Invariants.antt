@@ -1,5 +1,4 @@
-use Rattle.std.proofs.Common.{◌≡◌, ◌++◌, take, drop}
-use Rattle.std.specs.Prelude.{option_map}
+use Rattle.std.proofs.Common.{◌≡◌, ◌++◌, take, drop, option_map}
 use Rattle.ripemd_files.specs.Reading.{split_blank}
 use Rattle.ripemd_files.proofs.reading.around_blank.Given as goal
 

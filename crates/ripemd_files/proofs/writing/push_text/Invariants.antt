@@ -1,5 +1,4 @@
-use Rattle.std.proofs.Common.{◌≡◌, ◌++◌, take}
-use Rattle.std.specs.Prelude.{flat_map}
+use Rattle.std.proofs.Common.{◌≡◌, ◌++◌, take, flat_map}
 use Rattle.ripemd_files.specs.Lines.{escape_of}
 use Rattle.ripemd_files.proofs.writing.push_text.Given as goal
 

@@ -1,6 +1,4 @@
-use Rattle.std.proofs.Common.{◌≡◌, ◌*◌, ◌/◌, length, take, ap, sym, ◌∙◌, arith}
-use Rattle.std.specs.Prelude.{Some, IsOk}
-use Rattle.std.proofs.lemmas.List.{length-take-le}
+use Rattle.std.proofs.Common.{◌≡◌, ◌*◌, ◌/◌, length, take, ap, sym, ◌∙◌, arith, Some, IsOk, length-take-le}
 use Rattle.hex.proofs.HexLemmas.{IsOk-decode_sized, IsOk-written}
 use Rattle.ripemd_sum.proofs.arguments.parse_key.Goals as goal
 

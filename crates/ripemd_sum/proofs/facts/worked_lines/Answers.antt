@@ -1,5 +1,5 @@
 -- The definitions compute the lines.
-use Rattle.std.proofs.Common.{rules, refl}
+use Rattle.std.proofs.Common.{refl}
 use Rattle.hex.specs.Hex.{encode_with}
 use Rattle.ripemd.specs.Standard.Compression.{registers_after, lines_after, compress}
 use Rattle.ripemd.specs.Standard.Hashing.{with_padding, blocks, hash}

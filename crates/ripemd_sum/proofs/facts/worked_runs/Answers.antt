@@ -1,4 +1,4 @@
-use Rattle.std.proofs.Common.{rules, ℕ, ◌<◌, ◌≤◌, List, [], Bool, true, false, replicate, refl, arith}
+use Rattle.std.proofs.Common.{rules, ℕ, ◌<◌, ◌≤◌, [], Bool, true, false, replicate, refl, arith}
 use Rattle.std.proofs.lemmas.List.{length-replicate}
 use Rattle.ripemd_sum.specs.Runs.{Gives}
 use Rattle.ripemd_sum.specs.Worked.{Fails, Exceeds, tracked, unknown}

@@ -1,5 +1,4 @@
-use Rattle.std.proofs.Common.{◌≡◌, ◌∙◌, length, get_or, ap, arith}
-use Rattle.std.proofs.lemmas.List.{take-append-drop}
+use Rattle.std.proofs.Common.{◌≡◌, ◌∙◌, length, get_or, ap, arith, take-append-drop}
 use Rattle.ripemd_block.specs.States.{with_tail, output_and_count, tail_bytes}
 use Rattle.ripemd_block.specs.Laws.Saved.{core_and_tail-split}
 use Rattle.ripemd.proofs.Saved.{core_front, own_core, tail_back, tail_of_zeros, whole, zeros_behind}

@@ -1,5 +1,4 @@
-use Rattle.std.proofs.Common.{◌≡◌, ◌+◌, ◌<◌, ◌++◌, length, length-append, drop, arith, refl, sym, ◌∙◌}
-use Rattle.std.proofs.lemmas.List.{length-take-le}
+use Rattle.std.proofs.Common.{◌≡◌, ◌+◌, ◌<◌, ◌++◌, length, length-append, drop, arith, refl, sym, ◌∙◌, length-take-le}
 use Rattle.ripemd_block.specs.Laws.Blocks.{blocks_of_short, left_over_of_short}
 use Rattle.ripemd_block.proofs.Absorbing.{take_put}
 use Rattle.ripemd_block.proofs.buffer.Buffer.absorb.Goals as goal
