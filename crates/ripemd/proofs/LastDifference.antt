@@ -6,7 +6,7 @@ use Rattle.std.specs.Option.{MatchOption}
 use Rattle.std.proofs.lemmas.List.{take_all, same_lists, get_or_default}
 use Rattle.std.proofs.lemmas.List.Sums.{fold_more}
 use Rattle.std.proofs.lemmas.Bool.{cases_lt, cases_order}
-use Rattle.ripemd_block.specs.Standard.Hashing.{padded_message, blocks, walk}
+use Rattle.ripemd_block.specs.Standard.{padded_message, blocks, walk}
 use Rattle.ripemd_block.proofs.PaddedBlocks.{length-padded_blocks, one_length, one_message_of_blocks}
 use Rattle.ripemd.specs.Types.{Collision}
 use Rattle.ripemd.specs.Collisions.{Pair, state_after, pair_at, pair_of, CollideAt, IsCollision, IsOnlyCollision}

@@ -1,7 +1,7 @@
 -- Collisions of a block function (this repository's own): one place in each of the walks of two
 -- messages, where different pairs of state and block lead to the same state.
 use Rattle.std.specs.Prelude.{◌≡◌, ◌≢◌, ℕ, ◌+◌, ◌-◌, ◌<◌, List, [], length, take, slice_index_or, Option, Some}
-use Rattle.ripemd_block.specs.Standard.Hashing.{padded_message, blocks, walk}
+use Rattle.ripemd_block.specs.Standard.{padded_message, blocks, walk}
 use Rattle.ripemd.specs.Types.{Meeting, Collision}
 
 -- a state and the block that comes next

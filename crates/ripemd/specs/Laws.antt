@@ -1,7 +1,6 @@
 -- The laws of hash states, for callers of the hashers, who name them in `using(..)`.
 use Rattle.std.proofs.Common.{◌≡◌, ℕ, ◌^◌, ◌<◌, List, [], ◌++◌, length, sym, ◌∙◌, arith}
-use Rattle.ripemd_block.specs.Standard.Words.{block_size}
-use Rattle.ripemd_block.specs.Standard.Hashing.{hash}
+use Rattle.ripemd_block.specs.Standard.{block_size, hash}
 use Rattle.ripemd_block.specs.States.{HashState, initial_state, fed, finish}
 use Rattle.ripemd_block.specs.Laws.Pieces as laws
 use Rattle.ripemd.specs.Messages.{IsHashing}

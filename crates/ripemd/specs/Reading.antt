@@ -5,7 +5,7 @@ use Rattle.std.proofs.Common.{List, [], ◌++◌, length, take, length-append}
 use Rattle.std.specs.Io.KnownBytes.{Consumes}
 use Rattle.std.proofs.KnownBytes.{Consumes-nil, Consumes-trans}
 use Rattle.std.proofs.lemmas.List.{append-nil, length-take-le}
-use Rattle.ripemd_block.specs.Standard.Hashing.{hash}
+use Rattle.ripemd_block.specs.Standard.{hash}
 use Rattle.ripemd_block.specs.States.{HashState, initial_state, fed, finish}
 use Rattle.ripemd_block.specs.Laws.Pieces as laws
 

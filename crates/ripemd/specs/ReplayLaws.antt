@@ -7,9 +7,7 @@ use Rattle.std.proofs.lemmas.Bool.{cases_order}
 use Rattle.std.proofs.lemmas.Option.{slice_get_within}
 use Rattle.std.proofs.lemmas.List.{length-set}
 use Rattle.std.specs.List.{slice_get}
-use Rattle.ripemd_block.specs.Standard.Words.{word_bytes}
-use Rattle.ripemd_block.specs.Standard.Compression.{Parameters, compress}
-use Rattle.ripemd_block.specs.Standard.Hashing.{hash, ripemd}
+use Rattle.ripemd_block.specs.Standard.{word_bytes, Parameters, compress, hash, ripemd}
 use Rattle.ripemd_block.specs.States.{HashState, initial_state, new_state}
 use Rattle.ripemd_block.specs.Laws.Pieces.{finish_fed}
 use Rattle.ripemd.specs.Types.{Command, New, Update, Reset, Finish, Fork, Save, Load, Import, ReplayError, NoHasher, NoSaved, BadState, OutOfMemory}

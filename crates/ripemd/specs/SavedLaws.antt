@@ -1,8 +1,6 @@
 -- The bytes that a hasher is saved as, for callers who keep them between the pieces of a message.
 use Rattle.std.proofs.Common.{◌≡◌, ◌≢◌, ℕ, List, [], ◌++◌, ap, sym, ◌∙◌}
-use Rattle.ripemd_block.specs.Standard.Words.{word_bytes}
-use Rattle.ripemd_block.specs.Standard.Compression.{Parameters, compress}
-use Rattle.ripemd_block.specs.Standard.Hashing.{ripemd}
+use Rattle.ripemd_block.specs.Standard.{word_bytes, Parameters, compress, ripemd}
 use Rattle.ripemd_block.specs.States.{HashState, IsState, new_state, fed, finish, hasher_bytes}
 pub use Rattle.ripemd_block.specs.Laws.Saved.{length-core_and_tail, core_and_tail_injective}
 use Rattle.ripemd_block.specs.Laws.Saved.{hasher_bytes_injective}

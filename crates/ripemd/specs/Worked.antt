@@ -2,7 +2,7 @@
 use Rattle.std.specs.Prelude.{◌≡◌, ◌≢◌, ℕ, ◌+◌, ◌%◌, List, [], ◌∷◌, ◌++◌, replicate, None}
 use Rattle.std.specs.List.{flat_map}
 use Rattle.std.specs.Borrow.{Bor}
-use Rattle.ripemd_block.specs.Standard.Hashing.{padded_message, blocks}
+use Rattle.ripemd_block.specs.Standard.{padded_message, blocks}
 use Rattle.ripemd_block.specs.States.{HashState, initial_state, fed, finish}
 use Rattle.ripemd.specs.Types.{Collision, Command, New, Update, Reset, Finish, Fork, Save, Load, Import, ReplayError, NoHasher, NoSaved, BadState, OutOfMemory}
 use Rattle.ripemd.specs.Collisions.{CollideAt, IsCollision, IsOnlyCollision}

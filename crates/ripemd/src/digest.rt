@@ -1,7 +1,7 @@
 //! The traits of the hashers.
 
 ghost use Rattle.std.specs.Prelude.{◌≡◌, ℕ, ◌≤◌, List, [], ◌++◌, length};
-ghost use Rattle.ripemd_block.specs.Standard.Hashing.{hash};
+ghost use Rattle.ripemd_block.specs.Standard.{hash};
 ghost use Rattle.ripemd_block.specs.States.{HashState, initial_state, fed, finish};
 ghost use Rattle.ripemd.specs.Messages.{IsHashing};
 

@@ -1,7 +1,7 @@
 //! What a hasher and an HMAC have in common.
 
 ghost use Rattle.std.specs.Prelude.{◌≡◌, ℕ, List, [], ◌++◌, ⊤};
-ghost use Rattle.ripemd_block.specs.Standard.Hashing.{hash};
+ghost use Rattle.ripemd_block.specs.Standard.{hash};
 ghost use Rattle.ripemd_block.specs.States.{initial_state, fed, finish};
 ghost use Rattle.ripemd.specs.Laws as laws;
 

@@ -1,7 +1,7 @@
 //! Hashers saved as bytes, and loaded.
 
 ghost use Rattle.std.specs.Prelude.{◌≡◌, ◌+◌, ◌<◌, ◌↔◌, ◌∷◌, ◌++◌, length, drop, replicate, IsTrue};
-ghost use Rattle.ripemd_block.specs.Standard.Words.{block_size};
+ghost use Rattle.ripemd_block.specs.Standard.{block_size};
 ghost use Rattle.ripemd_block.specs.States.{core_and_tail};
 ghost use Rattle.ripemd_block.specs.Laws.Saved.{core_and_tail_injective};
 

@@ -5,7 +5,7 @@
 
 ghost use Rattle.std.specs.Prelude.{◌≡◌, ◌≢◌, ◌<◌, ◌≤◌, ◌^◌, ◌↔◌, ◌⊎◌, IsTrue, IsNone, IfSome};
 ghost use Rattle.std.specs.Prelude.{[], length, take, slice_index_or};
-ghost use Rattle.ripemd_block.specs.Standard.Hashing.{padded_message, blocks, walk, hash};
+ghost use Rattle.ripemd_block.specs.Standard.{padded_message, blocks, walk, hash};
 ghost use Rattle.ripemd.specs.Collisions.{pair_of, state_after, IsCollision, IsOnlyCollision};
 
 pub use ripemd_block::block_api::BlockFunction;

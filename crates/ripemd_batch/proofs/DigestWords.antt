@@ -8,8 +8,7 @@ use Rattle.std.proofs.lemmas.Nat.{from_le_bytes-to_le_bytes_4, xor_shr, xor_mod}
 use Rattle.std.proofs.lemmas.Grind.{flat_map-append}
 use Rattle.std.proofs.lemmas.List.{get_or_append_left, get_or-append_right, length-replicate}
 use Rattle.ripemd_block.proofs.Tables.{value_at}
-use Rattle.ripemd_block.specs.Standard.Words.{message_word, word_bytes}
-use Rattle.ripemd_block.specs.Standard.Hashing.{with_padding, zero_count}
+use Rattle.ripemd_block.specs.Standard.{message_word, word_bytes, with_padding, zero_count}
 use Rattle.ripemd_block.specs.Laws.WordBytes.{length-word_bytes}
 use Rattle.ripemd_batch.proofs.OneLane.{lane_is, lane_size, lane_word, word_is}
 use Rattle.ripemd_batch.specs.Lanes.{HasWords, lane_at, lane_of, padded_after, padding_words}

@@ -7,7 +7,7 @@ use Rattle.std.proofs.Math.Path.{fun_ext}
 use Rattle.std.proofs.lemmas.Nat.{div-mul-add, mod-mul-add, mul-add-lt}
 use Rattle.ripemd_block.specs.Laws.Blocks.{blocks_joined, blocks_of_one, left_over_joined}
 use Rattle.ripemd_block.specs.Laws.Pieces.{with_padding_rest}
-use Rattle.ripemd_block.specs.Standard.Hashing.{hash}
+use Rattle.ripemd_block.specs.Standard.{hash}
 use Rattle.ripemd_mac.specs.Hmac.{key_block, masked, inner_message, outer_message, hmac}
 use Rattle.ripemd_mac.specs.Pbkdf2.{INT, U, F}
 use Rattle.ripemd_batch.specs.Pbkdf2.{HasBlocks, InGroup, IsFilled, KeyList, combined_tags, tag_after}

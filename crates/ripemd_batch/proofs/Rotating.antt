@@ -3,7 +3,7 @@ use Rattle.std.proofs.Common.{◌≡◌, ℕ, ◌<◌, ◌-◌, ◌*◌, ◌/◌
 use Rattle.std.specs.Simd.Lanes.{zip2}
 use Rattle.std.proofs.lemmas.Simd.{zip2_splat, zip2-map}
 use Rattle.std.proofs.lemmas.List.{get_or-map}
-use Rattle.ripemd_block.specs.Standard.Words.{rol}
+use Rattle.ripemd_block.specs.Standard.{rol}
 
 pub shifts_rotate : (k : ℕ) → 0 < k → k < 32 → (n : ℕ) (a : List ℕ) → length a ≡ n → (j : ℕ) → j < n
     → slice_index (zip2 bit_or (zip2 (λ x n. x * 2 ^ n % 2 ^ 32) a (replicate n k)) (zip2 (λ x n. x / 2 ^ n) a (replicate n (32 - k)))) j

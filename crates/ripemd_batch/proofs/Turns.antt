@@ -4,7 +4,7 @@ use Rattle.std.proofs.Common.{◌≡◌, ℕ, ◌+◌, ◌<◌, ◌≤◌, inl, 
 use Rattle.std.proofs.Common.{List, [], length, take, get_or, Option, None, Some, is_some, unwrap_or, cond}
 use Rattle.std.proofs.lemmas.Bool.{cases_lt}
 use Rattle.std.proofs.lemmas.List.Sums.{fold_more}
-use Rattle.ripemd_block.specs.Standard.Hashing.{blocks, walk}
+use Rattle.ripemd_block.specs.Standard.{blocks, walk}
 use Rattle.ripemd_batch.specs.Lanes.{padded_after, hash_after, hashed_again, listed}
 
 -- the number of turns, for at most so many blocks

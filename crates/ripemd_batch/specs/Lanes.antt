@@ -4,9 +4,7 @@ use Rattle.std.specs.Prelude.{List, [], ◌∷◌, ◌++◌, length, map, replic
 use Rattle.std.specs.List.{range_with_len}
 use Rattle.std.specs.Borrow.{Bor}
 use Rattle.std.specs.Simd.{first_chunks}
-use Rattle.ripemd_block.specs.Standard.Words.{message_word}
-use Rattle.ripemd_block.specs.Standard.Hashing.{with_padding, blocks, walk}
-use Rattle.ripemd_block.specs.Standard.Schedule.{Line, left_line, right_line}
+use Rattle.ripemd_block.specs.Standard.{message_word, with_padding, blocks, walk, Line, left_line, right_line}
 use Rattle.ripemd_batch.specs.declared.lines.Side.{Side}
 use Rattle.ripemd_batch.specs.declared.lines.Side.TheVariants.{Left, Right}
 

@@ -2,7 +2,7 @@
 //! from the whole state and exchange nothing.
 
 ghost use Rattle.std.specs.Prelude.{◌≡◌, ◌<◌, ℕ, List, map};
-ghost use Rattle.ripemd_block.specs.Standard.Compression.{joint_state, compress, ripemd128};
+ghost use Rattle.ripemd_block.specs.Standard.{joint_state, compress, ripemd128};
 ghost use Rattle.ripemd_batch.specs.Lanes.{HasWords, lane_of};
 
 use crate::lanes::Lanes;

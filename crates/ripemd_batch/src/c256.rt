@@ -2,8 +2,7 @@
 //! half of the state, and after each round the lines exchange a register: A, B, C, D in turn.
 
 ghost use Rattle.std.specs.Prelude.{◌≡◌, ◌<◌, ℕ, List, map};
-ghost use Rattle.ripemd_block.specs.Standard.Compression.{lines_from, double_state};
-ghost use Rattle.ripemd_block.specs.Standard.Compression.{compress, ripemd256};
+ghost use Rattle.ripemd_block.specs.Standard.{lines_from, double_state, compress, ripemd256};
 ghost use Rattle.ripemd_block.specs.Code.Lines.{both_lines};
 ghost use Rattle.ripemd_batch.specs.Lanes.{HasWords, lane_of};
 

@@ -2,7 +2,7 @@
 
 ghost use Rattle.std.specs.Prelude.{◌≡◌, ◌<◌, ◌+◌, ◌*◌, ℕ, [], ◌∷◌, ◌++◌, length, slice_index, slice_index_or, List};
 ghost use Rattle.std.proofs.Common.{refl, rules};
-ghost use Rattle.ripemd_block.specs.Standard.Words.{message_word};
+ghost use Rattle.ripemd_block.specs.Standard.{message_word};
 
 use crate::lanes::Lanes;
 use crate::message::transposed_words;

@@ -3,7 +3,7 @@
 ghost use Rattle.std.specs.Prelude.{◌≡◌, ℕ, ◌<◌, ◌≤◌, ◌+◌, ◌-◌, ◌*◌, ◌^◌, List, [], ◌∷◌, ◌++◌, length, map, replicate, slice_index};
 ghost use Rattle.std.specs.Int.Bits.{bit_xor};
 ghost use Rattle.std.specs.Simd.Lanes.{zip2};
-ghost use Rattle.ripemd_block.specs.Standard.Words.{word_bytes};
+ghost use Rattle.ripemd_block.specs.Standard.{word_bytes};
 ghost use Rattle.ripemd_batch.specs.Lanes.{HasWords, lane_of, padded_after, padding_words};
 
 use crate::lanes::{Lanes, select};

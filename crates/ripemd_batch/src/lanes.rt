@@ -3,7 +3,7 @@
 ghost use Rattle.std.specs.Prelude.{◌≡◌, ◌<◌, ◌≤◌, ◌+◌, ◌*◌, ◌^◌, ℕ, List, slice_index, slice_index_or, bit_xor, bit_and};
 ghost use Rattle.std.specs.Int.{w32, bit_not};
 ghost use Rattle.std.specs.Mem.{type_size};
-ghost use Rattle.ripemd_block.specs.Standard.Words.{◌⊞◌, message_word, rol};
+ghost use Rattle.ripemd_block.specs.Standard.{◌⊞◌, message_word, rol};
 ghost use Rattle.ripemd_batch.specs.Lanes.{list_at, targets};
 
 /// Vectors with a word of each message. Not exported, so that no other crate can call it.

@@ -1,8 +1,7 @@
 //! The two lines of many messages: steps, rounds and exchanges, for any number of registers.
 
 ghost use Rattle.std.specs.Prelude.{◌≡◌, ◌<◌, ◌≤◌, ◌+◌, ◌-◌, ℕ, List, Some, map, slice_index};
-ghost use Rattle.ripemd_block.specs.Standard.Schedule.{boolean_function, left_line, right_line};
-ghost use Rattle.ripemd_block.specs.Standard.Compression.{step, registers_after, round, exchange};
+ghost use Rattle.ripemd_block.specs.Standard.{boolean_function, left_line, right_line, step, registers_after, round, exchange};
 ghost use Rattle.ripemd_block.specs.Code.Lines.{both_lines};
 ghost use Rattle.ripemd_batch.specs.Lanes.{line_of, lane_of, HasWords};
 

@@ -1,7 +1,7 @@
 //! The message words of a block of each message.
 
 ghost use Rattle.std.specs.Prelude.{◌≡◌, ◌<◌, ◌≤◌, ◌+◌, ◌*◌, ℕ, [], ◌∷◌, length, map, slice_index, slice_index_or};
-ghost use Rattle.ripemd_block.specs.Standard.Words.{message_word};
+ghost use Rattle.ripemd_block.specs.Standard.{message_word};
 ghost use Rattle.ripemd_batch.specs.Lanes.{HasWords, list_at, targets};
 
 use crate::four::Four;

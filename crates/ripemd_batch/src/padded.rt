@@ -1,8 +1,7 @@
 //! The blocks of a message with its padding; the whole blocks are not copied.
 
 ghost use Rattle.std.specs.Prelude.{◌≡◌, ◌-◌, ◌^◌, ◌<◌, [], ◌∷◌, ◌++◌, length, take, replicate, slice_index_or, ℕ, List};
-ghost use Rattle.ripemd_block.specs.Standard.Words.{block_size, eight_bytes};
-ghost use Rattle.ripemd_block.specs.Standard.Hashing.{length_place, with_padding, blocks};
+ghost use Rattle.ripemd_block.specs.Standard.{block_size, eight_bytes, length_place, with_padding, blocks};
 ghost use Rattle.ripemd_batch.specs.Lanes.{padded_after};
 
 use ripemd::padding::{last_blocks, whole_blocks};

@@ -2,7 +2,7 @@
 
 ghost use Rattle.std.specs.Prelude.{◌≡◌, ◌≢◌, ◌↔◌, ℕ, ◌<◌, ◌≤◌, ◌+◌, ◌-◌, ◌*◌, ◌%◌, ◌^◌, ◌++◌, length, slice_index, IfOk, IfErr};
 ghost use Rattle.std.specs.Int.{w32, to_be_bytes, div_ceil};
-ghost use Rattle.ripemd_block.specs.Standard.Hashing.{hash};
+ghost use Rattle.ripemd_block.specs.Standard.{hash};
 ghost use Rattle.ripemd_mac.specs.Hmac.{filled, hmac};
 ghost use Rattle.ripemd_mac.specs.Pbkdf2.{F, pbkdf2};
 ghost use Rattle.ripemd_batch.specs.Pbkdf2.{HasBlocks, InGroup, IsFilled, block_at, combined_tags, pbkdf2_each, tag_after, total, KeyList};

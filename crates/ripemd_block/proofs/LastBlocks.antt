@@ -5,9 +5,8 @@ use Rattle.std.proofs.lemmas.List.{length-append, length-replicate, append_assoc
 use Rattle.std.proofs.lemmas.List.{take_at, set_at, drop-replicate, take-replicate, replicate-append-replicate}
 use Rattle.std.specs.Int.{w32, to_le_bytes}
 use Rattle.std.proofs.lemmas.Grind.{flat_map-append}
-use Rattle.ripemd_block.specs.Standard.Words.{eight_bytes, word_bytes}
+use Rattle.ripemd_block.specs.Standard.{eight_bytes, word_bytes, with_padding, blocks, zero_count}
 use Rattle.ripemd_block.specs.Laws.Blocks.{blocks_of_one, blocks_of_two}
-use Rattle.ripemd_block.specs.Standard.Hashing.{with_padding, blocks, zero_count}
 
 -- a tail at the front of zero bytes, with one byte written after it
 pub marked_block : (tail : List ℕ) (byte : ℕ) → length tail < 64

@@ -6,8 +6,7 @@ use Rattle.std.specs.Simd.{first_chunks}
 use Rattle.std.proofs.lemmas.List.{length-append, length-replicate, length-drop, length-take-le, append_assoc}
 use Rattle.std.proofs.lemmas.List.{take_at, drop_at, drop-drop, take-append-drop, get_or_at, get_or_append_left}
 use Rattle.std.proofs.lemmas.Option.{slice_get-get_or}
-use Rattle.ripemd_block.specs.Standard.Words.{eight_bytes}
-use Rattle.ripemd_block.specs.Standard.Hashing.{zero_count, with_padding, padded_message, blocks, partial_block}
+use Rattle.ripemd_block.specs.Standard.{eight_bytes, zero_count, with_padding, padded_message, blocks, partial_block}
 use Rattle.ripemd_block.specs.Laws.Blocks.{length-blocks, blocks_joined, blocks_of_one}
 use Rattle.ripemd_block.specs.Laws.Pieces.{with_padding_rest}
 use Rattle.ripemd_block.specs.Laws.Saved.{eight_bytes_injective}

@@ -4,7 +4,7 @@ use Rattle.std.specs.Int.{from_le_bytes}
 use Rattle.std.specs.Simd.Lanes.{number_l, chunk}
 use Rattle.std.proofs.lemmas.Simd.{length-chunk}
 use Rattle.std.proofs.lemmas.List.{drop-take, take-take, drop-drop}
-use Rattle.ripemd_block.specs.Standard.Words.{message_word}
+use Rattle.ripemd_block.specs.Standard.{message_word}
 use Rattle.ripemd_block.proofs.Tables.{elements}
 
 -- the number that four bytes write, least first, as vectors and as words have it

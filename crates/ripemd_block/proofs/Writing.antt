@@ -2,7 +2,7 @@
 use Rattle.std.proofs.Common.{◌≡◌, ℕ, suc, ◌+◌, ◌-◌, ◌*◌, ◌/◌, ◌%◌, ◌<◌, ◌≤◌, List, [], ◌∷◌, ◌++◌, length, take, drop, arith, refl, ◌∙◌, sym, ap, append_assoc, take-append-drop, length-drop, length-take-le, drop-drop}
 use lib.Lanes.{digits_l, number_l, Each1}
 use Rattle.std.proofs.Math.Seq.{drop-append-add, drop-append-le}
-use Rattle.ripemd_block.specs.Standard.Words.{word_bytes}
+use Rattle.ripemd_block.specs.Standard.{word_bytes}
 
 -- the n bytes from m on are written, and then the first n
 pub ends_written : (n m : ℕ) (place bytes : List ℕ) → m + n ≡ length bytes → length bytes ≤ 2 * n → length bytes ≤ length place

@@ -2,7 +2,7 @@
 -- are their lists, it is the block function itself.
 use Rattle.std.proofs.Common.{◌≡◌, ℕ, refl, ap, ◌∙◌}
 use Rattle.std.proofs.Common.{List, [], ◌∷◌, length}
-use Rattle.ripemd_block.specs.Standard.Hashing.{padded_message, blocks, walk, hash}
+use Rattle.ripemd_block.specs.Standard.{padded_message, blocks, walk, hash}
 
 -- list, step and output are those of a block function
 pub record IsOverLists {S D : Type 0} (list : S → List ℕ) (is_state : S → Type 0) (step_of : S → List ℕ → S)

@@ -4,11 +4,7 @@
 use Rattle.std.specs.Prelude.{◌≡◌, ℕ, ◌+◌, ◌-◌, ◌*◌, ◌/◌, ◌%◌, ◌^◌, ◌<◌, ◌≤◌, codes}
 use Rattle.std.specs.Prelude.{List, [], ◌∷◌, ◌++◌, replicate, drop, map, slice_index}
 use Rattle.std.specs.List.{flat_map, range_with_len}
-use Rattle.ripemd_block.specs.Standard.Schedule.{Line, left_line, right_line}
-use Rattle.ripemd_block.specs.Standard.Schedule.{prime, square_root_constant, cube_root_constant}
-use Rattle.ripemd_block.specs.Standard.Words.{word_bytes}
-use Rattle.ripemd_block.specs.Standard.Compression.{ripemd128, ripemd160, ripemd256, ripemd320, compress}
-use Rattle.ripemd_block.specs.Standard.Hashing.{ripemd}
+use Rattle.ripemd_block.specs.Standard.{Line, left_line, right_line, prime, square_root_constant, cube_root_constant, word_bytes, ripemd128, ripemd160, ripemd256, ripemd320, compress, ripemd}
 use Rattle.ripemd_block.specs.States.{HashState, IsState, IsCoreState, new_state, with_tail, fed, finish}
 use Rattle.ripemd_block.specs.States.{core_bytes, hasher_bytes}
 

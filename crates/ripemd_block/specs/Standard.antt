@@ -7,3 +7,7 @@ pub mod Words
 pub mod Schedule
 pub mod Compression
 pub mod Hashing
+unfoldable pub use Words.*
+unfoldable pub use Schedule.*
+unfoldable pub use Compression.*
+unfoldable pub use Hashing.*

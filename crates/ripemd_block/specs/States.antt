@@ -2,9 +2,7 @@
 -- comes in, how it takes bytes in, how it is finished, and the bytes that it is saved as.
 use Rattle.std.specs.Prelude.{◌≡◌, ℕ, ◌+◌, ◌-◌, ◌*◌, ◌%◌, ◌^◌, ◌<◌, List, [], ◌∷◌, ◌++◌, length, replicate}
 use Rattle.std.specs.List.{All}
-use Rattle.ripemd_block.specs.Standard.Words.{block_size, word_bytes, eight_bytes}
-use Rattle.ripemd_block.specs.Standard.Compression.{Parameters}
-use Rattle.ripemd_block.specs.Standard.Hashing.{with_padding, blocks, partial_block, walk}
+use Rattle.ripemd_block.specs.Standard.{block_size, word_bytes, eight_bytes, Parameters, with_padding, blocks, partial_block, walk}
 
 -- ---- the state
 

@@ -2,7 +2,7 @@
 
 ghost use Rattle.std.specs.Prelude.{◌≡◌, ℕ, ◌+◌, ◌*◌, ◌^◌, ◌<◌, ◌≤◌, ◌↔◌, List, ◌++◌, length, drop, replicate, IfSome, IsSome};
 ghost use Rattle.std.specs.List.{All};
-ghost use Rattle.ripemd_block.specs.Standard.Words.{word_bytes, eight_bytes};
+ghost use Rattle.ripemd_block.specs.Standard.{word_bytes, eight_bytes};
 
 /// An array of bytes, `[u8; N]` for any `N`.
 pub trait ByteArray: Copy {

@@ -2,9 +2,7 @@
 
 ghost use Rattle.std.specs.Prelude.{◌≡◌, ℕ, ◌+◌, ◌<◌, ◌≤◌, ◌↔◌, List, [], ◌∷◌, ◌++◌, length, take, drop, IfSome, SomeIff, IsSome};
 ghost use Rattle.std.specs.Option.{option_to_list};
-ghost use Rattle.ripemd_block.specs.Standard.Words.{block_size};
-ghost use Rattle.ripemd_block.specs.Standard.Hashing.{length_place, with_padding};
-ghost use Rattle.ripemd_block.specs.Standard.Hashing.{blocks, partial_block};
+ghost use Rattle.ripemd_block.specs.Standard.{block_size, length_place, with_padding, blocks, partial_block};
 ghost use Rattle.ripemd_block.specs.States.{IsTail};
 
 use crate::arrays::write_short;

@@ -2,7 +2,7 @@
 //! state and exchange nothing.
 
 ghost use Rattle.std.specs.Prelude.{◌≡◌};
-ghost use Rattle.ripemd_block.specs.Standard.Compression.{compress, ripemd128};
+ghost use Rattle.ripemd_block.specs.Standard.{compress, ripemd128};
 ghost use Rattle.ripemd_block.specs.States.{AreWords};
 
 use crate::chaining::joint_state_of_four;

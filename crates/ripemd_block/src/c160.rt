@@ -2,7 +2,7 @@
 //! state, and nothing is exchanged between them.
 
 ghost use Rattle.std.specs.Prelude.{◌≡◌};
-ghost use Rattle.ripemd_block.specs.Standard.Compression.{compress, ripemd160};
+ghost use Rattle.ripemd_block.specs.Standard.{compress, ripemd160};
 ghost use Rattle.ripemd_block.specs.States.{AreWords};
 
 use crate::chaining::joint_state_of_five;

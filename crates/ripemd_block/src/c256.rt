@@ -2,7 +2,7 @@
 //! half of the state, and after each round the lines exchange a register: A, B, C and D in turn.
 
 ghost use Rattle.std.specs.Prelude.{◌≡◌};
-ghost use Rattle.ripemd_block.specs.Standard.Compression.{compress, ripemd256};
+ghost use Rattle.ripemd_block.specs.Standard.{compress, ripemd256};
 ghost use Rattle.ripemd_block.specs.States.{AreWords};
 
 use crate::chaining::{double_state_of_four, lines_of_256};

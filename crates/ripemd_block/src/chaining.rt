@@ -2,8 +2,7 @@
 //! extensions).
 
 ghost use Rattle.std.specs.Prelude.{◌≡◌};
-ghost use Rattle.ripemd_block.specs.Standard.Compression.{lines_from, joint_state, double_state};
-ghost use Rattle.ripemd_block.specs.Standard.Compression.{ripemd256, ripemd320};
+ghost use Rattle.ripemd_block.specs.Standard.{lines_from, joint_state, double_state, ripemd256, ripemd320};
 ghost use Rattle.ripemd_block.specs.Code.Lines.{both_lines};
 
 use std::simd::prelude::*;

@@ -2,11 +2,7 @@
 
 ghost use Rattle.std.specs.Prelude.{◌≡◌, ℕ, ◌+◌, ◌-◌, ◌*◌, ◌%◌, ◌^◌, ◌<◌, List, [], ◌++◌, length, drop};
 ghost use Rattle.std.specs.Prelude.{slice_index_or};
-ghost use Rattle.ripemd_block.specs.Standard.Words.{block_size, word_bytes, eight_bytes};
-ghost use Rattle.ripemd_block.specs.Standard.Compression.{Parameters, compress};
-ghost use Rattle.ripemd_block.specs.Standard.Compression.{ripemd128, ripemd160, ripemd256, ripemd320};
-ghost use Rattle.ripemd_block.specs.Standard.Hashing.{length_place, zero_count, padded_message};
-ghost use Rattle.ripemd_block.specs.Standard.Hashing.{blocks, hash, ripemd};
+ghost use Rattle.ripemd_block.specs.Standard.{block_size, word_bytes, eight_bytes, Parameters, compress, ripemd128, ripemd160, ripemd256, ripemd320, length_place, zero_count, padded_message, blocks, hash, ripemd};
 ghost use Rattle.ripemd_block.specs.States.{HashState, AreWords};
 ghost use Rattle.ripemd_block.specs.States.{initial_state, new_state, fed, finish};
 ghost use Rattle.ripemd_block.specs.Published.{DigestsOfEmpty, DigestsOfAbc, DigestsOfTwoBlocks, DigestsOfDigits};

@@ -1,7 +1,7 @@
 //! The message words of a block.
 
 ghost use Rattle.std.specs.Prelude.{◌≡◌, ◌<◌, ◌+◌, ◌*◌, ℕ, length, slice_index};
-ghost use Rattle.ripemd_block.specs.Standard.Words.{message_word};
+ghost use Rattle.ripemd_block.specs.Standard.{message_word};
 ghost use Rattle.ripemd_block.specs.Code.Lines.{message_words};
 
 use std::simd::prelude::*;

@@ -2,9 +2,7 @@
 
 ghost use Rattle.std.specs.Prelude.{◌≡◌, ◌-◌, ◌%◌, ◌<◌, ◌≤◌, ◌↔◌, ◌∷◌, ◌++◌, length, take, replicate, []};
 ghost use Rattle.std.specs.List.{slice_get};
-ghost use Rattle.ripemd_block.specs.Standard.Words.{block_size, eight_bytes, word_bytes};
-ghost use Rattle.ripemd_block.specs.Standard.Hashing.{length_place, with_padding};
-ghost use Rattle.ripemd_block.specs.Standard.Hashing.{padded_message, blocks, partial_block};
+ghost use Rattle.ripemd_block.specs.Standard.{block_size, eight_bytes, word_bytes, length_place, with_padding, padded_message, blocks, partial_block};
 
 use crate::arrays::{read_words, write_short};
 use std::simd::prelude::*;

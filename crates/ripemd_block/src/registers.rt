@@ -2,7 +2,7 @@
 //! time than in vectors.
 
 ghost use Rattle.std.specs.Prelude.{◌≡◌};
-ghost use Rattle.ripemd_block.specs.Standard.Hashing.{walk};
+ghost use Rattle.ripemd_block.specs.Standard.{walk};
 
 mod lines;
 

@@ -1,7 +1,7 @@
 //! The tables of 1996 as code, each entry equal to its definition in `specs/Standard/`.
 
 ghost use Rattle.std.specs.Prelude.{◌≡◌, ◌<◌, ◌≤◌, ℕ};
-ghost use Rattle.ripemd_block.specs.Standard.Schedule.{left_line, right_line, rotation};
+ghost use Rattle.ripemd_block.specs.Standard.{left_line, right_line, rotation};
 
 // Message words of the left line, by round and step (1996, ordering of the message words).
 static LEFT_ORDER: [[usize; 16]; 5] = [

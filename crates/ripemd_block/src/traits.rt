@@ -2,8 +2,7 @@
 
 ghost use Rattle.std.specs.Prelude.{◌≡◌, ◌≢◌, ℕ, ◌+◌, ◌≤◌, List, [], ◌++◌, length, IfOk, IfErr, IfSome, IfNone, true};
 ghost use Rattle.std.specs.Fmt.{WritesOnOk, WritesStyledOnOk};
-ghost use Rattle.ripemd_block.specs.Standard.Words.{block_size};
-ghost use Rattle.ripemd_block.specs.Standard.Hashing.{walk};
+ghost use Rattle.ripemd_block.specs.Standard.{block_size, walk};
 ghost use Rattle.ripemd_block.specs.States.{HashState, IsTail};
 ghost use Rattle.ripemd_block.specs.OverLists.{IsOverLists, IsInjectiveOutput};
 

@@ -2,9 +2,7 @@
 
 ghost use Rattle.std.specs.Prelude.{◌≡◌, ◌<◌, ◌≤◌, ℕ, List, Some, length, slice_index};
 ghost use Rattle.std.specs.List.{All};
-ghost use Rattle.ripemd_block.specs.Standard.Words.{◌⊞◌, rol};
-ghost use Rattle.ripemd_block.specs.Standard.Schedule.{boolean_function};
-ghost use Rattle.ripemd_block.specs.Standard.Compression.{Parameters, step, round, exchange, lines_after};
+ghost use Rattle.ripemd_block.specs.Standard.{◌⊞◌, rol, boolean_function, Parameters, step, round, exchange, lines_after};
 ghost use Rattle.ripemd_block.specs.Code.Lines.{both_lines, message_words};
 ghost use Rattle.ripemd_block.specs.Code.TwoLanes.{line_of_lane, lane};
 

@@ -2,9 +2,7 @@
 
 ghost use Rattle.std.specs.Prelude.{◌≡◌, length, codes, refl};
 ghost use Rattle.std.proofs.Common.{rules};
-ghost use Rattle.ripemd_block.specs.Standard.Words.{word_bytes};
-ghost use Rattle.ripemd_block.specs.Standard.Compression.{compress};
-ghost use Rattle.ripemd_block.specs.Standard.Compression.{ripemd128, ripemd160, ripemd256, ripemd320};
+ghost use Rattle.ripemd_block.specs.Standard.{word_bytes, compress, ripemd128, ripemd160, ripemd256, ripemd320};
 ghost use Rattle.ripemd_block.specs.OverLists.{of_arrays};
 ghost use Rattle.ripemd_block.specs.States.{AreWords};
 ghost use Rattle.ripemd_block.specs.Laws.Arrays.{equal_words};

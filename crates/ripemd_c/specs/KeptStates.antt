@@ -2,9 +2,7 @@
 -- take them do.
 use Rattle.std.specs.Prelude.{◌≡◌, ◌↔◌, ℕ, ◌+◌, ◌-◌, ◌*◌, List, [], ◌++◌, length, drop, Bool, IsTrue, IsFalse, ⊤}
 use Rattle.std.specs.Prelude.{slice_index, slice_range}
-use Rattle.ripemd.specs.Standard.Words.{word_bytes}
-use Rattle.ripemd.specs.Standard.Compression.{Parameters, compress}
-use Rattle.ripemd.specs.Standard.Hashing.{ripemd}
+use Rattle.ripemd.specs.Standard.{word_bytes, Parameters, compress, ripemd}
 use Rattle.ripemd.specs.States.{HashState, AreWords, IsState, new_state, fed, finish, hasher_bytes}
 use Rattle.ripemd_mac.specs.Hmac.{KeyedState, hmac, keyed_state, fed_text, tag_of}
 use Rattle.ripemd_mac.specs.Saved.{IsKeyedState, hmac_bytes}

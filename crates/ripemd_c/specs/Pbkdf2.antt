@@ -1,6 +1,6 @@
 -- What calls that derive keys from passwords do.
 use Rattle.std.specs.Prelude.{◌≡◌, ◌≢◌, ◌≤◌, ℕ, ◌-◌, ◌*◌, ◌^◌, Bool, List, length}
-use Rattle.ripemd.specs.Standard.Hashing.{ripemd}
+use Rattle.ripemd.specs.Standard.{ripemd}
 use Rattle.ripemd_mac.specs.Hmac.{hmac}
 use Rattle.ripemd_mac.specs.Pbkdf2.{pbkdf2}
 use Rattle.ripemd_batch.specs.Pbkdf2.{pbkdf2_each}

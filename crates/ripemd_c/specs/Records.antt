@@ -1,8 +1,7 @@
 -- Records of one size that lie one after another in some bytes, and what calls over records and lists do.
 use Rattle.std.specs.Prelude.{◌≡◌, ℕ, ◌+◌, ◌*◌, ◌/◌, Bool, List, length, map, slice_range}
 use Rattle.std.specs.List.{flat_map, range_with_len}
-use Rattle.ripemd.specs.Standard.Compression.{Parameters}
-use Rattle.ripemd.specs.Standard.Hashing.{ripemd}
+use Rattle.ripemd.specs.Standard.{Parameters, ripemd}
 use Rattle.ripemd_mac.specs.Hmac.{hmac}
 use Rattle.ripemd_c.specs.Variants.{ByVariant, Writes, digest_size}
 

@@ -1,7 +1,6 @@
 -- The variants as callers name them, and what calls do at one of them.
 use Rattle.std.specs.Prelude.{◌≡◌, ◌↔◌, ℕ, ◌*◌, ◌==◌, if◌then◌else◌, Option, Some, None, List, length, Bool, IsTrue, IsFalse}
-use Rattle.ripemd.specs.Standard.Compression.{Parameters, ripemd128, ripemd160, ripemd256, ripemd320}
-use Rattle.ripemd.specs.Standard.Hashing.{ripemd}
+use Rattle.ripemd.specs.Standard.{Parameters, ripemd128, ripemd160, ripemd256, ripemd320, ripemd}
 use Rattle.ripemd_mac.specs.Hmac.{hmac}
 
 -- the variant whose digests have so many bits, if there is one

@@ -1,7 +1,7 @@
 //! Tags of texts under keys (HMAC, RFC 2104), whole and in pieces. A call that answers false writes nothing.
 
 ghost use Rattle.std.specs.Prelude.{◌≡◌, ◌↔◌, length, IsTrue};
-ghost use Rattle.ripemd.specs.Standard.Hashing.{hash};
+ghost use Rattle.ripemd.specs.Standard.{hash};
 ghost use Rattle.ripemd_mac.specs.Hmac.{StandsFor, hmac};
 ghost use Rattle.ripemd_c.specs.KeptStates.{FinalizesHmac, InitsHmac, LoadsHmac, SavesHmac};
 ghost use Rattle.ripemd_c.specs.KeptStates.{UpdatesHmac, VerifiesHmac, bits_of_hmac};

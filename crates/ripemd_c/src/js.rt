@@ -2,7 +2,7 @@
 //! smaller module is made.
 
 ghost use Rattle.std.specs.Prelude.{◌≡◌, ◌≢◌, slice_index};
-ghost use Rattle.ripemd.specs.Standard.Hashing.{hash};
+ghost use Rattle.ripemd.specs.Standard.{hash};
 ghost use Rattle.ripemd_c.specs.KeptStates.{FinalizesState, InitsState, LoadsState, SavesState, UpdatesState};
 ghost use Rattle.ripemd_c.specs.Pbkdf2.{DerivesKey, FillsKey};
 ghost use Rattle.ripemd_c.specs.Variants.{Refuses, WritesDigest};

@@ -3,7 +3,7 @@
 
 ghost use Rattle.std.specs.Prelude.{◌≡◌, ◌≢◌, ℕ, ◌+◌, ◌%◌, ◌≤◌, ◌<◌, List, [], length, IfSome, IfNone, IfOk, IfErr, IsTrue, IsFalse};
 ghost use Rattle.std.specs.List.{All};
-ghost use Rattle.ripemd.specs.Standard.Words.{block_size};
+ghost use Rattle.ripemd.specs.Standard.{block_size};
 ghost use Rattle.ripemd.specs.States.{HashState, IsHashState, core_and_tail, fed, initial_state};
 ghost use Rattle.ripemd_mac.specs.Hmac.{keyed_state};
 ghost use Rattle.ripemd_mac.specs.Saved.{IsKeyedState, hmac_bytes};

@@ -8,7 +8,7 @@
 #![tactic(auto)]
 
 ghost use Rattle.std.specs.Prelude.{◌≡◌, length};
-ghost use Rattle.ripemd.specs.Standard.Hashing.{hash};
+ghost use Rattle.ripemd.specs.Standard.{hash};
 ghost use Rattle.ripemd_c.specs.Variants.{AtVariant, Writes, WritesDigest, digest_size};
 
 /// Calls a generic function at the hasher of the variant with digests of so many bits, or at the HMAC over it; false

@@ -1,6 +1,6 @@
 //! Keys derived from passwords: PBKDF2 with HMAC (RFC 8018, section 5.2).
 
-ghost use Rattle.ripemd.specs.Standard.Hashing.{hash};
+ghost use Rattle.ripemd.specs.Standard.{hash};
 ghost use Rattle.ripemd_batch.specs.Lanes.{targets};
 ghost use Rattle.ripemd_c.specs.Pbkdf2.{DerivesKey, DerivesKeys, FillsKey, FillsKeys};
 

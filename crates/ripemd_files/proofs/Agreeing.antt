@@ -4,7 +4,7 @@ use Rattle.std.specs.List.{list_any}
 use Rattle.std.proofs.lemmas.Bool.Decides.{nat_tests}
 use Rattle.std.proofs.lemmas.Slice.Eq.{bytes_eq-Decides}
 use Rattle.std.proofs.lemmas.List.Folds.{list_any_at}
-use Rattle.ripemd.specs.Standard.Hashing.{ripemd}
+use Rattle.ripemd.specs.Standard.{ripemd}
 use Rattle.ripemd_files.specs.Types.{Form, Layout, Standard, Newline, Variant, Rules, Outcome, Digest, Verdict, Differs, Matches}
 use Rattle.ripemd_files.specs.Lines.{IsLine, RoundTrips, is_end}
 use Rattle.ripemd_files.specs.Files.{ComesTo, Gives, Place, parameters_of}

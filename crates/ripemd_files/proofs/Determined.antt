@@ -5,7 +5,7 @@ use Rattle.std.specs.List.{AllZip, list_all}
 use Rattle.std.specs.Io.KnownBytes.{Consumes, IsAtEnd}
 use Rattle.ripemd_files.specs.Types.{Error, Layout, Standard, Rules, Outcome, Digest, Refused, Broken, Stage, Style, Options, Tally, Verdict, Among, Ended}
 use Rattle.std.proofs.Math.Seq.{take-append_seam}
-use Rattle.ripemd.specs.Standard.Hashing.{ripemd}
+use Rattle.ripemd.specs.Standard.{ripemd}
 use Rattle.ripemd_files.specs.Checking.{Event, IsTally, checked, misformatted, verdict_of, verdict_of_digest}
 use Rattle.ripemd_files.specs.Determined.{IsKnown, Print, Report, Start}
 use Rattle.ripemd_files.specs.Lists.{Entry, IsEventOn, IsReport, WasRead, body_of_line}

@@ -5,7 +5,7 @@ use Rattle.std.proofs.lemmas.List.Folds.{list_all-append}
 use Rattle.std.proofs.lemmas.Slice.Zip.{AllZip-long}
 use Rattle.std.proofs.Math.Bool.{and_assoc, and-true}
 use Rattle.std.specs.List.{AllZip}
-use Rattle.ripemd.specs.Standard.Hashing.{ripemd}
+use Rattle.ripemd.specs.Standard.{ripemd}
 use Rattle.ripemd_batch.specs.Lanes.{targets}
 use Rattle.ripemd_files.specs.Types.{NoMemory, Style, Outcome}
 use Rattle.ripemd_files.specs.Files.{ComesTo, OfFirst, Place, parameters_of}

@@ -3,12 +3,9 @@ use Rattle.std.proofs.Common.{◌≡◌, ◌⊎◌, ℕ, zero, suc, ◌+◌, ◌
 use Rattle.std.specs.List.{fold}
 use Rattle.std.specs.Int.{to_le_bytes, w32}
 use Rattle.hex.specs.Hex.{IsBytes}
-use Rattle.ripemd_block.specs.Standard.Words.{word_bytes}
-use Rattle.ripemd_block.specs.Standard.Schedule.{Line, left_line, right_line}
-use Rattle.ripemd_block.specs.Standard.Compression.{Lines, Parameters, compress, double_state, exchange, from_place, joint_state, lines_after, lines_from, registers_after, ripemd128, ripemd160, step, word_sums}
-use Rattle.ripemd_block.specs.Standard.Hashing.{blocks, hash, padded_message}
+use Rattle.ripemd_block.specs.Standard.{word_bytes, Line, left_line, right_line, Lines, Parameters, compress, double_state, exchange, from_place, joint_state, lines_after, lines_from, registers_after, ripemd128, ripemd160, step, word_sums, blocks, hash, padded_message}
 use Rattle.ripemd_block.specs.Laws.WordBytes.{length-word_bytes}
-use Rattle.ripemd.specs.Standard.Hashing.{ripemd}
+use Rattle.ripemd.specs.Standard.{ripemd}
 use Rattle.ripemd_files.specs.Types.{Variant, R128, R160}
 use Rattle.ripemd_files.specs.Lines.{size_of}
 use Rattle.ripemd_files.specs.Files.{parameters_of}

@@ -6,7 +6,7 @@ use Rattle.std.specs.IoError.{error_kind}
 use Rattle.ripemd_files.specs.Types.{Error, Line, Variant, Outcome, Digest, Refused, Broken, Complaint, Verdict, Matches, Differs, Missing, Unreadable, Options, Tally}
 use Rattle.std.specs.declared.io.ErrorKind.{ErrorKind}
 use Rattle.std.specs.declared.io.ErrorKind.TheVariants.{NotFound}
-use Rattle.ripemd.specs.Standard.Hashing.{ripemd}
+use Rattle.ripemd.specs.Standard.{ripemd}
 use Rattle.ripemd_files.specs.declared.log.Complaint.TheVariants as complaints
 use Rattle.ripemd_files.specs.Lines.{mark_of, text_of}
 use Rattle.ripemd_files.specs.Files.{Place, ComesTo, parameters_of}

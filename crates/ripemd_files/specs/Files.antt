@@ -5,7 +5,7 @@ use Rattle.std.specs.Io.KnownBytes.{Consumes, IsAtEnd}
 use Rattle.std.specs.IoError.{error_kind}
 use Rattle.ripemd_files.specs.Types.{Error, Variant, R128, R160, R256, R320, Outcome, Digest, Refused, Broken}
 use Rattle.std.specs.declared.io.ErrorKind.TheVariants.{FileTooLarge}
-use Rattle.ripemd.specs.Standard.Compression.{Parameters, ripemd128, ripemd160, ripemd256, ripemd320}
+use Rattle.ripemd.specs.Standard.{Parameters, ripemd128, ripemd160, ripemd256, ripemd320}
 
 -- the variant of the definitions that a line names
 abbrev pub parameters_of : Variant → Parameters

@@ -3,7 +3,7 @@ use Rattle.std.specs.Prelude.{◌≡◌, ◌≢◌, ◌⊎◌, ◌+◌, ◌-◌,
 use Rattle.std.specs.List.{AllZip, fold}
 use Rattle.std.specs.Io.BufRead.{strip_last}
 use Rattle.std.specs.Io.KnownBytes.{Consumes}
-use Rattle.ripemd.specs.Standard.Hashing.{ripemd}
+use Rattle.ripemd.specs.Standard.{ripemd}
 use Rattle.ripemd_files.specs.Types.{Variant, Layout, Standard, Rules, Outcome, Stage, Among, Ended, Failed, Options, Tally, Fault}
 use Rattle.ripemd_files.specs.declared.log.Complaint.TheVariants as complaints
 use Rattle.ripemd_files.specs.Lines.{IsLine}

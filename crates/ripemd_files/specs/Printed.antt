@@ -2,8 +2,7 @@
 use Rattle.std.specs.Prelude.{◌≡◌, ◌≢◌, ◌==◌, ℕ, List, codes, Option, unwrap_or, false, IsTrue}
 use Rattle.std.specs.List.{list_any}
 use Rattle.ripemd.specs.Collisions.{IsCollision}
-use Rattle.ripemd.specs.Standard.Compression.{compress, ripemd128, ripemd160, ripemd256, ripemd320}
-use Rattle.ripemd.specs.Standard.Hashing.{ripemd}
+use Rattle.ripemd.specs.Standard.{compress, ripemd128, ripemd160, ripemd256, ripemd320, ripemd}
 use Rattle.ripemd_files.specs.Types.{VariantCollision, Form, Layout, Standard, Newline, Variant, R128, R160, R256, R320, Rules}
 use Rattle.ripemd_files.specs.declared.agreement.VariantCollision.TheVariants as collisions
 use Rattle.ripemd_files.specs.Lines.{IsReadable, line_of}

@@ -1,7 +1,7 @@
 -- What is printed of files: for each a line with its digest and its name, and an error for each that can't be read.
 use Rattle.std.specs.Prelude.{◌≡◌, ℕ, List, [], ◌∷◌, ◌++◌, Bool, true, false, ◌&&◌}
 use Rattle.std.specs.List.{list_all}
-use Rattle.ripemd.specs.Standard.Hashing.{ripemd}
+use Rattle.ripemd.specs.Standard.{ripemd}
 use Rattle.ripemd_files.specs.Types.{Style, Outcome, Digest, Refused, Broken, Fault}
 use Rattle.ripemd_files.specs.Lines.{line_of, end_of}
 use Rattle.ripemd_files.specs.Files.{Place, ComesTo, parameters_of}

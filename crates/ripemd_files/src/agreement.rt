@@ -3,7 +3,7 @@
 ghost use Rattle.std.specs.Prelude.{◌≡◌, ◌≢◌, ◌<◌, ◌^◌, ◌↔◌, ◌⊎◌, ℕ, List, Bool, Option, length, IfSome, IsNone};
 ghost use Rattle.hex.specs.Hex.{IsBytes};
 ghost use Rattle.ripemd_files.specs.Lines.{size_of};
-ghost use Rattle.ripemd.specs.Standard.Hashing.{ripemd};
+ghost use Rattle.ripemd.specs.Standard.{ripemd};
 ghost use Rattle.ripemd_files.specs.Types.{Form, Layout, Variant, Rules, Verdict, Differs, Matches};
 ghost use Rattle.ripemd_files.specs.Checking.{checked, verdict_of_digest};
 ghost use Rattle.ripemd_files.specs.Lists.{IsEventOn, IsTaken};

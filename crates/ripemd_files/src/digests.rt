@@ -4,8 +4,8 @@ ghost use Rattle.std.specs.Prelude.{◌≡◌, ◌+◌, ◌<◌, ◌≤◌, ◌^
 ghost use Rattle.std.specs.IoError.{error_kind};
 ghost use Rattle.std.specs.declared.io.ErrorKind.TheVariants.{FileTooLarge};
 ghost use Rattle.std.specs.Io.KnownBytes.{Consumes, IsAtEnd};
-ghost use Rattle.ripemd_block.specs.Standard.Hashing.{hash};
-ghost use Rattle.ripemd.specs.Standard.Hashing.{ripemd};
+ghost use Rattle.ripemd_block.specs.Standard.{hash};
+ghost use Rattle.ripemd.specs.Standard.{ripemd};
 ghost use Rattle.ripemd_batch.specs.Lanes.{targets};
 ghost use Rattle.ripemd_files.specs.Files.{Gives, Gave, Breaks, ComesTo, OfFirst, Place, parameters_of};
 ghost use Rattle.std.specs.List.{AllZip};

@@ -2,7 +2,7 @@
 
 ghost use Rattle.std.specs.Prelude.{◌≡◌, ◌<◌, ◌++◌, ◌∷◌, [], length, IfErr, IfOk, None, OnOk};
 ghost use Rattle.std.specs.List.{AllZip};
-ghost use Rattle.ripemd.specs.Standard.Hashing.{ripemd};
+ghost use Rattle.ripemd.specs.Standard.{ripemd};
 ghost use Rattle.ripemd_batch.specs.Lanes.{targets};
 ghost use Rattle.ripemd_files.specs.Files.{ComesTo, parameters_of};
 ghost use Rattle.ripemd_files.specs.Said.{Pends, Stops, Tells, unreadable, written};

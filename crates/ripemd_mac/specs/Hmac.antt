@@ -1,7 +1,7 @@
 -- HMAC, the hash of a text under a key, by any hash function (RFC 2104, section 2), and its states.
 use Rattle.std.specs.Prelude.{◌≡◌, ℕ, ◌-◌, nat_le, if◌then◌else◌, List, ◌++◌, length, map, replicate}
 use Rattle.std.specs.Int.Bits.{bit_xor}
-use Rattle.ripemd.specs.Standard.Hashing.{hash}
+use Rattle.ripemd.specs.Standard.{hash}
 use Rattle.ripemd.specs.States.{HashState, initial_state, fed, finish}
 
 -- ---- the tag

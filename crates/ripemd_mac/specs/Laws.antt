@@ -2,7 +2,7 @@
 use Rattle.std.proofs.Common.{◌≡◌, ℕ, ◌+◌, List, [], ◌++◌, length, take, drop, length-append, refl, sym, ap, ◌∙◌, arith}
 use Rattle.std.proofs.lemmas.List.{append-nil}
 use Rattle.std.proofs.Math.Seq.{take-append_seam, drop-append_seam}
-use Rattle.ripemd.specs.Standard.Hashing.{hash}
+use Rattle.ripemd.specs.Standard.{hash}
 use Rattle.ripemd.specs.States.{HashState, initial_state, fed, core_and_tail}
 use Rattle.ripemd.specs.OverLists.{IsInjectiveOutput}
 use Rattle.ripemd.specs.Laws as laws

@@ -1,10 +1,8 @@
 -- Worked examples, as facts of these definitions: tags, a saved HMAC state, and collisions of a small block
 -- function.
 use Rattle.std.specs.Prelude.{◌≡◌, ℕ, ◌+◌, ◌-◌, ◌*◌, ◌%◌, codes, List, [], ◌∷◌, ◌++◌, length, replicate, slice_index_or}
-use Rattle.ripemd.specs.Standard.Words.{word_bytes}
-use Rattle.ripemd.specs.Standard.Compression.{ripemd128, ripemd160, compress}
+use Rattle.ripemd.specs.Standard.{word_bytes, ripemd128, ripemd160, compress, padded_message, blocks, hash, ripemd}
 use Rattle.ripemd.specs.Published.{hexadecimal}
-use Rattle.ripemd.specs.Standard.Hashing.{padded_message, blocks, hash, ripemd}
 use Rattle.ripemd.specs.States.{AreWords}
 use Rattle.ripemd.specs.Worked.{block_of}
 use Rattle.ripemd.specs.Types.{Collision}

@@ -1,7 +1,7 @@
 //! The tag of a text under a key (RFC 2104).
 
 ghost use Rattle.std.specs.Prelude.{◌≡◌, ◌≢◌, ◌≤◌, ◌↔◌, ℕ, List, [], ◌++◌, length, IsTrue, IfOk, IfErr, ⊤};
-ghost use Rattle.ripemd.specs.Standard.Hashing.{hash};
+ghost use Rattle.ripemd.specs.Standard.{hash};
 ghost use Rattle.ripemd_mac.specs.Hmac.{
   KeyedState,
   StandsFor,

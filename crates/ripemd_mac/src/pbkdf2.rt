@@ -3,7 +3,7 @@
 ghost use Rattle.std.specs.Prelude.{◌≡◌, ◌≢◌, ◌↔◌, ◌<◌, ◌≤◌, ◌*◌, ◌^◌, ◌-◌, ℕ, List, [], length, take, IfOk, IfErr};
 ghost use Rattle.std.specs.Int.Bits.{bit_xor};
 ghost use Rattle.std.specs.Simd.Lanes.{zip2};
-ghost use Rattle.ripemd.specs.Standard.Hashing.{hash};
+ghost use Rattle.ripemd.specs.Standard.{hash};
 ghost use Rattle.ripemd_mac.specs.Hmac.{StandsFor, filled, hmac};
 ghost use Rattle.ripemd_mac.specs.Pbkdf2.{F, pbkdf2};
 

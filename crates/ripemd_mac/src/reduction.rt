@@ -2,7 +2,7 @@
 
 ghost use Rattle.std.specs.Prelude.{◌≡◌, ◌≢◌, ◌+◌, ◌-◌, ◌<◌, ◌^◌, ◌↔◌, ◌⊎◌};
 ghost use Rattle.std.specs.Prelude.{◌++◌, length, IsNone, IfOk, IfSome, OnErr};
-ghost use Rattle.ripemd.specs.Standard.Hashing.{hash};
+ghost use Rattle.ripemd.specs.Standard.{hash};
 ghost use Rattle.ripemd.specs.Collisions.{IsCollision, IsOnlyCollision};
 ghost use Rattle.ripemd.specs.Types.{Collision};
 ghost use Rattle.ripemd_mac.specs.declared.reduction.MacCollision.{MacCollision};

@@ -2,8 +2,7 @@
 use Rattle.std.specs.Prelude.{◌≡◌, ℕ, ◌+◌, ◌-◌, ◌^◌, ◌<◌, ◌≤◌, true, false, List, ◌++◌, length, codes, Option}
 use Rattle.std.specs.Io.KnownBytes.{Appends, Consumes, IsAtEnd}
 use Rattle.hex.specs.Hex.{encode_lower}
-use Rattle.ripemd.specs.Standard.Compression.{Parameters, ripemd128, ripemd160, ripemd256, ripemd320}
-use Rattle.ripemd.specs.Standard.Hashing.{ripemd}
+use Rattle.ripemd.specs.Standard.{Parameters, ripemd128, ripemd160, ripemd256, ripemd320, ripemd}
 use Rattle.ripemd_mac.specs.Hmac.{hmac}
 use Rattle.ripemd_sum.specs.Types.{Tracked, Variant, R128, R160, R256, R320}
 use Rattle.ripemd_sum.specs.Track.{inner_of, has_failed, taken_of}

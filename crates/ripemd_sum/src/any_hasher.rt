@@ -1,7 +1,7 @@
 //! A hasher of any hash function, for a run.
 
 ghost use Rattle.std.specs.Prelude.{◌≡◌, ⊤};
-ghost use Rattle.ripemd.specs.Standard.Hashing.{hash};
+ghost use Rattle.ripemd.specs.Standard.{hash};
 ghost use Rattle.ripemd.specs.States.{HashState, initial_state, fed, finish};
 ghost use Rattle.ripemd.specs.Laws as laws;
 

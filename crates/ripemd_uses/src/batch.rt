@@ -1,8 +1,7 @@
 // The callers of ripemd_batch's README.
 
 ghost use Rattle.std.specs.Prelude.{◌≡◌, ◌↔◌, length, map, IsTrue};
-ghost use Rattle.ripemd.specs.Standard.Compression.{ripemd160};
-ghost use Rattle.ripemd.specs.Standard.Hashing.{ripemd};
+ghost use Rattle.ripemd.specs.Standard.{ripemd160, ripemd};
 ghost use Rattle.ripemd_batch.specs.Lanes.{targets};
 
 use ripemd::Ripemd160;

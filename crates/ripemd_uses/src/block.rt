@@ -1,9 +1,7 @@
 // The callers of ripemd_block's README.
 
 ghost use Rattle.std.specs.Prelude.{◌≡◌, ◌<◌, length};
-ghost use Rattle.ripemd_block.specs.Standard.Words.{block_size};
-ghost use Rattle.ripemd_block.specs.Standard.Compression.{ripemd160};
-ghost use Rattle.ripemd_block.specs.Standard.Hashing.{ripemd};
+ghost use Rattle.ripemd_block.specs.Standard.{block_size, ripemd160, ripemd};
 
 use ripemd_block::block_api::{FixedOutputCore, Ripemd160Core};
 use ripemd_block::buffer::Buffer;

@@ -1,8 +1,7 @@
 //! The list of commands of `ripemd`'s README.
 
 ghost use Rattle.std.specs.Prelude.{◌≡◌, [], ◌∷◌, ◌++◌, IfOk, IfErr};
-ghost use Rattle.ripemd.specs.Standard.Compression.{ripemd160};
-ghost use Rattle.ripemd.specs.Standard.Hashing.{ripemd};
+ghost use Rattle.ripemd.specs.Standard.{ripemd160, ripemd};
 
 use ripemd::Ripemd160;
 use ripemd::replay::{Command, ReplayError, replay};

@@ -1,8 +1,7 @@
 // The first caller of ripemd's README.
 
 ghost use Rattle.std.specs.Prelude.{◌≡◌, ◌++◌};
-ghost use Rattle.ripemd.specs.Standard.Compression.{ripemd160};
-ghost use Rattle.ripemd.specs.Standard.Hashing.{ripemd};
+ghost use Rattle.ripemd.specs.Standard.{ripemd160, ripemd};
 
 use ripemd::{Digest, Ripemd160};
 

@@ -1,9 +1,7 @@
 -- The message words that the steps of both lines take, with the constants of the rounds.
 use Rattle.std.specs.Prelude.{ℕ, ◌≡◌, List, map}
 use Rattle.std.specs.List.{range_with_len}
-use Rattle.ripemd_block.specs.Standard.Words.{◌⊞◌, message_word}
-use Rattle.ripemd_block.specs.Standard.Schedule.{Line, left_line, right_line}
-use Rattle.ripemd_block.specs.Standard.Compression.{Lines}
+use Rattle.ripemd_block.specs.Standard.{◌⊞◌, message_word, Line, left_line, right_line, Lines}
 
 -- both lines
 abbrev pub both_lines : List ℕ → List ℕ → Lines

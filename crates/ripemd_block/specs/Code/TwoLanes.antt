@@ -1,6 +1,6 @@
 -- Registers as vectors of two lanes, where lane 0 runs the left line and lane 1 the right one.
 use Rattle.std.specs.Prelude.{ℕ, zero, suc, List, map, slice_index}
-use Rattle.ripemd_block.specs.Standard.Schedule.{Line, left_line, right_line}
+use Rattle.ripemd_block.specs.Standard.{Line, left_line, right_line}
 
 -- the line of lane j, of a variant with this many rounds
 abbrev pub line_of_lane : ℕ → ℕ → Line

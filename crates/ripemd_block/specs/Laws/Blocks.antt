@@ -4,7 +4,7 @@ use Rattle.std.proofs.Common.{List, [], ◌∷◌, ◌++◌, length, drop, lengt
 use Rattle.std.proofs.lemmas.List.{length-drop, take_all, drop-drop, nil_from_length}
 use Rattle.std.proofs.lemmas.List.{take-append-le, drop-append-le}
 use Rattle.std.specs.Simd.{first_chunks}
-use Rattle.ripemd_block.specs.Standard.Hashing.{blocks, partial_block}
+use Rattle.ripemd_block.specs.Standard.{blocks, partial_block}
 
 -- ---- bytes taken apart
 

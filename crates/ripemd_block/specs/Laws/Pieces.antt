@@ -4,9 +4,7 @@ use Rattle.std.proofs.Common.{◌≡◌, ℕ, ◌+◌, ◌*◌, ◌%◌, ◌^◌
 use Rattle.std.proofs.Common.{List, [], ◌∷◌, ◌++◌, length, replicate}
 use Rattle.std.proofs.lemmas.List.{append_assoc, append-nil}
 use Rattle.std.proofs.lemmas.List.Sums.{fold-append}
-use Rattle.ripemd_block.specs.Standard.Words.{word_bytes, eight_bytes}
-use Rattle.ripemd_block.specs.Standard.Compression.{Parameters, compress}
-use Rattle.ripemd_block.specs.Standard.Hashing.{zero_count, with_padding, blocks, partial_block, hash, ripemd}
+use Rattle.ripemd_block.specs.Standard.{word_bytes, eight_bytes, Parameters, compress, zero_count, with_padding, blocks, partial_block, hash, ripemd}
 use Rattle.ripemd_block.specs.Laws.Blocks.{blocks_of_short, left_over_of_short, blocks_of_one, left_over_of_one}
 use Rattle.ripemd_block.specs.Laws.Blocks.{length-blocks, length-partial_block, blocks-append, partial_block-append}
 use Rattle.ripemd_block.specs.States.{HashState, initial_state, new_state, after_blocks, with_tail, fed, finish}

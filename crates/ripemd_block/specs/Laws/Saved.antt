@@ -8,8 +8,7 @@ use Rattle.std.proofs.lemmas.List.{length-drop, get_or-drop, take-append-drop}
 use Rattle.std.proofs.lemmas.List.FromFn.{fill_by_all}
 use Rattle.std.proofs.Math.Seq.{take-append_seam, drop-append_seam}
 use Rattle.std.proofs.lemmas.Nat.{le_bytes_8, from_le_bytes-to_le_bytes_8}
-use Rattle.ripemd_block.specs.Standard.Words.{word_bytes, eight_bytes}
-use Rattle.ripemd_block.specs.Standard.Compression.{Parameters}
+use Rattle.ripemd_block.specs.Standard.{word_bytes, eight_bytes, Parameters}
 use Rattle.ripemd_block.specs.States.{HashState, AreWords, IsTail, IsHashState, IsState, IsWithoutTail, IsCoreState}
 use Rattle.ripemd_block.specs.States.{output_and_count, tail_bytes, core_and_tail, core_bytes, hasher_bytes}
 use Rattle.ripemd_block.specs.OverLists.{IsInjectiveOutput}

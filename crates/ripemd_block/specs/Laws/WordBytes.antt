@@ -8,7 +8,7 @@ use Rattle.std.proofs.lemmas.List.FromFn.{fill_by_all}
 use Rattle.std.proofs.Math.Seq.{take-add}
 use Rattle.std.proofs.lemmas.List.Elements.{All-head, All-tail, All-cons}
 use Rattle.std.proofs.lemmas.Nat.{le_bytes_4, from_le_bytes-to_le_bytes_4}
-use Rattle.ripemd_block.specs.Standard.Words.{word_bytes}
+use Rattle.ripemd_block.specs.Standard.{word_bytes}
 use Rattle.ripemd_block.specs.States.{AreWords}
 
 pub length-word_bytes : (words : List ℕ) → length (word_bytes words) ≡ 4 * length words

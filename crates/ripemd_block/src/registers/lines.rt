@@ -1,9 +1,7 @@
 //! Both lines side by side: steps, rounds and exchanges, for any number of registers.
 
 ghost use Rattle.std.specs.Prelude.{◌≡◌, ◌<◌, ◌≤◌, ◌+◌, ◌-◌, ℕ, List, Some};
-ghost use Rattle.ripemd_block.specs.Standard.Words.{◌⊞◌};
-ghost use Rattle.ripemd_block.specs.Standard.Schedule.{boolean_function, left_line, right_line};
-ghost use Rattle.ripemd_block.specs.Standard.Compression.{step, registers_after, round, exchange};
+ghost use Rattle.ripemd_block.specs.Standard.{◌⊞◌, boolean_function, left_line, right_line, step, registers_after, round, exchange};
 ghost use Rattle.ripemd_block.specs.Code.Lines.{both_lines, words_with, HasWords};
 
 use crate::message::message_words;

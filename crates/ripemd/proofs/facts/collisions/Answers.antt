@@ -1,5 +1,5 @@
 use Rattle.std.proofs.Common.{◌≡◌, ℕ, zero, suc, ◌+◌, ◌<◌, List, [], ◌∷◌, refl, ap, arith, slice_index}
-use Rattle.ripemd_block.specs.Standard.Hashing.{padded_message, blocks, with_padding}
+use Rattle.ripemd_block.specs.Standard.{padded_message, blocks, with_padding}
 use Rattle.ripemd.specs.Collisions.{Pair, pair_at}
 use Rattle.ripemd.specs.Worked.{parity, block_of, message_of, Collide, Met, met}
 use Rattle.ripemd.proofs.facts.collisions.Goals as goal

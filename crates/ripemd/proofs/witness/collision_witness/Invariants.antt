@@ -1,6 +1,6 @@
 -- The states are those after the blocks so far, and the last difference is that of the pairs so far.
 use Rattle.std.proofs.Common.{◌≡◌, ◌+◌, take}
-use Rattle.ripemd_block.specs.Standard.Hashing.{padded_message, blocks, walk}
+use Rattle.ripemd_block.specs.Standard.{padded_message, blocks, walk}
 use Rattle.ripemd.proofs.LastDifference.{HasFound}
 use Rattle.ripemd.proofs.witness.collision_witness.Given as goal
 

@@ -1,6 +1,6 @@
 -- The state is that after the blocks so far.
 use Rattle.std.proofs.Common.{◌≡◌, take}
-use Rattle.ripemd_block.specs.Standard.Hashing.{padded_message, blocks, walk}
+use Rattle.ripemd_block.specs.Standard.{padded_message, blocks, walk}
 use Rattle.ripemd.proofs.witness.state_at.Given as goal
 
 abbrev pub invariant-loop-i : goal.invariant-loop-i

@@ -1,5 +1,5 @@
 use Rattle.std.proofs.Common.{map, ◌∙◌}
-use Rattle.ripemd_block.specs.Standard.Compression.{ripemd256}
+use Rattle.ripemd_block.specs.Standard.{ripemd256}
 use Rattle.ripemd_block.proofs.Stepping.{no_rounds, next_round, compress_from}
 use Rattle.ripemd_batch.specs.Lanes.{lane_of}
 use Rattle.ripemd_batch.proofs.c256.compress.Goals as goal

@@ -1,6 +1,6 @@
 use Rattle.std.proofs.Common.{◌≡◌, ℕ, ◌<◌, List, [], ◌∷◌, length, arith, ◌∙◌}
 use Rattle.std.proofs.lemmas.Bool.{lt-leb, le-leb}
-use Rattle.ripemd_block.specs.Standard.Hashing.{blocks}
+use Rattle.ripemd_block.specs.Standard.{blocks}
 use Rattle.ripemd_batch.specs.Lanes.{targets, list_at, blocks_of, padded_after}
 use Rattle.ripemd_batch.proofs.EightLanes.{below_eight}
 use Rattle.ripemd_batch.proofs.Turns.{turns_of, turn_on, all_turned}

@@ -1,6 +1,6 @@
 -- The registers are those after the steps so far.
 use Rattle.std.proofs.Common.{◌≡◌, ℕ, ◌+◌, ◌<◌, List, map}
-use Rattle.ripemd_block.specs.Standard.Compression.{registers_after}
+use Rattle.ripemd_block.specs.Standard.{registers_after}
 use Rattle.ripemd_batch.specs.Lanes.{line_of, HasWords}
 use Rattle.ripemd_batch.proofs.lines.four_steps.Given as goal
 

@@ -1,6 +1,6 @@
 -- The words so far have the bytes so far.
 use Rattle.std.proofs.Common.{◌≡◌, ◌*◌, length, take}
-use Rattle.ripemd_block.specs.Standard.Words.{word_bytes}
+use Rattle.ripemd_block.specs.Standard.{word_bytes}
 use Rattle.ripemd_block.proofs.arrays.read_words.Given as goal
 
 abbrev pub invariant-loop-i : goal.invariant-loop-i

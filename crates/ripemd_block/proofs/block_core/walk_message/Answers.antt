@@ -1,6 +1,6 @@
 use Rattle.std.proofs.Common.{◌≡◌, ℕ, ◌+◌, ◌*◌, ◌%◌, ◌^◌, List, length, arith, ap, ◌∙◌, refl}
 use Rattle.std.proofs.lemmas.List.Sums.{fold-append}
-use Rattle.ripemd_block.specs.Standard.Hashing.{blocks, partial_block, walk, with_padding}
+use Rattle.ripemd_block.specs.Standard.{blocks, partial_block, walk, with_padding}
 use Rattle.ripemd_block.specs.OverLists.{walk_over_lists}
 use Rattle.ripemd_block.specs.Laws.Pieces.{with_padding_rest}
 use Rattle.ripemd_block.proofs.block_core.walk_message.Goals as goal

@@ -1,5 +1,5 @@
 use Rattle.std.proofs.Common.{refl, ◌∙◌, arith}
-use Rattle.ripemd_block.specs.Standard.Compression.{ripemd160}
+use Rattle.ripemd_block.specs.Standard.{ripemd160}
 use Rattle.ripemd_block.proofs.Stepping.{lines_of_whole}
 use Rattle.ripemd_block.proofs.TwoLanes.{compress_in_lanes}
 use Rattle.ripemd_block.proofs.c160.compress.Goals as goal

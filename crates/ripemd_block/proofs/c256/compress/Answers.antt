@@ -1,5 +1,5 @@
 use Rattle.std.proofs.Common.{refl, ◌∙◌}
-use Rattle.ripemd_block.specs.Standard.Compression.{ripemd256}
+use Rattle.ripemd_block.specs.Standard.{ripemd256}
 use Rattle.ripemd_block.proofs.TwoLanes.{compress_in_lanes}
 use Rattle.ripemd_block.proofs.c256.compress.Goals as goal
 

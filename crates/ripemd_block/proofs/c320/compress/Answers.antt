@@ -1,5 +1,5 @@
 use Rattle.std.proofs.Common.{refl, ◌∙◌}
-use Rattle.ripemd_block.specs.Standard.Compression.{ripemd320}
+use Rattle.ripemd_block.specs.Standard.{ripemd320}
 use Rattle.ripemd_block.proofs.TwoLanes.{compress_in_lanes}
 use Rattle.ripemd_block.proofs.c320.compress.Goals as goal
 

@@ -1,7 +1,6 @@
 -- The definitions compute the digests.
 use Rattle.std.proofs.Common.{refl}
-use Rattle.ripemd_block.specs.Standard.Compression.{registers_after, lines_after, compress}
-use Rattle.ripemd_block.specs.Standard.Hashing.{with_padding, blocks, hash}
+use Rattle.ripemd_block.specs.Standard.{registers_after, lines_after, compress, with_padding, blocks, hash}
 use Rattle.ripemd_block.proofs.facts.published_digests.Goals as goal
 
 pub returns : goal.returns

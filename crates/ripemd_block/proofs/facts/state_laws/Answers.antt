@@ -1,5 +1,4 @@
-use Rattle.ripemd_block.specs.Standard.Words.{word_bytes}
-use Rattle.ripemd_block.specs.Standard.Compression.{compress}
+use Rattle.ripemd_block.specs.Standard.{word_bytes, compress}
 use Rattle.ripemd_block.specs.Laws.Pieces.{fed_nothing, fed_twice, finish_fed}
 use Rattle.ripemd_block.proofs.facts.state_laws.Goals as goal
 

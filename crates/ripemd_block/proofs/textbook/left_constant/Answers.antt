@@ -1,5 +1,5 @@
 -- The table lists the constants of the rounds, which compute.
-use Rattle.ripemd_block.specs.Standard.Schedule.{left_line}
+use Rattle.ripemd_block.specs.Standard.{left_line}
 use Rattle.ripemd_block.proofs.Tables.{value_at}
 use Rattle.ripemd_block.proofs.textbook.left_constant.Goals as goal
 

@@ -1,6 +1,6 @@
 -- The table lists the constants of the rounds, which compute.
 use Rattle.std.proofs.Common.{◌+◌, arith, le-leb}
-use Rattle.ripemd_block.specs.Standard.Schedule.{cube_root_constant}
+use Rattle.ripemd_block.specs.Standard.{cube_root_constant}
 use Rattle.ripemd_block.proofs.Tables.{value_at}
 use Rattle.ripemd_block.proofs.textbook.right_constant.Goals as goal
 

@@ -1,5 +1,5 @@
 -- The table lists the word numbers of the right line, which compute.
-use Rattle.ripemd_block.specs.Standard.Schedule.{right_line}
+use Rattle.ripemd_block.specs.Standard.{right_line}
 use Rattle.ripemd_block.proofs.Tables.{entry_at}
 use Rattle.ripemd_block.proofs.textbook.right_number.Goals as goal
 

@@ -1,8 +1,7 @@
 use Rattle.std.proofs.Common.{◌≡◌, refl, sym, ◌∙◌, ap, add-one, arith}
 use Rattle.std.proofs.Common.{ℕ, suc, List, Option, Some, None, slice_get}
 use Rattle.std.proofs.lemmas.Option.{slice_get_read, slice_get_past}
-use Rattle.ripemd_block.specs.Standard.Schedule.{left_line, right_line}
-use Rattle.ripemd_block.specs.Standard.Compression.{exchange, round, lines_after}
+use Rattle.ripemd_block.specs.Standard.{left_line, right_line, exchange, round, lines_after}
 use Rattle.ripemd_block.specs.Code.Lines.{both_lines, message_words}
 use Rattle.ripemd_block.proofs.Stepping.{AfterRounds, next_round}
 use Rattle.ripemd_block.proofs.two_lanes.lines_after.Goals as goal

@@ -1,6 +1,5 @@
 use Rattle.std.proofs.Common.{◌≡◌, ◌<◌, refl, arith, rules}
-use Rattle.ripemd_block.specs.Standard.Schedule.{left_line, right_line}
-use Rattle.ripemd_block.specs.Standard.Compression.{registers_after}
+use Rattle.ripemd_block.specs.Standard.{left_line, right_line, registers_after}
 use Rattle.ripemd_block.proofs.Stepping.{word_of_step, one_more_step}
 use Rattle.ripemd_block.proofs.TwoLanes.{each_lane}
 use Rattle.ripemd_block.proofs.two_lanes.round.Goals as goal

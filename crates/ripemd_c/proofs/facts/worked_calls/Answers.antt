@@ -1,9 +1,7 @@
 use Rattle.std.proofs.Common.{◌≡◌, ℕ, ◌*◌, List, [], Some, Bool, IsTrue, length, get_or, refl, rules, arith, ◌∙◌}
 use Rattle.std.proofs.lemmas.List.FromFn.{length-range_with_len}
 use Rattle.ripemd.specs.Published.{hexadecimal}
-use Rattle.ripemd.specs.Standard.Compression.{Parameters, ripemd128, ripemd160, ripemd256, ripemd320}
-use Rattle.ripemd.specs.Standard.Compression.{registers_after, lines_after, compress}
-use Rattle.ripemd.specs.Standard.Hashing.{with_padding, blocks, hash, ripemd}
+use Rattle.ripemd.specs.Standard.{Parameters, ripemd128, ripemd160, ripemd256, ripemd320, registers_after, lines_after, compress, with_padding, blocks, hash, ripemd}
 use Rattle.ripemd.specs.States.{new_state}
 use Rattle.ripemd_mac.specs.Hmac.{key_block, inner_message, outer_message, hmac}
 use Rattle.ripemd_mac.specs.Pbkdf2.{U, F, pbkdf2}

@@ -1,6 +1,5 @@
 use Rattle.std.proofs.Common.{refl, rules, arith}
-use Rattle.ripemd.specs.Standard.Compression.{registers_after, lines_after, compress}
-use Rattle.ripemd.specs.Standard.Hashing.{with_padding, blocks, hash}
+use Rattle.ripemd.specs.Standard.{registers_after, lines_after, compress, with_padding, blocks, hash}
 use Rattle.ripemd_mac.specs.Hmac.{key_block, inner_message, outer_message, hmac}
 use Rattle.ripemd_mac.specs.Pbkdf2.{U, F, pbkdf2}
 use Rattle.ripemd_batch.specs.Pbkdf2.{pbkdf2_each}

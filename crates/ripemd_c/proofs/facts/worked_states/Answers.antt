@@ -1,7 +1,5 @@
 use Rattle.std.proofs.Common.{◌≡◌, ℕ, List, [], ◌∷◌, ◌++◌, codes, length, replicate, drop, get_or, refl, ap, subst, ◌∙◌, arith, rules}
-use Rattle.ripemd.specs.Standard.Words.{word_bytes}
-use Rattle.ripemd.specs.Standard.Compression.{ripemd160, registers_after, lines_after, compress}
-use Rattle.ripemd.specs.Standard.Hashing.{with_padding, blocks, partial_block, hash}
+use Rattle.ripemd.specs.Standard.{word_bytes, ripemd160, registers_after, lines_after, compress, with_padding, blocks, partial_block, hash}
 use Rattle.ripemd.specs.States.{HashState, new_state, fed, finish, output_and_count, core_and_tail}
 use Rattle.ripemd_block.specs.Laws.Saved.{length-core_and_tail, word_bytes_output}
 use Rattle.ripemd.proofs.Saved.{tail_back}

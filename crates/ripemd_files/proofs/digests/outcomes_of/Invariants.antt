@@ -1,5 +1,5 @@
 use Rattle.std.specs.List.{AllZip}
-use Rattle.ripemd_block.specs.Standard.Hashing.{hash}
+use Rattle.ripemd_block.specs.Standard.{hash}
 use Rattle.ripemd_files.specs.Contents.{Follows}
 use Rattle.ripemd_files.proofs.digests.outcomes_of.Given as goal
 

@@ -1,5 +1,5 @@
 use Rattle.std.proofs.Common.{◌<◌, take, length}
-use Rattle.ripemd_block.specs.Standard.Hashing.{hash}
+use Rattle.ripemd_block.specs.Standard.{hash}
 use Rattle.ripemd_batch.specs.Lanes.{targets}
 use Rattle.std.specs.List.{AllZip}
 use Rattle.ripemd_files.specs.Contents.{IsContent}

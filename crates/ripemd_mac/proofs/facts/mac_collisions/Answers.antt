@@ -1,5 +1,5 @@
 use Rattle.std.proofs.Common.{◌≡◌, ℕ, List, refl, ap, arith, slice_index}
-use Rattle.ripemd.specs.Standard.Hashing.{blocks, with_padding, hash}
+use Rattle.ripemd.specs.Standard.{blocks, with_padding, hash}
 use Rattle.ripemd.specs.Collisions.{Pair}
 use Rattle.ripemd_mac.specs.Hmac.{key_block, inner_message, outer_message}
 use Rattle.ripemd_mac.proofs.facts.mac_collisions.Goals as goal

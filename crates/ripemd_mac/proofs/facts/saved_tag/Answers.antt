@@ -1,7 +1,5 @@
 use Rattle.std.proofs.Common.{◌≡◌, ℕ, List, [], ◌∷◌, codes, get_or, refl, sym, ◌∙◌, ap, arith, rules}
-use Rattle.ripemd.specs.Standard.Words.{word_bytes}
-use Rattle.ripemd.specs.Standard.Compression.{registers_after, lines_after, compress}
-use Rattle.ripemd.specs.Standard.Hashing.{with_padding, blocks, partial_block}
+use Rattle.ripemd.specs.Standard.{word_bytes, registers_after, lines_after, compress, with_padding, blocks, partial_block}
 use Rattle.ripemd.specs.States.{HashState, fed, finish, output_and_count, core_and_tail}
 use Rattle.ripemd_mac.specs.Hmac.{key_block, keyed_state}
 use Rattle.ripemd_mac.specs.Saved.{hmac_bytes}

@@ -1,6 +1,5 @@
 use Rattle.std.proofs.Common.{refl}
-use Rattle.ripemd.specs.Standard.Compression.{registers_after, lines_after, compress}
-use Rattle.ripemd.specs.Standard.Hashing.{with_padding, blocks, hash}
+use Rattle.ripemd.specs.Standard.{registers_after, lines_after, compress, with_padding, blocks, hash}
 use Rattle.ripemd_mac.specs.Hmac.{key_block, inner_message, outer_message, hmac}
 use Rattle.ripemd_mac.proofs.facts.tags.Goals as goal
 

@@ -1,5 +1,5 @@
 use Rattle.std.proofs.Common.{◌≡◌, ℕ, ◌+◌, List, [], ◌++◌, length, ap, sym, ◌∙◌}
-use Rattle.ripemd.specs.Standard.Hashing.{hash}
+use Rattle.ripemd.specs.Standard.{hash}
 use Rattle.ripemd_mac.specs.Hmac.{filled, hmac}
 use Rattle.ripemd_mac.specs.Pbkdf2.{U, F}
 use Rattle.ripemd_mac.proofs.Deriving.{next_U, next_F, combined_filled, length-combined}

@@ -1,6 +1,6 @@
 -- The tag is U_j, and the block is F of j rounds, filled with zeros.
 use Rattle.std.proofs.Common.{◌≡◌, ℕ, List, [], length}
-use Rattle.ripemd.specs.Standard.Hashing.{hash}
+use Rattle.ripemd.specs.Standard.{hash}
 use Rattle.ripemd_mac.specs.Hmac.{StandsFor, filled, hmac}
 use Rattle.ripemd_mac.specs.Pbkdf2.{U, F}
 use Rattle.ripemd_mac.proofs.pbkdf2.derived_block.Given as goal

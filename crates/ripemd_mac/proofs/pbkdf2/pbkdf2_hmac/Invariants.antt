@@ -1,6 +1,6 @@
 -- The blocks so far are written.
 use Rattle.std.proofs.Common.{length}
-use Rattle.ripemd.specs.Standard.Hashing.{hash}
+use Rattle.ripemd.specs.Standard.{hash}
 use Rattle.ripemd_mac.specs.Hmac.{hmac}
 use Rattle.ripemd_mac.specs.Pbkdf2.{F}
 use Rattle.ripemd_mac.proofs.Deriving.{Written}

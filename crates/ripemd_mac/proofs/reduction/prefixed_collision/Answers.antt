@@ -1,4 +1,4 @@
-use Rattle.ripemd.specs.Standard.Hashing.{hash}
+use Rattle.ripemd.specs.Standard.{hash}
 use Rattle.ripemd_mac.proofs.MacReduction.{after_front}
 use Rattle.ripemd_mac.proofs.reduction.prefixed_collision.Goals as goal
 

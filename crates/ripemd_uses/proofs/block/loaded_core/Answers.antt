@@ -1,4 +1,4 @@
-use Rattle.ripemd_block.specs.Standard.Compression.{ripemd160}
+use Rattle.ripemd_block.specs.Standard.{ripemd160}
 use Rattle.ripemd_block.specs.Laws.Saved.{takes_every_core}
 use Rattle.ripemd_uses.proofs.block.loaded_core.Goals as goal
 

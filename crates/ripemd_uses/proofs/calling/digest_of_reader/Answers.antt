@@ -1,5 +1,5 @@
 use Rattle.std.proofs.Common.{[], ◌++◌, take, ◌∙◌, arith}
-use Rattle.ripemd.specs.Standard.Words.{word_bytes}
+use Rattle.ripemd.specs.Standard.{word_bytes}
 use Rattle.ripemd.specs.Reading.{taken_nothing, taken_more, taken_no_more, taken_digest, given_more, length_more}
 use Rattle.ripemd_uses.proofs.calling.digest_of_reader.Goals as goal
 

@@ -1,7 +1,7 @@
 -- The hasher has taken in what the reader gave so far; so many bytes and those left of the limit
 -- are the limit. Each turn that goes on takes at least one.
 use Rattle.std.proofs.Common.{◌≡◌, ℕ, ◌+◌, List, length}
-use Rattle.ripemd.specs.Standard.Compression.{start_words, compress, ripemd160}
+use Rattle.ripemd.specs.Standard.{start_words, compress, ripemd160}
 use Rattle.ripemd.specs.Reading.{HasTaken}
 use Rattle.ripemd_uses.proofs.calling.digest_of_reader.Given as goal
 

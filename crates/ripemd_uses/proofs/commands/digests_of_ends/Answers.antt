@@ -1,8 +1,6 @@
 use Rattle.std.proofs.Common.{ℕ, refl, sym, ◌∙◌, arith, List, [], ◌∷◌, ◌++◌, Bor, map-id}
 use Rattle.std.proofs.lemmas.Result.{IfOk-weaker, IfErr-weaker}
-use Rattle.ripemd.specs.Standard.Words.{word_bytes}
-use Rattle.ripemd.specs.Standard.Compression.{ripemd160, compress}
-use Rattle.ripemd.specs.Standard.Hashing.{ripemd}
+use Rattle.ripemd.specs.Standard.{word_bytes, ripemd160, compress, ripemd}
 use Rattle.ripemd.specs.States.{IsState, hasher_bytes}
 use Rattle.ripemd.specs.Types.{Command, New, Update, Fork, Finish}
 use Rattle.ripemd.specs.Replay.{Gives}

@@ -1,6 +1,6 @@
 use Rattle.std.proofs.Common.{◌≡◌, ℕ, ◌+◌, ◌*◌, List, [], ◌∷◌, slice_index, ap, refl, ◌∙◌, arith}
 use Rattle.std.proofs.lemmas.List.{get_or_default}
-use Rattle.ripemd_block.specs.Standard.Words.{message_word}
+use Rattle.ripemd_block.specs.Standard.{message_word}
 use Rattle.ripemd_batch.specs.Lanes.{list_at, targets}
 use Rattle.ripemd_batch.proofs.EightLanes.{below_four}
 use Rattle.ripemd_batch.proofs.four.FourLanes.four_message_words.Goals as goal

@@ -1,6 +1,6 @@
 -- The lanes so far have the states of their blocks.
 use Rattle.std.proofs.Common.{◌≡◌, ℕ, ◌<◌, ◌+◌}
-use Rattle.ripemd_block.specs.Standard.Hashing.{hash}
+use Rattle.ripemd_block.specs.Standard.{hash}
 use Rattle.ripemd_mac.specs.Hmac.{hmac}
 use Rattle.ripemd_batch.specs.Pbkdf2.{block_at, combined_tags, tag_after}
 use Rattle.ripemd_batch.proofs.pbkdf2.KeyBlocks.blocks_at_once.Given as goal

@@ -1,5 +1,5 @@
 use Rattle.std.proofs.Common.{refl, ◌∙◌, arith}
-use Rattle.ripemd_block.specs.Standard.Compression.{ripemd160}
+use Rattle.ripemd_block.specs.Standard.{ripemd160}
 use Rattle.ripemd_block.proofs.Stepping.{lines_of_whole, no_rounds, next_round, compress_from}
 use Rattle.ripemd_block.proofs.registers.Ripemd160FunctionInRegisters.compress.Goals as goal
 

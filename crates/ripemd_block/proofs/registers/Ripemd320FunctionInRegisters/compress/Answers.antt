@@ -1,5 +1,5 @@
 use Rattle.std.proofs.Common.{◌∙◌}
-use Rattle.ripemd_block.specs.Standard.Compression.{ripemd320}
+use Rattle.ripemd_block.specs.Standard.{ripemd320}
 use Rattle.ripemd_block.proofs.Stepping.{no_rounds, next_round, compress_from}
 use Rattle.ripemd_block.proofs.registers.Ripemd320FunctionInRegisters.compress.Goals as goal
 

@@ -1,5 +1,5 @@
 use Rattle.std.proofs.Common.{refl}
-use Rattle.ripemd_block.specs.Standard.Compression.{registers_after}
+use Rattle.ripemd_block.specs.Standard.{registers_after}
 use Rattle.ripemd_block.proofs.registers.lines.round.Goals as goal
 
 pub returns-clause-left : goal.returns-clause-left

@@ -1,4 +1,4 @@
-use Rattle.ripemd_block.specs.Standard.Schedule.{left_line, right_line}
+use Rattle.ripemd_block.specs.Standard.{left_line, right_line}
 use Rattle.ripemd_block.proofs.Stepping.{word_with_constant, one_more_joined_step}
 use Rattle.ripemd_block.proofs.registers.lines.step_at.Goals as goal
 

@@ -1,6 +1,6 @@
 -- The state is that after the blocks so far.
 use Rattle.std.proofs.Common.{◌≡◌, take}
-use Rattle.ripemd_block.specs.Standard.Hashing.{walk}
+use Rattle.ripemd_block.specs.Standard.{walk}
 use Rattle.ripemd_block.proofs.traits.ListBlockFunction.walk_on.Given as goal
 
 abbrev pub invariant-loop-block : goal.invariant-loop-block

@@ -1,5 +1,5 @@
 use Rattle.std.proofs.Common.{◌≡◌, ℕ, List, sym, ap, ◌∙◌}
-use Rattle.ripemd_block.specs.Standard.Hashing.{walk}
+use Rattle.ripemd_block.specs.Standard.{walk}
 use Rattle.ripemd_block.specs.OverLists.{walk_over_lists}
 use Rattle.ripemd_block.proofs.traits.ResumableFunction.walk_on_output.Goals as goal
 
