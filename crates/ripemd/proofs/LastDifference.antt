@@ -1,11 +1,7 @@
 -- Two walks side by side, from places j and k on: the last places where their pairs differ, and what they say of the
 -- two messages.
-use Rattle.std.proofs.Common.{◌≡◌, ◌≢◌, ◌⊎◌, inl, inr, ◌↔◌, ℕ, ◌+◌, ◌-◌, ◌^◌, ◌<◌, ◌≤◌, refl, sym, ap, ◌∙◌, arith}
-use Rattle.std.proofs.Common.{List, [], length, take, get_or, Option, None, Some, IsNone, IfSome}
+use Rattle.ripemd_block.proofs.Library.{◌≡◌, ◌≢◌, ◌⊎◌, inl, inr, ◌↔◌, ℕ, ◌+◌, ◌-◌, ◌^◌, ◌<◌, ◌≤◌, refl, sym, ap, ◌∙◌, arith, List, [], length, take, get_or, Option, None, Some, IsNone, IfSome, take_all, same_lists, get_or_default, fold_more, cases_lt, cases_order}
 use Rattle.std.specs.Option.{MatchOption}
-use Rattle.std.proofs.lemmas.List.{take_all, same_lists, get_or_default}
-use Rattle.std.proofs.lemmas.List.Sums.{fold_more}
-use Rattle.std.proofs.lemmas.Bool.{cases_lt, cases_order}
 use Rattle.ripemd_block.specs.Standard.{padded_message, blocks, walk}
 use Rattle.ripemd_block.proofs.PaddedBlocks.{length-padded_blocks, one_length, one_message_of_blocks}
 use Rattle.ripemd.specs.Types.{Collision}

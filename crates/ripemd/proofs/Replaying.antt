@@ -1,9 +1,5 @@
 -- What the vectors of `replay` hold while it runs, against the machine.
-use Rattle.std.proofs.Common.{◌≡◌, ℕ, ◌<◌, refl, sym, ◌∙◌, ap, arith}
-use Rattle.std.proofs.Common.{List, [], ◌∷◌, ◌++◌, map, length, get_or, set}
-use Rattle.std.proofs.Common.{Result, Ok, Err, IsOk, OnOk, IfErr, MatchResult}
-use Rattle.std.proofs.lemmas.List.{map-append, map-set, length-map, get_or-map}
-use Rattle.std.proofs.lemmas.List.Elements.{All-push, All-get_or}
+use Rattle.ripemd_block.proofs.Library.{◌≡◌, ℕ, ◌<◌, refl, sym, ◌∙◌, ap, arith, List, [], ◌∷◌, ◌++◌, map, length, get_or, set, Result, Ok, Err, IsOk, OnOk, IfErr, MatchResult, map-append, map-set, length-map, get_or-map, All-push, All-get_or}
 use Rattle.ripemd_block.specs.States.{HashState, initial_state}
 use Rattle.ripemd_block.specs.Laws.Pieces.{fed_nothing}
 use Rattle.ripemd.specs.Types.{Command, ReplayError, OutOfMemory}

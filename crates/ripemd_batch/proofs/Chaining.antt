@@ -1,10 +1,5 @@
 -- The digest of a digest, and one more tag.
-use Rattle.std.proofs.Common.{◌≡◌, ℕ, zero, suc, ◌+◌, ◌-◌, ◌≤◌, List, [], ◌∷◌, length, map, arith, refl, ap, ◌∙◌, bit_xor}
-use Rattle.std.specs.Simd.Lanes.{zip2}
-use Rattle.std.specs.List.{range_with_len, fold}
-use Rattle.std.specs.Fn.{iterate}
-use Rattle.std.proofs.lemmas.List.Sums.{fold-append}
-use Rattle.std.proofs.lemmas.List.FromFn.{map-range_with_len_more}
+use Rattle.ripemd_block.proofs.Library.{◌≡◌, ℕ, zero, suc, ◌+◌, ◌-◌, ◌≤◌, List, [], ◌∷◌, length, map, arith, refl, ap, ◌∙◌, bit_xor, zip2, range_with_len, fold, iterate, fold-append, map-range_with_len_more}
 use Rattle.ripemd_block.specs.Laws.Blocks.{blocks_of_one}
 use Rattle.ripemd_batch.specs.Pbkdf2.{combined_tags}
 use Rattle.ripemd_batch.specs.Lanes.{padded_after, hash_after}

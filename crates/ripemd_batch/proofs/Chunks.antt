@@ -1,9 +1,6 @@
 -- Chunks of n elements.
-use Rattle.std.proofs.Common.{◌≡◌, ℕ, zero, suc, ◌+◌, ◌*◌, ◌/◌, ◌<◌, ◌≤◌, mul-le-mul_right, suc-mul, arith, refl, sym, ap, ◌∙◌}
-use Rattle.std.proofs.Common.{List, ◌++◌, length, take, drop, slice_set, flat_map, append_assoc, take_at, drop_at, length-drop, length-take-le}
-use Rattle.std.proofs.lemmas.List.{drop-drop, drop-append-le, nil_from_length, take-append-drop, take-append-le}
-use Rattle.std.proofs.Math.Nat.{div-mul-le_self, mul-div_left}
-use Rattle.std.specs.Simd.{first_chunks}
+use Rattle.ripemd_block.proofs.Library.{◌≡◌, ℕ, zero, suc, ◌+◌, ◌*◌, ◌/◌, ◌<◌, ◌≤◌, mul-le-mul_right, suc-mul, arith, refl, sym, ap, ◌∙◌, List, ◌++◌, length, take, drop, slice_set, append_assoc, take_at, drop_at, length-drop, length-take-le, drop-drop, drop-append-le, nil_from_length, take-append-drop, take-append-le, div-mul-le_self, mul-div_left, first_chunks}
+use Rattle.std.proofs.Common.{flat_map}
 use Rattle.ripemd_batch.specs.Lanes.{chunks}
 
 length-first : {A : Type 0} (n k : ℕ) (xs : List A) → length (first_chunks n k xs) ≡ k

@@ -1,12 +1,6 @@
 -- Words and their bytes: exclusive or, and the message words of a block.
-use Rattle.std.proofs.Common.{◌≡◌, ℕ, zero, suc, ◌+◌, ◌*◌, ◌/◌, ◌%◌, ◌^◌, ◌-◌, ◌<◌, ◌≤◌, w32, w64, bit_xor, refl, ap, sym, ◌∙◌, arith}
-use Rattle.std.proofs.Common.{List, [], ◌∷◌, ◌++◌, append_assoc, get_or, length, length-append, map, replicate, slice_index}
-use Rattle.std.specs.Int.{to_le_bytes}
-use Rattle.std.specs.Simd.Lanes.{zip2}
-use Rattle.std.proofs.lemmas.Simd.{get_or-zip2, length-zip2}
-use Rattle.std.proofs.lemmas.Nat.{from_le_bytes-to_le_bytes_4, xor_shr, xor_mod}
-use Rattle.std.proofs.lemmas.Grind.{flat_map-append}
-use Rattle.std.proofs.lemmas.List.{get_or_append_left, get_or-append_right, length-replicate}
+use Rattle.ripemd_block.proofs.Library.{◌≡◌, ℕ, zero, suc, ◌+◌, ◌*◌, ◌/◌, ◌%◌, ◌^◌, ◌-◌, ◌<◌, ◌≤◌, w64, bit_xor, refl, ap, sym, ◌∙◌, arith, List, [], ◌∷◌, ◌++◌, append_assoc, get_or, length, length-append, map, replicate, slice_index, to_le_bytes, zip2, get_or-zip2, length-zip2, from_le_bytes-to_le_bytes_4, xor_shr, xor_mod, flat_map-append, get_or_append_left, get_or-append_right, length-replicate}
+use Rattle.std.proofs.Common.{w32}
 use Rattle.ripemd_block.proofs.Tables.{value_at}
 use Rattle.ripemd_block.specs.Standard.{message_word, word_bytes, with_padding, zero_count}
 use Rattle.ripemd_block.specs.Laws.WordBytes.{length-word_bytes}

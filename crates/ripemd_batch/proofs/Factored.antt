@@ -1,9 +1,5 @@
 -- Boolean functions 2, 3 and 4 as the code computes them, and a word that a mask selects.
-use Rattle.std.proofs.Common.{◌≡◌, ℕ, ◌<◌, ◌^◌, ◌-◌, bit_and, bit_or, bit_xor, arith, refl, ◌∙◌, mod-eq_of_lt}
-use Rattle.std.specs.Int.{w32, bit_not}
-use Rattle.std.specs.Int.Bits.{xor_assoc, xor_zero_r, xor_self}
-use Rattle.std.proofs.lemmas.Nat.{and_comm, and_le_l, and_mask, or_of_32, xor_comm, xor_of_32}
-use Rattle.std.proofs.lemmas.Nat.Bits.{same_from_bits_below, bit_at_and, bit_at_or, bit_at_xor, bit_at_not, bit_at-lt}
+use Rattle.ripemd_block.proofs.Library.{◌≡◌, ℕ, ◌<◌, ◌^◌, ◌-◌, bit_and, bit_or, bit_xor, arith, refl, ◌∙◌, mod-eq_of_lt, w32, bit_not, xor_assoc, xor_zero_r, xor_self, and_comm, and_le_l, and_mask, or_of_32, xor_comm, xor_of_32, same_from_bits_below, bit_at_and, bit_at_or, bit_at_xor, bit_at_not, bit_at-lt}
 use Rattle.ripemd_block.specs.Standard.{f2, f3, f4}
 use Rattle.ripemd_block.proofs.Factoring.{f1_factored}
 

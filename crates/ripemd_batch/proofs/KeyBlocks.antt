@@ -1,10 +1,5 @@
 -- The blocks of a key, from the states after the two masked keys.
-use Rattle.std.proofs.Common.{◌≡◌, ℕ, ◌+◌, ◌-◌, ◌*◌, ◌%◌, ◌^◌, ◌<◌, ◌≤◌, suc, suc-mul, mul-le-mul_right, le-mul_of_pos_right, lt_of_mul-lt-mul_right, arith}
-use Rattle.std.proofs.Common.{List, ◌++◌, length, length-append, append_assoc, refl, ap}
-use Rattle.std.specs.Int.{div_ceil}
-use Rattle.std.proofs.lemmas.Grind.{div_ceil_times}
-use Rattle.std.proofs.Math.Path.{fun_ext}
-use Rattle.std.proofs.lemmas.Nat.{div-mul-add, mod-mul-add, mul-add-lt}
+use Rattle.ripemd_block.proofs.Library.{◌≡◌, ℕ, ◌+◌, ◌-◌, ◌*◌, ◌%◌, ◌^◌, ◌<◌, ◌≤◌, suc, suc-mul, mul-le-mul_right, le-mul_of_pos_right, lt_of_mul-lt-mul_right, arith, List, ◌++◌, length, length-append, append_assoc, refl, ap, div_ceil, div_ceil_times, fun_ext, div-mul-add, mod-mul-add, mul-add-lt}
 use Rattle.ripemd_block.specs.Laws.Blocks.{blocks_joined, blocks_of_one, left_over_joined}
 use Rattle.ripemd_block.specs.Laws.Pieces.{with_padding_rest}
 use Rattle.ripemd_block.specs.Standard.{hash}

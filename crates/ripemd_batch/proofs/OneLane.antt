@@ -1,7 +1,5 @@
 -- The words of one message in vectors. Any vector may stand after these.
-use Rattle.std.proofs.Common.{◌≡◌, ℕ, ◌<◌, List, [], ◌∷◌, get_or, length, map, slice_index, ap, sym, ◌∙◌, arith}
-use Rattle.std.proofs.lemmas.List.{get_or-map}
-use Rattle.std.proofs.lemmas.List.FromFn.{fill_by_all, length-map-range_with_len}
+use Rattle.ripemd_block.proofs.Library.{◌≡◌, ℕ, ◌<◌, List, [], ◌∷◌, get_or, length, map, slice_index, ap, sym, ◌∙◌, arith, get_or-map, fill_by_all, length-map-range_with_len}
 use Rattle.ripemd_block.proofs.Tables.{value_at}
 use Rattle.ripemd_batch.specs.Lanes.{lane_at, lane_of}
 

@@ -1,7 +1,5 @@
 -- Elements put in their places, one after another.
-use Rattle.std.proofs.Common.{◌≡◌, ℕ, ◌+◌, ◌-◌, ◌<◌, ◌≤◌, min, Bor, append_assoc, length-drop, length-set, length-take-le, take-add, arith, ◌∙◌}
-use Rattle.std.proofs.Common.{List, [], ◌∷◌, ◌++◌, length, map, take, drop, slice_set}
-use Rattle.std.proofs.lemmas.List.{drop-map, get_or-map, length-map, take_more, take_more_set, take-map}
+use Rattle.ripemd_block.proofs.Library.{◌≡◌, ℕ, ◌+◌, ◌-◌, ◌<◌, ◌≤◌, min, Bor, append_assoc, length-drop, length-set, length-take-le, take-add, arith, ◌∙◌, List, [], ◌∷◌, ◌++◌, length, map, take, drop, slice_set, drop-map, get_or-map, length-map, take_more, take_more_set, take-map}
 use Rattle.ripemd_batch.specs.Lanes.{PutFrom, list_at, targets}
 
 module _ (made : List ℕ → List ℕ) (messages : List (Bor (List ℕ))) (old : List (List ℕ)) (at : ℕ) where

@@ -1,8 +1,5 @@
 -- A rotation of each word by two shifts.
-use Rattle.std.proofs.Common.{◌≡◌, ℕ, ◌<◌, ◌-◌, ◌*◌, ◌/◌, ◌%◌, ◌^◌, List, length, replicate, slice_index, bit_or, arith, refl, ◌∙◌}
-use Rattle.std.specs.Simd.Lanes.{zip2}
-use Rattle.std.proofs.lemmas.Simd.{zip2_splat, zip2-map}
-use Rattle.std.proofs.lemmas.List.{get_or-map}
+use Rattle.ripemd_block.proofs.Library.{◌≡◌, ℕ, ◌<◌, ◌-◌, ◌*◌, ◌/◌, ◌%◌, ◌^◌, List, length, replicate, slice_index, bit_or, arith, refl, ◌∙◌, zip2, zip2_splat, zip2-map, get_or-map}
 use Rattle.ripemd_block.specs.Standard.{rol}
 
 pub shifts_rotate : (k : ℕ) → 0 < k → k < 32 → (n : ℕ) (a : List ℕ) → length a ≡ n → (j : ℕ) → j < n

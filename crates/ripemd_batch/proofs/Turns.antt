@@ -1,9 +1,6 @@
 -- The turns of one message: its blocks one after another, and then, if there is a state for it, its output hashed
 -- again.
-use Rattle.std.proofs.Common.{◌≡◌, ℕ, ◌+◌, ◌<◌, ◌≤◌, inl, inr, arith, refl, ap, ◌∙◌, take_all}
-use Rattle.std.proofs.Common.{List, [], length, take, get_or, Option, None, Some, is_some, unwrap_or, cond}
-use Rattle.std.proofs.lemmas.Bool.{cases_lt}
-use Rattle.std.proofs.lemmas.List.Sums.{fold_more}
+use Rattle.ripemd_block.proofs.Library.{◌≡◌, ℕ, ◌+◌, ◌<◌, ◌≤◌, inl, inr, arith, refl, ap, ◌∙◌, take_all, List, [], length, take, get_or, Option, None, Some, is_some, unwrap_or, cond, cases_lt, fold_more}
 use Rattle.ripemd_block.specs.Standard.{blocks, walk}
 use Rattle.ripemd_batch.specs.Lanes.{padded_after, hash_after, hashed_again, listed}
 

@@ -1,7 +1,5 @@
 -- Bytes that come in after a tail: the first of them fill a block, or all stay in the tail.
-use Rattle.std.proofs.Common.{◌≡◌, ℕ, ◌+◌, ◌-◌, ◌≤◌, refl, arith}
-use Rattle.std.proofs.Common.{List, ◌∷◌, ◌++◌, length, take, drop, length-append}
-use Rattle.std.proofs.lemmas.List.{append_assoc, append-nil, length-take-le, take-append-drop, take_at, take_rest, drop_all}
+use Rattle.ripemd_block.proofs.Library.{◌≡◌, ℕ, ◌+◌, ◌-◌, ◌≤◌, refl, arith, List, ◌∷◌, ◌++◌, length, take, drop, length-append, append_assoc, append-nil, length-take-le, take-append-drop, take_at, take_rest, drop_all}
 use Rattle.ripemd_block.specs.Standard.{blocks, partial_block}
 use Rattle.ripemd_block.specs.Laws.Blocks.{blocks_joined, blocks_of_one, left_over_joined}
 

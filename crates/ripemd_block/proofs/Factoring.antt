@@ -1,8 +1,5 @@
 -- A Boolean function that the code computes otherwise than it is defined.
-use Rattle.std.proofs.Common.{◌≡◌, ℕ, ◌<◌, ◌+◌, ◌^◌, bit_and, bit_xor, arith}
-use Rattle.std.specs.Int.{w32, bit_not}
-use Rattle.std.proofs.lemmas.Nat.{or_disjoint, and_le_l, and_le_r, or_of_32, xor_of_32}
-use Rattle.std.proofs.lemmas.Nat.Bits.{same_from_bits_below, bit_at_and, bit_at_or, bit_at_xor, bit_at_not, bit_at-lt, bit_at-zero}
+use Rattle.ripemd_block.proofs.Library.{◌≡◌, ℕ, ◌<◌, ◌+◌, ◌^◌, bit_and, bit_xor, arith, w32, bit_not, or_disjoint, and_le_l, and_le_r, or_of_32, xor_of_32, same_from_bits_below, bit_at_and, bit_at_or, bit_at_xor, bit_at_not, bit_at-lt, bit_at-zero}
 use Rattle.ripemd_block.specs.Standard.{◌⊞◌, f1, f3}
 
 pub f1_factored : (x y z : ℕ) → x < 2 ^ 32 → z < 2 ^ 32 → bit_xor (bit_and x (bit_xor y z)) z ≡ f1 x y z

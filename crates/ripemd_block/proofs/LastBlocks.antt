@@ -1,10 +1,5 @@
 -- The one or two blocks that end a padded message.
-use Rattle.std.proofs.Common.{◌≡◌, ℕ, zero, suc, ◌+◌, ◌-◌, ◌*◌, ◌<◌, ◌≤◌, refl, sym, ap, ◌∙◌, arith}
-use Rattle.std.proofs.Common.{List, [], ◌∷◌, ◌++◌, length, take, drop, set, replicate, slice_set}
-use Rattle.std.proofs.lemmas.List.{length-append, length-replicate, append_assoc}
-use Rattle.std.proofs.lemmas.List.{take_at, set_at, drop-replicate, take-replicate, replicate-append-replicate}
-use Rattle.std.specs.Int.{w32, to_le_bytes}
-use Rattle.std.proofs.lemmas.Grind.{flat_map-append}
+use Rattle.ripemd_block.proofs.Library.{◌≡◌, ℕ, zero, suc, ◌+◌, ◌-◌, ◌*◌, ◌<◌, ◌≤◌, refl, sym, ap, ◌∙◌, arith, List, [], ◌∷◌, ◌++◌, length, take, drop, set, replicate, slice_set, length-append, length-replicate, append_assoc, take_at, set_at, drop-replicate, take-replicate, replicate-append-replicate, w32, to_le_bytes, flat_map-append}
 use Rattle.ripemd_block.specs.Standard.{eight_bytes, word_bytes, with_padding, blocks, zero_count}
 use Rattle.ripemd_block.specs.Laws.Blocks.{blocks_of_one, blocks_of_two}
 

@@ -1,3 +1,4 @@
+pub mod Library
 pub mod Absorbing
 pub mod Factoring
 pub mod LastBlocks

@@ -1,11 +1,6 @@
 -- The blocks of a message with its padding, by their places.
-use Rattle.std.proofs.Common.{◌≡◌, ℕ, zero, suc, ◌+◌, ◌-◌, ◌*◌, ◌/◌, ◌%◌, ◌^◌, ◌<◌, ◌≤◌, refl, sym, ap, ◌∙◌, arith}
-use Rattle.std.proofs.Common.{List, [], ◌∷◌, ◌++◌, length, take, drop, replicate, Some, get_or}
-use Rattle.std.specs.List.{slice_get, flat_map}
-use Rattle.std.specs.Simd.{first_chunks}
-use Rattle.std.proofs.lemmas.List.{length-append, length-replicate, length-drop, length-take-le, append_assoc}
-use Rattle.std.proofs.lemmas.List.{take_at, drop_at, drop-drop, take-append-drop, get_or_at, get_or_append_left}
-use Rattle.std.proofs.lemmas.Option.{slice_get-get_or}
+use Rattle.ripemd_block.proofs.Library.{◌≡◌, ℕ, zero, suc, ◌+◌, ◌-◌, ◌*◌, ◌/◌, ◌%◌, ◌^◌, ◌<◌, ◌≤◌, refl, sym, ap, ◌∙◌, arith, List, [], ◌∷◌, ◌++◌, length, take, drop, replicate, Some, get_or, flat_map, first_chunks, length-append, length-replicate, length-drop, length-take-le, append_assoc, take_at, drop_at, drop-drop, take-append-drop, get_or_at, get_or_append_left, slice_get-get_or}
+use Rattle.std.specs.List.{slice_get}
 use Rattle.ripemd_block.specs.Standard.{eight_bytes, zero_count, with_padding, padded_message, blocks, partial_block}
 use Rattle.ripemd_block.specs.Laws.Blocks.{length-blocks, blocks_joined, blocks_of_one}
 use Rattle.ripemd_block.specs.Laws.Pieces.{with_padding_rest}

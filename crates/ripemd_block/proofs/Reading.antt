@@ -1,9 +1,7 @@
 -- Message words, read as vectors.
-use Rattle.std.proofs.Common.{◌≡◌, ℕ, ◌<◌, ◌≤◌, ◌+◌, ◌*◌, ◌-◌, List, length, take, drop, ap, ◌∙◌, sym, arith, w32}
-use Rattle.std.specs.Int.{from_le_bytes}
-use Rattle.std.specs.Simd.Lanes.{number_l, chunk}
-use Rattle.std.proofs.lemmas.Simd.{length-chunk}
-use Rattle.std.proofs.lemmas.List.{drop-take, take-take, drop-drop}
+use Rattle.ripemd_block.proofs.Library.{◌≡◌, ℕ, ◌<◌, ◌≤◌, ◌+◌, ◌*◌, ◌-◌, List, length, take, drop, ap, ◌∙◌, sym, arith, from_le_bytes, chunk, length-chunk, drop-take, take-take, drop-drop}
+use Rattle.std.proofs.Common.{w32}
+use Rattle.std.specs.Simd.Lanes.{number_l}
 use Rattle.ripemd_block.specs.Standard.{message_word}
 use Rattle.ripemd_block.proofs.Tables.{elements}
 

@@ -1,7 +1,5 @@
 -- Tables that list the values of a function.
-use Rattle.std.proofs.Common.{◌≡◌, ℕ, ◌<◌, List, [], length, get_or, map, refl, arith}
-use Rattle.std.specs.List.{range_with_len}
-use Rattle.std.proofs.lemmas.List.FromFn.{get_or-map-range_with_len, fill_by_all}
+use Rattle.ripemd_block.proofs.Library.{◌≡◌, ℕ, ◌<◌, List, [], length, get_or, map, refl, arith, range_with_len, get_or-map-range_with_len, fill_by_all}
 
 pub value_at : {X : Type 0} (f : ℕ → X) (n i : ℕ) (d : X) → i < n → get_or (map f (range_with_len 0 n)) i d ≡ f i
 value_at f n i d within = search (arith, get_or-map-range_with_len)

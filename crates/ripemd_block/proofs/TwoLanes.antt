@@ -1,9 +1,5 @@
 -- Vectors of two lanes.
-use Rattle.std.proofs.Common.{◌≡◌, ℕ, zero, suc, ◌<◌, ap, ◌∙◌, arith}
-use Rattle.std.proofs.Common.{List, [], length, get_or, map}
-use Rattle.std.specs.List.{range_with_len}
-use Rattle.std.proofs.lemmas.List.{length-map, get_or-map}
-use Rattle.std.proofs.lemmas.List.FromFn.{fill_by_all}
+use Rattle.ripemd_block.proofs.Library.{◌≡◌, ℕ, zero, suc, ◌<◌, ap, ◌∙◌, arith, List, [], length, get_or, map, range_with_len, length-map, get_or-map, fill_by_all}
 use Rattle.ripemd_block.specs.Standard.{Parameters, lines_after, lines_from, compress}
 use Rattle.ripemd_block.specs.Code.Lines.{both_lines}
 use Rattle.ripemd_block.specs.Code.TwoLanes.{lane}

@@ -1,7 +1,5 @@
 -- Bytes written as their last and their first, which may overlap.
-use Rattle.std.proofs.Common.{◌≡◌, ℕ, suc, ◌+◌, ◌-◌, ◌*◌, ◌/◌, ◌%◌, ◌<◌, ◌≤◌, List, [], ◌∷◌, ◌++◌, length, take, drop, arith, refl, ◌∙◌, sym, ap, append_assoc, take-append-drop, length-drop, length-take-le, drop-drop}
-use lib.Lanes.{digits_l, number_l, Each1}
-use Rattle.std.proofs.Math.Seq.{drop-append-add, drop-append-le}
+use Rattle.ripemd_block.proofs.Library.{◌≡◌, ℕ, suc, ◌+◌, ◌-◌, ◌*◌, ◌/◌, ◌%◌, ◌<◌, ◌≤◌, List, [], ◌∷◌, ◌++◌, length, take, drop, arith, refl, ◌∙◌, sym, ap, append_assoc, take-append-drop, length-drop, length-take-le, drop-drop, digits_l, number_l, Each1, drop-append-add, drop-append-le}
 use Rattle.ripemd_block.specs.Standard.{word_bytes}
 
 -- the n bytes from m on are written, and then the first n

@@ -1,7 +1,5 @@
 -- The bytes that hash states are kept as, composed and taken apart.
-use Rattle.std.proofs.Common.{◌≡◌, ℕ, ◌+◌, ◌-◌, ◌<◌, suc, refl, sym, ap, ◌∙◌, arith, rules}
-use Rattle.std.proofs.Common.{List, All, [], ◌∷◌, ◌++◌, length, take, drop, get_or, length-append}
-use Rattle.std.proofs.lemmas.List.{length-take, length-drop, length-take-le, length-replicate, take_at, drop_at, take-append-drop}
+use Rattle.ripemd_block.proofs.Library.{◌≡◌, ℕ, ◌+◌, ◌-◌, ◌<◌, suc, refl, sym, ap, ◌∙◌, arith, rules, List, All, [], ◌∷◌, ◌++◌, length, take, drop, get_or, length-append, length-take, length-drop, length-take-le, length-replicate, take_at, drop_at, take-append-drop}
 use Rattle.ripemd.specs.States.{HashState, IsHashState, IsWithoutTail, with_tail, output_and_count, tail_bytes, core_and_tail}
 use Rattle.ripemd.specs.OverLists.{IsInjectiveOutput}
 use Rattle.ripemd_block.specs.Laws.Saved.{length-output_and_count, length-core_and_tail, core_and_tail-split}

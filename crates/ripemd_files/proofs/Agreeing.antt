@@ -1,9 +1,5 @@
 -- Lines that were printed, and are checked.
-use Rattle.std.proofs.Common.{rules, ◌≡◌, ◌≢◌, ℕ, Bool, false, List, [], ◌∷◌, length, Option, None, unwrap_or, refl, sym, subst, ◌∙◌, arith, ◌↔◌, ◌⊎◌, IsNone, IsSomeAnd, MatchOption}
-use Rattle.std.specs.List.{list_any}
-use Rattle.std.proofs.lemmas.Bool.Decides.{nat_tests}
-use Rattle.std.proofs.lemmas.Slice.Eq.{bytes_eq-Decides}
-use Rattle.std.proofs.lemmas.List.Folds.{list_any_at}
+use Rattle.ripemd_block.proofs.Library.{rules, ◌≡◌, ◌≢◌, ℕ, Bool, false, List, [], ◌∷◌, length, Option, None, unwrap_or, refl, sym, subst, ◌∙◌, arith, ◌↔◌, ◌⊎◌, IsNone, IsSomeAnd, MatchOption, list_any, nat_tests, bytes_eq-Decides, list_any_at}
 use Rattle.ripemd.specs.Standard.{ripemd}
 use Rattle.ripemd_files.specs.Types.{Form, Layout, Standard, Newline, Variant, Rules, Outcome, Digest, Verdict, Differs, Matches}
 use Rattle.ripemd_files.specs.Lines.{IsLine, RoundTrips, is_end}

@@ -1,18 +1,10 @@
 -- The forms of a line: what is read of a body has one of them, and what has one of them is read.
-use Rattle.std.proofs.Common.{◌≡◌, ◌≢◌, ◌⊎◌, ℕ, ◌*◌, Bool, true, false, List, [], ◌∷◌, ◌++◌, length, get_or, take, Option, Some, None, refl, ap, subst, ◌∙◌, inl, inr, eqb, arith, option_map, codes, IsTrue, take-append-drop}
-use Rattle.std.specs.List.{list_any, list_all}
-use Rattle.std.proofs.lemmas.Bool.{cases_Bool}
-use Rattle.std.proofs.lemmas.Bool.Decides.{eqb_tells, nat_tests}
-use Rattle.std.proofs.lemmas.List.Folds.{list_any-append}
-use Rattle.std.proofs.lemmas.List.Sums.{list_all-from_AllPass}
-use Rattle.std.proofs.lemmas.Slice.Eq.{bytes_eq-Decides}
-use Rattle.std.proofs.lemmas.Option.{same_Some, option_and_then_some}
+use Rattle.ripemd_block.proofs.Library.{◌≡◌, ◌≢◌, ◌⊎◌, ℕ, ◌*◌, Bool, true, false, List, [], ◌∷◌, ◌++◌, length, get_or, take, Option, Some, None, refl, ap, subst, ◌∙◌, inl, inr, eqb, arith, option_map, codes, IsTrue, take-append-drop, list_any, list_all, cases_Bool, eqb_tells, nat_tests, list_any-append, list_all-from_AllPass, bytes_eq-Decides, same_Some, option_and_then_some, option_or}
 use Rattle.hex.specs.Hex.{is_hex_digit}
 use Rattle.hex.proofs.HexLemmas.{decode_of-ok}
 use Rattle.ripemd_files.specs.Types.{Variant, R128, R160, R256, R320, Layout, Standard, Reversed}
 use Rattle.ripemd_files.specs.Lines.{size_of, bits_of, IsLabel, is_blank, IsBlank, IsDigest, IsSeparator, IsUntagged, IsTagged}
 use Rattle.ripemd_files.specs.Reading.{strip, skip_blanks, split_blank, split_close, variant_of, strip_bits, strip_label, Found, text_at, untagged_at, skip_space, tagged_at, either_at, found_at, digest_at}
-use Rattle.std.specs.Option.{option_or}
 
 -- ---- prefixes
 

@@ -1,10 +1,7 @@
 -- What a check finds of the files of some lines.
-use Rattle.std.proofs.Common.{◌≡◌, ◌≢◌, ◌⊎◌, ℕ, zero, suc, ◌+◌, ◌<◌, ◌≤◌, ◌-◌, ◌^◌, List, [], ◌++◌, flat_map, length, take, get_or, Option, Bool, true, refl, sym, ap, ◌∙◌, inl, inr, arith, append_assoc, append-nil, length-append, length-take-le}
-use Rattle.std.specs.List.{AllZip, list_any}
-use Rattle.std.specs.Io.KnownBytes.{Consumes}
-use Rattle.std.proofs.KnownBytes.{Consumes-nil, Consumes-trans}
-use Rattle.std.proofs.lemmas.Slice.Zip.{AllZip-long}
-use Rattle.std.proofs.lemmas.Grind.{flat_map-append, fold-append}
+use Rattle.ripemd_block.proofs.Library.{◌≡◌, ◌≢◌, ◌⊎◌, ℕ, zero, suc, ◌+◌, ◌<◌, ◌≤◌, ◌-◌, ◌^◌, List, [], ◌++◌, length, take, get_or, Option, Bool, true, refl, sym, ap, ◌∙◌, inl, inr, arith, append_assoc, append-nil, length-append, length-take-le, AllZip, list_any, Consumes, Consumes-nil, Consumes-trans, AllZip-long, flat_map-append}
+use Rattle.std.proofs.Common.{flat_map}
+use Rattle.std.proofs.lemmas.Grind.{fold-append}
 use Rattle.ripemd.specs.Standard.{ripemd}
 use Rattle.ripemd_files.specs.Types.{Fault, Write, NoMemory, TooManyLines, Line, Layout, Variant, Rules, Cursor, Group, Outcome, Stage, Verdict, Options, Tally, Among, Ended, Failed}
 use Rattle.ripemd_files.specs.Files.{OfFirst, Place, ComesTo, parameters_of}

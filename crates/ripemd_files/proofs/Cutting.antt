@@ -1,14 +1,6 @@
 -- Lists, split into lines.
-use Rattle.std.proofs.Common.{◌≡◌, ◌≢◌, ℕ, ◌+◌, ◌-◌, ◌==◌, true, false, List, [], ◌∷◌, ◌++◌, length, take, Option, All, IfSome, refl, arith, inl, inr, append_assoc, ◌<◌, ne_eqb}
-use Rattle.std.specs.List.{list_any}
-use Rattle.std.specs.Io.{StopsAt, appended_bytes}
-use Rattle.std.specs.Io.KnownBytes.{Consumes}
-use Rattle.std.specs.Io.BufRead.{take_through, drop_through, ends_with_byte, strip_last, DropsThrough}
-use Rattle.std.proofs.lemmas.List.{append-nil, take_all, take_more}
-use Rattle.std.proofs.lemmas.List.Elements.{All-weaker}
-use Rattle.std.proofs.lemmas.List.Folds.{list_any-append, list_any_none}
+use Rattle.ripemd_block.proofs.Library.{◌≡◌, ◌≢◌, ℕ, ◌+◌, ◌-◌, ◌==◌, true, false, List, [], ◌∷◌, ◌++◌, length, take, Option, All, IfSome, refl, arith, inl, inr, append_assoc, ◌<◌, ne_eqb, list_any, StopsAt, appended_bytes, Consumes, take_through, drop_through, ends_with_byte, strip_last, DropsThrough, append-nil, take_all, take_more, All-weaker, list_any-append, list_any_none, nat_tests}
 use Rattle.ripemd_files.specs.Splitting.{lines_of, IsEnded, IsWhole, IsWithout}
-use Rattle.std.proofs.lemmas.Bool.Decides.{nat_tests}
 
 -- ---- the lines of a list
 

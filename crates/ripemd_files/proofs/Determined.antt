@@ -1,10 +1,8 @@
 -- Where all is known of a folder, one thing is right.
-use Rattle.std.proofs.Common.{◌≡◌, ◌≢◌, ◌⊎◌, ℕ, ◌+◌, ◌<◌, ◌++◌, List, [], ◌∷◌, length, take, flat_map, Option, Some, Bool, true, false, refl, sym, ap, subst, ◌∙◌, arith, inl, inr, append_assoc, Result, Ok, unwrap_or, Err, append-nil, length-append}
+use Rattle.ripemd_block.proofs.Library.{◌≡◌, ◌≢◌, ◌⊎◌, ℕ, ◌+◌, ◌<◌, ◌++◌, List, [], ◌∷◌, length, take, Option, Some, Bool, true, false, refl, sym, ap, subst, ◌∙◌, arith, inl, inr, append_assoc, Result, Ok, unwrap_or, Err, append-nil, length-append, AllZip, list_all, Consumes, IsAtEnd, take-append_seam}
+use Rattle.std.proofs.Common.{flat_map}
 use Rattle.ripemd_files.specs.Lines.{line_of, end_of}
-use Rattle.std.specs.List.{AllZip, list_all}
-use Rattle.std.specs.Io.KnownBytes.{Consumes, IsAtEnd}
 use Rattle.ripemd_files.specs.Types.{Error, Layout, Standard, Rules, Outcome, Digest, Refused, Broken, Stage, Style, Options, Tally, Verdict, Among, Ended}
-use Rattle.std.proofs.Math.Seq.{take-append_seam}
 use Rattle.ripemd.specs.Standard.{ripemd}
 use Rattle.ripemd_files.specs.Checking.{Event, IsTally, checked, misformatted, verdict_of, verdict_of_digest}
 use Rattle.ripemd_files.specs.Determined.{IsKnown, Print, Report, Start}

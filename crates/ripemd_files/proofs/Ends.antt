@@ -1,8 +1,5 @@
 -- What stands in no line: an end, in a line that is written, and the sign of a comment at the front of any line.
-use Rattle.std.proofs.Common.{◌≡◌, ◌≢◌, ℕ, ◌≤◌, Bool, true, false, List, [], ◌∷◌, ◌++◌, refl, eqb, arith}
-use Rattle.std.specs.List.{list_any}
-use Rattle.std.proofs.lemmas.Bool.Decides.{nat_tests}
-use Rattle.std.proofs.lemmas.List.Folds.{list_any-append}
+use Rattle.ripemd_block.proofs.Library.{◌≡◌, ◌≢◌, ℕ, ◌≤◌, Bool, true, false, List, [], ◌∷◌, ◌++◌, refl, eqb, arith, list_any, nat_tests, list_any-append}
 use Rattle.hex.specs.Hex.{encode_lower, is_hex_digit}
 use Rattle.ripemd_files.specs.Types.{Variant, Form, Layout, Newline, Zero}
 use Rattle.ripemd_files.specs.Lines.{is_special, is_end, IsBlank, escaped, mark_of, text_of, body_of, line_of, IsLine, RoundTrips}

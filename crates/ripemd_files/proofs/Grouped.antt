@@ -1,11 +1,6 @@
 -- Lines of a list, read one after another, and what comes of them.
-use Rattle.std.proofs.Common.{◌≡◌, ◌⊎◌, ◌≤◌, ◌<◌, ◌^◌, ℕ, suc, zero, ◌+◌, List, [], ◌∷◌, ◌++◌, length, map, take, Option, Some, None, Bool, inl, inr, refl, sym, ap, ◌∙◌, append_assoc, arith}
-use Rattle.std.specs.List.{AllZip}
-use Rattle.std.specs.Io.KnownBytes.{Consumes}
+use Rattle.ripemd_block.proofs.Library.{◌≡◌, ◌⊎◌, ◌≤◌, ◌<◌, ◌^◌, ℕ, suc, zero, ◌+◌, List, [], ◌∷◌, ◌++◌, length, map, take, Option, Some, None, Bool, inl, inr, refl, sym, ap, ◌∙◌, append_assoc, arith, AllZip, Consumes, Consumes-nil, Consumes-trans, cases_Bool, append-nil, length-append, length-map, length-take, take-append-le, take-map, take_min}
 use Rattle.ripemd_files.specs.Types.{Error, Layout, Line, Rules, Cursor, Group, Piece, Among, Fault, NoMemory}
-use Rattle.std.proofs.KnownBytes.{Consumes-nil, Consumes-trans}
-use Rattle.std.proofs.lemmas.Bool.{cases_Bool}
-use Rattle.std.proofs.lemmas.List.{append-nil, length-append, length-map, length-take, take-append-le, take-map, take_min}
 use Rattle.std.proofs.lemmas.Grind.{fold-append}
 use Rattle.ripemd_files.specs.declared.piece.Piece.TheVariants as pieces
 use Rattle.ripemd_files.specs.Files.{Place}

@@ -1,7 +1,6 @@
 -- Of things in turn something is found, told and counted.
-use Rattle.std.proofs.Common.{◌≡◌, ℕ, ◌+◌, ◌-◌, ◌<◌, ◌≤◌, List, [], ◌∷◌, ◌++◌, flat_map, length, take, drop, get_or, refl, arith, append-nil, take_all, take-add}
-use Rattle.std.specs.List.{AllZip}
-use Rattle.std.proofs.lemmas.Grind.{flat_map-append}
+use Rattle.ripemd_block.proofs.Library.{◌≡◌, ℕ, ◌+◌, ◌-◌, ◌<◌, ◌≤◌, List, [], ◌∷◌, ◌++◌, length, take, drop, get_or, refl, arith, append-nil, take_all, take-add, AllZip, flat_map-append}
+use Rattle.std.proofs.Common.{flat_map}
 use Rattle.ripemd_files.specs.Types.{Fault, NoMemory}
 use Rattle.ripemd_files.specs.Said.{Item, Pends, Stops, Tells, TellsEach, TellsFirst, Told, written}
 use Rattle.ripemd_files.proofs.Telling.{no_memory, pends_done, pends_more, pends_none, pends_stops, pends_undone, stops_after, tells_more, tells_none}

@@ -1,9 +1,5 @@
 -- The layout that is found is the one that a line has.
-use Rattle.std.proofs.Common.{◌≡◌, ℕ, ◌*◌, true, List, ◌++◌, length, Option, Some, None, refl, ap, ◌∙◌, inl, arith, IfSome}
-use Rattle.std.specs.List.{list_all}
-use Rattle.std.proofs.lemmas.Bool.{and_parts}
-use Rattle.std.proofs.lemmas.Bool.Decides.{nat_tests}
-use Rattle.std.proofs.lemmas.List.Sums.{AllPass-from_list_all}
+use Rattle.ripemd_block.proofs.Library.{◌≡◌, ℕ, ◌*◌, true, List, ◌++◌, length, Option, Some, None, refl, ap, ◌∙◌, inl, arith, IfSome, list_all, and_parts, nat_tests, AllPass-from_list_all}
 use Rattle.hex.specs.Hex.{is_hex_digit}
 use Rattle.hex.proofs.HexLemmas.{decode_of-digits}
 use Rattle.ripemd_files.specs.Types.{Variant, Layout, Standard, Reversed}

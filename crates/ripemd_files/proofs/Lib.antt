@@ -1,3 +1,4 @@
+pub use Rattle.ripemd_block.proofs.Library
 pub mod Places
 pub mod Names
 pub mod Bodies

@@ -1,6 +1,5 @@
 -- What comes of the lines of a list, one after another.
-use Rattle.std.proofs.Common.{◌≡◌, ◌≢◌, ℕ, List, [], ◌∷◌, ◌++◌, codes, map, Option, Some, None, unwrap_or, IsTrue, refl, sym, IsFalse, option_map}
-use Rattle.std.proofs.lemmas.List.{append-nil, map-append}
+use Rattle.ripemd_block.proofs.Library.{◌≡◌, ◌≢◌, ℕ, List, [], ◌∷◌, ◌++◌, codes, map, Option, Some, None, unwrap_or, IsTrue, refl, sym, IsFalse, option_map, append-nil, map-append}
 use Rattle.ripemd_files.specs.Types.{Variant, Layout, Standard, Line, Rules, Cursor}
 use Rattle.ripemd_files.specs.Lines.{Says}
 use Rattle.ripemd_files.specs.Lists.{IsTaken, IsWanted, body_of_line, entry_of, is_passed_over, layout_after}

@@ -1,7 +1,5 @@
 -- What is read of a text is the name that it spells, and the other way round.
-use Rattle.std.proofs.Common.{◌≡◌, ◌≢◌, ◌⊎◌, ℕ, Bool, cond, false, List, [], ◌∷◌, ◌++◌, Option, Some, refl, inl, inr, eqb, arith, option_map, MatchBool}
-use Rattle.std.specs.List.{list_any}
-use Rattle.std.proofs.lemmas.Bool.Decides.{nat_tests}
+use Rattle.ripemd_block.proofs.Library.{◌≡◌, ◌≢◌, ◌⊎◌, ℕ, Bool, cond, false, List, [], ◌∷◌, ◌++◌, Option, Some, refl, inl, inr, eqb, arith, option_map, MatchBool, list_any, nat_tests}
 use Rattle.ripemd_files.specs.Lines.{escape_of, escaped, Spells}
 use Rattle.ripemd_files.specs.Reading.{meant_by, unescaped, name_at, ◌>>=◌}
 

@@ -1,9 +1,5 @@
 -- Files, read piece by piece.
-use Rattle.std.proofs.Common.{◌≡◌, ℕ, ◌+◌, ◌≤◌, List, [], ◌++◌, length, take, Option, sym, ap, ◌∙◌, length-take-le, append-nil}
-use Rattle.std.proofs.Math.Seq.{take-append-le, take-append-add}
-use borrow.Rule.Slice.PartMut.{put_mid, post_of}
-use Rattle.std.specs.Io.KnownBytes.{Consumes}
-use Rattle.std.proofs.KnownBytes.{Consumes-nil, Consumes-trans}
+use Rattle.ripemd_block.proofs.Library.{◌≡◌, ℕ, ◌+◌, ◌≤◌, List, [], ◌++◌, length, take, Option, sym, ap, ◌∙◌, length-take-le, append-nil, take-append-le, take-append-add, put_mid, post_of, Consumes, Consumes-nil, Consumes-trans}
 
 -- what was read so far, and then more
 pub ruleset consumed = (Consumes-nil, Consumes-trans)

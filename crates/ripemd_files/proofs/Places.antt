@@ -1,6 +1,5 @@
 -- What loops over the places of a text find.
-use Rattle.std.proofs.Common.{◌≡◌, ◌≢◌, ℕ, ◌+◌, ◌-◌, ◌<◌, true, false, List, [], ◌∷◌, ◌++◌, length, get_or, take, drop, Option, Some, None, append_assoc, arith, option_map, ne_eqb}
-use Rattle.std.proofs.lemmas.List.{drop_more, append-nil, length-drop, take-append-drop, take_all}
+use Rattle.ripemd_block.proofs.Library.{◌≡◌, ◌≢◌, ℕ, ◌+◌, ◌-◌, ◌<◌, true, false, List, [], ◌∷◌, ◌++◌, length, get_or, take, drop, Option, Some, None, append_assoc, arith, option_map, ne_eqb, drop_more, append-nil, length-drop, take-append-drop, take_all}
 use Rattle.ripemd_files.specs.Reading.{split_close, unescaped, meant_by}
 
 -- ---- the last closing parenthesis

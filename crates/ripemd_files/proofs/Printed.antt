@@ -1,10 +1,5 @@
 -- What is printed of files, one after another.
-use Rattle.std.proofs.Common.{◌≡◌, ℕ, List, [], ◌++◌, Bool, true, ◌&&◌, refl, sym, ap, arith, length, take, get_or, ◌+◌, ◌-◌, ◌<◌, ◌≤◌, drop, Bor}
-use Rattle.std.proofs.lemmas.List.{length-drop, length-map, length-take, take-map, take-take}
-use Rattle.std.proofs.lemmas.List.Folds.{list_all-append}
-use Rattle.std.proofs.lemmas.Slice.Zip.{AllZip-long}
-use Rattle.std.proofs.Math.Bool.{and_assoc, and-true}
-use Rattle.std.specs.List.{AllZip}
+use Rattle.ripemd_block.proofs.Library.{◌≡◌, ℕ, List, [], ◌++◌, Bool, true, ◌&&◌, refl, sym, ap, arith, length, take, get_or, ◌+◌, ◌-◌, ◌<◌, ◌≤◌, drop, Bor, length-drop, length-map, length-take, take-map, take-take, list_all-append, AllZip-long, and_assoc, and-true, AllZip}
 use Rattle.ripemd.specs.Standard.{ripemd}
 use Rattle.ripemd_batch.specs.Lanes.{targets}
 use Rattle.ripemd_files.specs.Types.{NoMemory, Style, Outcome}

@@ -1,7 +1,5 @@
 -- What a line is read as is what it is a line of, and the other way round.
-use Rattle.std.proofs.Common.{◌≡◌, ℕ, Bool, false, List, [], ◌∷◌, ◌++◌, Option, Some, None, arith, refl, sym, ap, subst, ◌∙◌, eqb, option_map, IfSome}
-use Rattle.std.proofs.lemmas.Bool.Decides.{nat_tests}
-use Rattle.std.proofs.lemmas.Option.{same_Some, none-some, option_and_then_some}
+use Rattle.ripemd_block.proofs.Library.{◌≡◌, ℕ, Bool, false, List, [], ◌∷◌, ◌++◌, Option, Some, None, arith, refl, sym, ap, subst, ◌∙◌, eqb, option_map, IfSome, nat_tests, same_Some, none-some, option_and_then_some}
 use Rattle.ripemd_files.specs.Types.{Variant, Layout, Line}
 use Rattle.ripemd_files.specs.Lines.{is_blank, IsBlank, mark_of, IsLine, Says}
 use Rattle.ripemd_files.specs.Reading.{skip_blanks, strip_mark, found_at, digest_at, name_at, Said, said_by, said_of}

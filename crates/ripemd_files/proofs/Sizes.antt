@@ -1,7 +1,5 @@
 -- A digest has the length of its variant, and consists of bytes.
-use Rattle.std.proofs.Common.{◌≡◌, ◌⊎◌, ℕ, zero, suc, ◌+◌, ◌≤◌, List, [], ◌∷◌, ◌++◌, length, take, drop, Option, inl, inr, refl, sym, ◌∙◌, arith, slice_get, length-append, length-take, length-drop, length-set}
-use Rattle.std.specs.List.{fold}
-use Rattle.std.specs.Int.{to_le_bytes, w32}
+use Rattle.ripemd_block.proofs.Library.{◌≡◌, ◌⊎◌, ℕ, zero, suc, ◌+◌, ◌≤◌, List, [], ◌∷◌, ◌++◌, length, take, drop, Option, inl, inr, refl, sym, ◌∙◌, arith, slice_get, length-append, length-take, length-drop, length-set, fold, to_le_bytes, w32}
 use Rattle.hex.specs.Hex.{IsBytes}
 use Rattle.ripemd_block.specs.Standard.{word_bytes, Line, left_line, right_line, Lines, Parameters, compress, double_state, exchange, from_place, joint_state, lines_after, lines_from, registers_after, ripemd128, ripemd160, step, word_sums, blocks, hash, padded_message}
 use Rattle.ripemd_block.specs.Laws.WordBytes.{length-word_bytes}

@@ -1,7 +1,6 @@
 -- What is told, one thing after another.
-use Rattle.std.proofs.Common.{◌≡◌, ℕ, List, [], ◌++◌, Option, Some, None, refl, sym, ◌∙◌, append_assoc}
+use Rattle.ripemd_block.proofs.Library.{◌≡◌, ℕ, List, [], ◌++◌, Option, Some, None, refl, sym, ◌∙◌, append_assoc, append-nil, map-append}
 use Rattle.ripemd_files.specs.Types.{Error, Fault, Write, NoMemory, TooManyLines}
-use Rattle.std.proofs.lemmas.List.{append-nil, map-append}
 use Rattle.ripemd_files.specs.Said.{Adds, AddsFirst, Explains, Item, Pends, Stops, Tells, Told, written}
 
 adds_none : (old : Option (List Item)) → Adds old old []

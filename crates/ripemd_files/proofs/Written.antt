@@ -1,6 +1,5 @@
 -- A line that is written is a line of its digest and its name.
-use Rattle.std.proofs.Common.{◌≡◌, ◌≢◌, ◌⊎◌, ℕ, ◌*◌, Bool, List, [], ◌∷◌, ◌++◌, arith, refl, ap, ◌∙◌, inl, inr, codes}
-use Rattle.std.proofs.lemmas.Bool.Decides.{nat_tests}
+use Rattle.ripemd_block.proofs.Library.{◌≡◌, ◌≢◌, ◌⊎◌, ℕ, ◌*◌, Bool, List, [], ◌∷◌, ◌++◌, arith, refl, ap, ◌∙◌, inl, inr, codes, nat_tests}
 use Rattle.hex.specs.Hex.{encode_lower, lower_digits}
 use Rattle.hex.proofs.HexLemmas.{length-encode_with, decode_of-encode_lower}
 use Rattle.ripemd_files.specs.Types.{Variant, Form, Text, Binary, Tagged, Ending, Layout, Standard, Reversed}

@@ -1,8 +1,5 @@
 -- Two lists whose items belong together.
-use Rattle.std.proofs.Common.{◌≡◌, ℕ, ◌+◌, ◌<◌, ◌≤◌, List, [], ◌∷◌, ◌++◌, length, take, get_or, map, ap, ◌∙◌, arith, refl, zero, suc}
-use Rattle.std.proofs.lemmas.List.{take_more, length-map, get_or-map, length-take-le, take-take, take_all}
-use Rattle.std.proofs.lemmas.Slice.Zip.{AllZip-long, all_zipped_more}
-use Rattle.std.specs.List.{AllZip}
+use Rattle.ripemd_block.proofs.Library.{◌≡◌, ℕ, ◌+◌, ◌<◌, ◌≤◌, List, [], ◌∷◌, ◌++◌, length, take, get_or, map, ap, ◌∙◌, arith, refl, zero, suc, take_more, length-map, get_or-map, length-take-le, take-take, take_all, AllZip-long, all_zipped_more, AllZip}
 use Rattle.ripemd_files.specs.Files.{OfFirst}
 
 -- the first of the first of some items are the first of all

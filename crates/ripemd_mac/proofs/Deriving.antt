@@ -1,18 +1,6 @@
 -- The blocks of a derived key, one U after another, and how they lie in the key.
-use Rattle.std.proofs.Common.{◌≡◌, ℕ, zero, suc, ◌+◌, ◌-◌, ◌*◌, ◌<◌, ◌≤◌, inl, inr, min, arith, refl, ap, ap₂, sym, ◌∙◌, length-append, List, [], ◌∷◌, ◌++◌, length, map, replicate, take, drop, mul-le-mul_right}
+use Rattle.ripemd.proofs.Library.{◌≡◌, ℕ, zero, suc, ◌+◌, ◌-◌, ◌*◌, ◌<◌, ◌≤◌, inl, inr, min, arith, refl, ap, ap₂, sym, ◌∙◌, length-append, List, [], ◌∷◌, ◌++◌, length, map, replicate, take, drop, mul-le-mul_right, zip2, range_with_len, flat_map, fold, iterate, div_ceil, length-zip2, fold-append, map-range_with_len_more, cases_lt, div_ceil_times, flat_map-append, flat_map-map, append-nil, nil_from_length, take-append-le, length-take-le, take_all, length-drop, take-append_seam, take-append-add}
 use Rattle.std.specs.Int.Bits.{bit_xor}
-use Rattle.std.specs.Simd.Lanes.{zip2}
-use Rattle.std.specs.List.{range_with_len, flat_map, fold}
-use Rattle.std.specs.Fn.{iterate}
-use Rattle.std.specs.Int.{div_ceil}
-use lib.LanesLaws.{length-zip2}
-use Rattle.std.proofs.lemmas.List.Sums.{fold-append}
-use Rattle.std.proofs.lemmas.List.FromFn.{map-range_with_len_more}
-use Rattle.std.proofs.lemmas.Bool.{cases_lt}
-use Rattle.std.proofs.lemmas.Grind.{div_ceil_times, flat_map-append}
-use Rattle.std.proofs.lemmas.List.Folds.{flat_map-map}
-use Rattle.std.proofs.lemmas.List.{append-nil, nil_from_length, take-append-le, length-take-le, take_all, length-drop}
-use Rattle.std.proofs.Math.Seq.{take-append_seam, take-append-add}
 use Rattle.ripemd_mac.specs.Hmac.{filled}
 use Rattle.ripemd_mac.specs.Pbkdf2.{INT, U, F}
 

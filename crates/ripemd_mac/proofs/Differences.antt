@@ -1,8 +1,6 @@
 -- Bytes compared by the bitwise or of their differences.
-use Rattle.std.proofs.Common.{◌≡◌, ℕ, ◌+◌, ◌≤◌, ◌<◌, ◌↔◌, IsTrue, nat_eq, List, length, get_or, bit_or, ap, ◌∙◌, arith, rules, below_more}
-use Rattle.std.specs.Int.Bits.{bit_xor, xor_assoc, xor_self, xor_zero_l, xor_zero_r, or_zero_l}
-use Rattle.std.proofs.lemmas.List.{same_lists, get_or_default}
-use Rattle.std.proofs.lemmas.Nat.{le_or_l, le_or_r}
+use Rattle.ripemd.proofs.Library.{◌≡◌, ℕ, ◌+◌, ◌≤◌, ◌<◌, ◌↔◌, IsTrue, nat_eq, List, length, get_or, bit_or, ap, ◌∙◌, arith, rules, below_more, xor_assoc, xor_self, xor_zero_l, xor_zero_r, or_zero_l, same_lists, get_or_default, le_or_l, le_or_r}
+use Rattle.std.specs.Int.Bits.{bit_xor}
 
 -- they agree at the places before this one
 abbrev pub AgreeTo : ℕ → List ℕ → List ℕ → Type 0

@@ -1,9 +1,5 @@
 -- What collisions of the inner and of the outer messages say of the texts.
-use Rattle.std.proofs.Common.{◌≡◌, ◌≢◌, ◌⊎◌, ◌↔◌, ℕ, sym, ap, refl, rules, ◌∙◌, arith, List, ◌++◌, Option, None, Some, Result, Ok, Err, true, false, IsErr, OnErr, IsNone, IfSome, IsSomeAnd, MatchOption}
-use Rattle.std.proofs.lemmas.List.{append_cancel_left}
-use Rattle.std.proofs.lemmas.Bool.{false≢true}
-use Rattle.std.proofs.lemmas.Slice.Eq.{bytes_eq-Decides}
-use Rattle.std.specs.Str.{bytes_eq}
+use Rattle.ripemd.proofs.Library.{◌≡◌, ◌≢◌, ◌⊎◌, ◌↔◌, ℕ, sym, ap, refl, rules, ◌∙◌, arith, List, ◌++◌, Option, None, Some, Result, Ok, Err, true, false, IsErr, OnErr, IsNone, IfSome, IsSomeAnd, MatchOption, append_cancel_left, false≢true, bytes_eq-Decides, bytes_eq}
 use Rattle.ripemd.specs.Collisions.{IsCollision, IsOnlyCollision}
 use Rattle.ripemd.specs.Types.{Collision}
 use Rattle.ripemd_mac.specs.declared.reduction.MacCollision.{MacCollision}

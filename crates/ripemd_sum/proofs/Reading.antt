@@ -1,7 +1,5 @@
 -- What a reader gave so far, call by call; and hashers, which begin with nothing.
-use Rattle.std.proofs.Common.{◌≡◌, ℕ, ◌+◌, ◌≤◌, Option, List, ◌++◌, length, take, length-append, Result, Ok, Err, IfOk, arith, length-take-le}
-use Rattle.std.specs.Io.KnownBytes.{Consumes}
-use Rattle.std.proofs.KnownBytes.{Consumes-trans}
+use Rattle.ripemd.proofs.Library.{◌≡◌, ℕ, ◌+◌, ◌≤◌, Option, List, ◌++◌, length, take, length-append, Result, Ok, Err, IfOk, arith, length-take-le, Consumes, Consumes-trans}
 use Rattle.ripemd_sum.specs.Types.{Tracked}
 use Rattle.ripemd_sum.specs.Track.{inner_of, taken_of}
 use Rattle.ripemd_sum.specs.Runs.{Gives}

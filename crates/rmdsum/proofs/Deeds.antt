@@ -1,7 +1,5 @@
 -- Deeds of a run, one after another.
-use Rattle.std.proofs.Common.{◌≡◌, ◌≢◌, ◌<◌, ◌+◌, ℕ, Bool, true, false, ◌&&◌, List, [], ◌∷◌, ◌++◌, length, take, get_or, map, Option, Some, None, vec_items, Global, refl, inl, inr, sym, append_assoc, arith, Vec, is_none}
-use Rattle.std.proofs.Math.Bool.{and-true}
-use Rattle.std.proofs.lemmas.List.{append-nil, map-append, take_more}
+use Rattle.ripemd_files.proofs.Library.{◌≡◌, ◌≢◌, ◌<◌, ◌+◌, ℕ, Bool, true, false, ◌&&◌, List, [], ◌∷◌, ◌++◌, length, take, get_or, map, Option, Some, None, vec_items, Global, refl, inl, inr, sym, append_assoc, arith, Vec, is_none, and-true, append-nil, map-append, take_more}
 use Rattle.ripemd_files.specs.Types.{Variant, Rules, Style, Options}
 use Rattle.rmdsum.specs.Types.{Wrong, NameSource, Run, Work, Check, Print}
 use Rattle.ripemd_files.specs.Said.{Adds}

@@ -1,10 +1,9 @@
 -- The names that a file has, as they are read.
-use Rattle.std.proofs.Common.{inl, inr, ◌≡◌, ℕ, ◌+◌, arith, length, List, [], ◌∷◌, ◌++◌, Option, Some, None, refl, subst, map, vec_items, Global, append_assoc, IfOk, OnOk, Result, Ok, Err, Vec}
+use Rattle.ripemd_files.proofs.Library.{inl, inr, ◌≡◌, ℕ, ◌+◌, arith, length, List, [], ◌∷◌, ◌++◌, Option, Some, None, refl, subst, map, vec_items, Global, append_assoc, IfOk, OnOk, Result, Ok, Err, Vec, length-append, map-append}
 use Rattle.rmdsum.specs.Types.{Entry, Unread, Empty, Input}
 use Rattle.rmdsum.specs.declared.names.Entry.TheVariants as entries
 use Rattle.rmdsum.specs.Names.{MayHave, NextName, IsEntry, IsNamed, Stays, Follow}
 use Rattle.ripemd_files.specs.Types.{Fault}
-use Rattle.std.proofs.lemmas.List.{length-append, map-append}
 
 stays : (old : Option (List ℕ)) → Stays old old
 stays None = tt

@@ -1,6 +1,5 @@
 -- What arguments say, one after another.
-use Rattle.std.proofs.Common.{List, [], Result, Ok, Err, IsErr, append_assoc, arith, IfOk, MatchResult, reverse}
-use Rattle.std.proofs.lemmas.List.{append-nil, reverse-append}
+use Rattle.ripemd_files.proofs.Library.{List, [], Result, Ok, Err, IsErr, append_assoc, arith, IfOk, MatchResult, reverse, append-nil, reverse-append}
 use Rattle.rmdsum.specs.Types.{Next, Stop, Misuse, Request, Settings}
 use Rattle.rmdsum.specs.Words.{Said}
 use Rattle.rmdsum.specs.Asked.{Asks, Holds, IsRefused}

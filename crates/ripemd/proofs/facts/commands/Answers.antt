@@ -1,4 +1,4 @@
-use Rattle.std.proofs.Common.{◌≡◌, ℕ, zero, suc, List, [], ◌∷◌, take, Some, refl, arith}
+use Rattle.ripemd_block.proofs.Library.{◌≡◌, ℕ, zero, suc, List, [], ◌∷◌, take, Some, refl, arith}
 use Rattle.std.specs.List.{slice_get}
 use Rattle.ripemd_block.specs.States.{HashState}
 use Rattle.ripemd.specs.Types.{Command, New, Load}

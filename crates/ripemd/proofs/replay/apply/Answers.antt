@@ -1,5 +1,4 @@
-use Rattle.std.proofs.Common.{refl, sym, ◌∙◌, ap, arith}
-use Rattle.std.proofs.lemmas.Result.{IfOk-at_ok}
+use Rattle.ripemd_block.proofs.Library.{refl, sym, ◌∙◌, ap, arith, IfOk-at_ok}
 use Rattle.ripemd_block.specs.States.{initial_state, finish}
 use Rattle.ripemd_block.specs.Laws.Pieces.{fed_twice}
 use Rattle.ripemd.specs.Replay.{from_state, imported}

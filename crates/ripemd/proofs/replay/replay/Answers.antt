@@ -1,5 +1,4 @@
-use Rattle.std.proofs.Common.{get_or}
-use Rattle.std.proofs.lemmas.List.{take_more}
+use Rattle.ripemd_block.proofs.Library.{get_or, take_more}
 use Rattle.ripemd.specs.Types.{New}
 use Rattle.ripemd.proofs.Replaying.{runs_more}
 use Rattle.ripemd.proofs.replay.replay.Goals as goal

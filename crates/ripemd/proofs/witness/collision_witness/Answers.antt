@@ -1,5 +1,4 @@
-use Rattle.std.proofs.Common.{◌≡◌, ◌≢◌, ◌+◌, ◌-◌, length, inr, refl, arith, sym, ap, ◌∙◌}
-use Rattle.std.proofs.lemmas.Bool.{false≢true}
+use Rattle.ripemd_block.proofs.Library.{◌≡◌, ◌≢◌, ◌+◌, ◌-◌, length, inr, refl, arith, sym, ap, ◌∙◌, false≢true}
 use Rattle.ripemd_block.specs.Standard.{padded_message, blocks, hash}
 use Rattle.ripemd.proofs.LastDifference.{state_met, state_at_end, found_before, found_now}
 use Rattle.ripemd.proofs.LastDifference.{one_end, none_found, some_found, only_found}

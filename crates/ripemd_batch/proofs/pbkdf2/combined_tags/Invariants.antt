@@ -1,6 +1,5 @@
 -- The last tags, and the exclusive or of all so far.
-use Rattle.std.proofs.Common.{◌≡◌, ℕ, ◌<◌, ◌-◌}
-use Rattle.std.specs.Fn.{iterate}
+use Rattle.ripemd_block.proofs.Library.{◌≡◌, ℕ, ◌<◌, ◌-◌, iterate}
 use Rattle.ripemd_batch.specs.Pbkdf2.{combined_tags, tag_after}
 use Rattle.ripemd_batch.proofs.pbkdf2.combined_tags.Given as goal
 

@@ -1,5 +1,4 @@
-use Rattle.std.proofs.Common.{◌≡◌, ℕ, ◌+◌, ◌-◌, List, length}
-use Rattle.std.specs.Fn.{iterate}
+use Rattle.ripemd_block.proofs.Library.{◌≡◌, ℕ, ◌+◌, ◌-◌, List, length, iterate}
 use Rattle.ripemd_mac.proofs.Deriving.{combined_filled, length-combined}
 use Rattle.ripemd_batch.specs.Pbkdf2.{combined_tags, tag_after}
 use Rattle.ripemd_batch.proofs.Chaining.{next_tag, next_combined}

@@ -1,6 +1,5 @@
 -- The last tag, and the exclusive or of all so far, filled with zeros.
-use Rattle.std.proofs.Common.{◌≡◌, ◌-◌, length}
-use Rattle.std.specs.Fn.{iterate}
+use Rattle.ripemd_block.proofs.Library.{◌≡◌, ◌-◌, length, iterate}
 use Rattle.ripemd_mac.specs.Hmac.{filled}
 use Rattle.ripemd_batch.specs.Pbkdf2.{combined_tags, tag_after}
 use Rattle.ripemd_batch.proofs.pbkdf2.one_by_one.Given as goal

@@ -1,5 +1,4 @@
-use Rattle.std.proofs.Common.{◌≡◌, ℕ, ◌+◌, ◌-◌, ◌*◌, ◌≤◌, List, ◌++◌, length, ap, sym, ◌∙◌, arith, mul-le-mul_left}
-use Rattle.std.specs.List.{range_with_len, flat_map}
+use Rattle.ripemd_block.proofs.Library.{◌≡◌, ℕ, ◌+◌, ◌-◌, ◌*◌, ◌≤◌, List, ◌++◌, length, ap, sym, ◌∙◌, arith, mul-le-mul_left, range_with_len, flat_map}
 use Rattle.ripemd_block.specs.Standard.{hash}
 use Rattle.ripemd_mac.specs.Hmac.{hmac}
 use Rattle.ripemd_mac.specs.Pbkdf2.{pbkdf2}

@@ -1,6 +1,5 @@
 -- The keys so far are written, and the group has the first blocks of the next one.
-use Rattle.std.proofs.Common.{◌≡◌, ◌*◌, length, take}
-use Rattle.std.specs.List.{range_with_len, flat_map}
+use Rattle.ripemd_block.proofs.Library.{◌≡◌, ◌*◌, length, take, range_with_len, flat_map}
 use Rattle.ripemd_block.specs.Standard.{hash}
 use Rattle.ripemd_mac.specs.Hmac.{hmac}
 use Rattle.ripemd_mac.specs.Pbkdf2.{pbkdf2}

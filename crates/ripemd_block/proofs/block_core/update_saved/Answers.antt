@@ -1,5 +1,4 @@
-use Rattle.std.proofs.Common.{◌≡◌, ℕ, ◌+◌, ◌%◌, ◌^◌, List, ◌++◌, length, rules, sym, ap, ◌∙◌, arith}
-use Rattle.std.proofs.lemmas.List.{nil_from_length}
+use Rattle.ripemd_block.proofs.Library.{◌≡◌, ℕ, ◌+◌, ◌%◌, ◌^◌, List, ◌++◌, length, rules, sym, ap, ◌∙◌, arith, nil_from_length}
 use Rattle.ripemd_block.specs.Standard.{eight_bytes, walk}
 use Rattle.ripemd_block.specs.States.{HashState, IsHashState, output_and_count}
 use Rattle.ripemd_block.specs.Laws.Saved.{eight_bytes_injective, output_parts}

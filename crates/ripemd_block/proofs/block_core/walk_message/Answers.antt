@@ -1,5 +1,4 @@
-use Rattle.std.proofs.Common.{◌≡◌, ℕ, ◌+◌, ◌*◌, ◌%◌, ◌^◌, List, length, arith, ap, ◌∙◌, refl}
-use Rattle.std.proofs.lemmas.List.Sums.{fold-append}
+use Rattle.ripemd_block.proofs.Library.{◌≡◌, ℕ, ◌+◌, ◌*◌, ◌%◌, ◌^◌, List, length, arith, ap, ◌∙◌, refl, fold-append}
 use Rattle.ripemd_block.specs.Standard.{blocks, partial_block, walk, with_padding}
 use Rattle.ripemd_block.specs.OverLists.{walk_over_lists}
 use Rattle.ripemd_block.specs.Laws.Pieces.{with_padding_rest}

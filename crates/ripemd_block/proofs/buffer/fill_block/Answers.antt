@@ -1,5 +1,4 @@
-use Rattle.std.proofs.Common.{◌≡◌, ◌+◌, ◌-◌, ◌≤◌, ◌++◌, length, length-append, take, drop, arith}
-use Rattle.std.proofs.lemmas.List.{length-take-le, length-drop, take-append-le}
+use Rattle.ripemd_block.proofs.Library.{◌≡◌, ◌+◌, ◌-◌, ◌≤◌, ◌++◌, length, length-append, take, drop, arith, length-take-le, length-drop, take-append-le}
 use Rattle.ripemd_block.proofs.Absorbing.{filled_block, blocks_filled, left_over_filled}
 use Rattle.ripemd_block.proofs.buffer.fill_block.Goals as goal
 

@@ -1,6 +1,4 @@
-use Rattle.std.proofs.Common.{◌*◌, ◌∙◌, refl, arith, w8}
-use Rattle.std.specs.Simd.Lanes.{chunk}
-use Rattle.std.proofs.lemmas.Simd.{chunk-fits, below_from_Fits, get_or_wider}
+use Rattle.ripemd_block.proofs.Library.{◌*◌, ◌∙◌, refl, arith, w8, chunk, chunk-fits, below_from_Fits, get_or_wider}
 use Rattle.ripemd_block.proofs.Reading.{word_in_chunk}
 use Rattle.ripemd_block.proofs.message.four_words.Goals as goal
 

@@ -1,6 +1,5 @@
-use Rattle.std.proofs.Common.{◌≡◌, ℕ, ◌*◌, ◌∙◌, length, ap, arith, w32, Fits, take_all}
-use Rattle.std.proofs.lemmas.Simd.{Each1-from_get_or, below_from_Fits}
-use lib.Lanes.{digits_l, number_l}
+use Rattle.ripemd_block.proofs.Library.{◌≡◌, ℕ, ◌*◌, ◌∙◌, length, ap, arith, Fits, take_all, Each1-from_get_or, below_from_Fits, digits_l, number_l}
+use Rattle.std.proofs.Common.{w32}
 use Rattle.ripemd_block.proofs.Writing.{words_narrowed}
 use Rattle.ripemd_block.proofs.padding.block_of.Goals as goal
 

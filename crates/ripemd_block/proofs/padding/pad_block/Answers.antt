@@ -1,5 +1,4 @@
-use Rattle.std.proofs.Common.{arith, sym, ◌∙◌, length, ap, []}
-use Rattle.std.proofs.lemmas.Option.{slice_get-get_or, slice_get_past}
+use Rattle.ripemd_block.proofs.Library.{arith, sym, ◌∙◌, length, ap, [], slice_get-get_or, slice_get_past}
 use Rattle.ripemd_block.proofs.PaddedBlocks.{last_block}
 use Rattle.ripemd_block.proofs.padding.pad_block.Goals as goal
 

@@ -1,5 +1,4 @@
-use Rattle.std.proofs.Common.{arith, refl}
-use Rattle.std.proofs.lemmas.List.{append-nil, drop_all, drop-drop}
+use Rattle.ripemd_block.proofs.Library.{arith, refl, append-nil, drop_all, drop-drop}
 use Rattle.ripemd_block.proofs.padding.write_length.Goals as goal
 
 pub returns : goal.returns

@@ -1,6 +1,4 @@
-use Rattle.std.proofs.Common.{◌≡◌, refl, sym, ◌∙◌, ap, add-one, arith}
-use Rattle.std.proofs.Common.{ℕ, suc, List, Option, Some, None, slice_get}
-use Rattle.std.proofs.lemmas.Option.{slice_get_read, slice_get_past}
+use Rattle.ripemd_block.proofs.Library.{◌≡◌, refl, sym, ◌∙◌, ap, add-one, arith, ℕ, suc, List, Option, Some, None, slice_get, slice_get_read, slice_get_past}
 use Rattle.ripemd_block.specs.Standard.{left_line, right_line, exchange, round, lines_after}
 use Rattle.ripemd_block.specs.Code.Lines.{both_lines, message_words}
 use Rattle.ripemd_block.proofs.Stepping.{AfterRounds, next_round}

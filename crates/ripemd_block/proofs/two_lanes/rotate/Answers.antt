@@ -1,5 +1,4 @@
-use Rattle.std.proofs.Common.{◌<◌, arith}
-use Rattle.std.proofs.lemmas.Simd.{Each2-of, Each1-from_get_or}
+use Rattle.ripemd_block.proofs.Library.{◌<◌, arith, Each2-of, Each1-from_get_or}
 use Rattle.ripemd_block.proofs.two_lanes.rotate.Goals as goal
 
 pub overflow_shl-result : goal.overflow_shl-result

@@ -1,7 +1,4 @@
-use Rattle.std.proofs.Common.{◌≡◌, ℕ, zero, suc, ◌+◌, ◌-◌, List, ◌∷◌, ◌++◌, map, arith, refl, sym, ap, ap₂, ◌∙◌}
-use Rattle.std.proofs.lemmas.Grind.{flat_map-append}
-use Rattle.std.proofs.lemmas.List.{map-append}
-use Rattle.std.specs.List.{flat_map, range_with_len}
+use Rattle.ripemd_block.proofs.Library.{◌≡◌, ℕ, zero, suc, ◌+◌, ◌-◌, List, ◌∷◌, ◌++◌, map, arith, refl, sym, ap, ap₂, ◌∙◌, flat_map-append, map-append, flat_map, range_with_len}
 use Rattle.ripemd_batch.specs.Lanes.{made_by}
 use Rattle.ripemd_c.specs.Records.{record_at}
 use Rattle.ripemd_c.proofs.each.+write_records.Goals as goal

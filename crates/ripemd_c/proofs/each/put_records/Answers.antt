@@ -1,8 +1,5 @@
-use Rattle.std.proofs.Common.{ℕ, ◌+◌, List, [], ◌∷◌, ◌++◌, length, take, arith, refl, sym, ap, ◌∙◌}
-use Rattle.std.proofs.lemmas.List.{length-map, map-set, take_all, take_more, take_more_set}
-use Rattle.std.proofs.lemmas.List.FromFn.{length-range_with_len, get_or-map-range_with_len}
+use Rattle.ripemd_block.proofs.Library.{ℕ, ◌+◌, List, [], ◌∷◌, ◌++◌, length, take, arith, refl, sym, ap, ◌∙◌, length-map, map-set, take_all, take_more, take_more_set, length-range_with_len, get_or-map-range_with_len, range_with_len}
 use Rattle.std.specs.Borrow.{Bor}
-use Rattle.std.specs.List.{range_with_len}
 use Rattle.ripemd_batch.specs.Lanes.{targets}
 use Rattle.ripemd_c.specs.Records.{record_at, records}
 use Rattle.ripemd_c.proofs.each.put_records.Goals as goal

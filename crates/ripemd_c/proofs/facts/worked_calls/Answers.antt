@@ -1,5 +1,4 @@
-use Rattle.std.proofs.Common.{◌≡◌, ℕ, ◌*◌, List, [], Some, Bool, IsTrue, length, get_or, refl, rules, arith, ◌∙◌}
-use Rattle.std.proofs.lemmas.List.FromFn.{length-range_with_len}
+use Rattle.ripemd_block.proofs.Library.{◌≡◌, ℕ, ◌*◌, List, [], Some, Bool, IsTrue, length, get_or, refl, rules, arith, ◌∙◌, length-range_with_len}
 use Rattle.ripemd.specs.Published.{hexadecimal}
 use Rattle.ripemd.specs.Standard.{Parameters, ripemd128, ripemd160, ripemd256, ripemd320, registers_after, lines_after, compress, with_padding, blocks, hash, ripemd}
 use Rattle.ripemd.specs.States.{new_state}

@@ -1,5 +1,4 @@
-use Rattle.std.proofs.Common.{◌≡◌, ◌+◌, ◌-◌, [], ◌++◌, length, take, drop, ap, arith, refl, sym, ◌∙◌}
-use Rattle.std.proofs.lemmas.List.{append-nil, drop_all, length-drop, nil_from_length, take_all, take_at}
+use Rattle.ripemd_block.proofs.Library.{◌≡◌, ◌+◌, ◌-◌, [], ◌++◌, length, take, drop, ap, arith, refl, sym, ◌∙◌, append-nil, drop_all, length-drop, nil_from_length, take_all, take_at}
 use Rattle.ripemd_block.specs.Standard.{blocks, partial_block}
 use Rattle.ripemd_block.specs.States.{HashState, IsHashState, after_blocks, fed, output_and_count, with_tail}
 use Rattle.ripemd_block.specs.Laws.Saved.{length-output_and_count}

@@ -1,5 +1,4 @@
-use Rattle.std.proofs.Common.{◌≡◌, ◌+◌, ◌-◌, ◌<◌, ◌∙◌, ◌∷◌, ◌++◌, length, take, drop, refl, ap, arith, length-append, append_assoc, length-drop, take_at}
-use Rattle.std.proofs.lemmas.List.Elements.{All-append}
+use Rattle.ripemd_block.proofs.Library.{◌≡◌, ◌+◌, ◌-◌, ◌<◌, ◌∙◌, ◌∷◌, ◌++◌, length, take, drop, refl, ap, arith, length-append, append_assoc, length-drop, take_at, All-append}
 use Rattle.ripemd_block.specs.Laws.Pieces.{fed_short}
 use Rattle.ripemd_c.proofs.KeptBytes.{both_kept, kept_parts, with_valid}
 use Rattle.ripemd_c.proofs.kept.append_kept.Goals as goal

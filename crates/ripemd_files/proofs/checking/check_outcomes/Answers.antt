@@ -1,6 +1,4 @@
-use Rattle.std.proofs.Common.{rules, arith, sym}
-use Rattle.std.proofs.lemmas.Result.{IfErr-weaker, IfOk-weaker}
-use Rattle.std.proofs.lemmas.Slice.Zip.{AllZip-long}
+use Rattle.ripemd_block.proofs.Library.{rules, arith, sym, IfErr-weaker, IfOk-weaker, AllZip-long}
 use Rattle.ripemd_files.proofs.Checked.{counts_more, counts_none, event_at}
 use Rattle.ripemd_files.proofs.InTurn.{each_written, first_next, first_unwritten, so_far_next, so_far_none}
 use Rattle.ripemd_files.proofs.checking.check_outcomes.Goals as goal

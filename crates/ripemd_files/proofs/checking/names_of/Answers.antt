@@ -1,5 +1,4 @@
-use Rattle.std.proofs.Common.{rules, arith, sym}
-use Rattle.std.proofs.lemmas.List.{map-append, take_all}
+use Rattle.ripemd_block.proofs.Library.{rules, arith, sym, map-append, take_all}
 use Rattle.ripemd_files.proofs.Zips.{all_first, all_zip_next}
 use Rattle.ripemd_files.proofs.Checked.{named_till}
 use Rattle.ripemd_files.proofs.checking.names_of.Goals as goal

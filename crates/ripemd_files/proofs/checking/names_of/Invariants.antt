@@ -1,5 +1,4 @@
-use Rattle.std.proofs.Common.{take}
-use Rattle.std.specs.List.{AllZip}
+use Rattle.ripemd_block.proofs.Library.{take, AllZip}
 use Rattle.ripemd_batch.specs.Lanes.{targets}
 use Rattle.ripemd_files.specs.Checking.{IsNamed}
 use Rattle.ripemd_files.proofs.checking.names_of.Given as goal

@@ -1,5 +1,4 @@
-use Rattle.std.proofs.Common.{rules}
-use Rattle.std.proofs.KnownBytes.{Consumes-trans}
+use Rattle.ripemd_block.proofs.Library.{rules, Consumes-trans}
 use Rattle.ripemd_files.proofs.Pieces.{written_behind}
 use Rattle.ripemd_files.proofs.digests.fill.Goals as goal
 

@@ -1,5 +1,4 @@
-use Rattle.std.proofs.Common.{◌≡◌, ◌≤◌, ◌-◌, length, take}
-use Rattle.std.specs.Io.KnownBytes.{Consumes}
+use Rattle.ripemd_block.proofs.Library.{◌≡◌, ◌≤◌, ◌-◌, length, take, Consumes}
 use Rattle.ripemd_files.proofs.digests.fill.Given as goal
 
 abbrev pub invariant-loop-count : goal.invariant-loop-count

@@ -1,7 +1,4 @@
-use Rattle.std.proofs.Common.{rules, arith, length, ◌≡◌}
-use Rattle.std.proofs.lemmas.Iterator.Adapters.{YieldsList-from_vec}
-use Rattle.std.proofs.lemmas.Iterator.Consumers.{YieldsList-turn}
-use Rattle.std.proofs.lemmas.Slice.Zip.{AllZip-long, all_zipped_more}
+use Rattle.ripemd_block.proofs.Library.{rules, arith, length, ◌≡◌, YieldsList-from_vec, YieldsList-turn, AllZip-long, all_zipped_more}
 use Rattle.ripemd_files.proofs.Zips.{same_at, same_length}
 use Rattle.ripemd_files.proofs.digests.outcomes_of.Goals as goal
 

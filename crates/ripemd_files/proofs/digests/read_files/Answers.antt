@@ -1,5 +1,4 @@
-use Rattle.std.proofs.Common.{rules, arith, ◌+◌}
-use Rattle.std.proofs.lemmas.List.{length-map, take_all}
+use Rattle.ripemd_block.proofs.Library.{rules, arith, ◌+◌, length-map, take_all}
 use Rattle.ripemd_batch.specs.Lanes.{targets}
 use Rattle.ripemd_files.proofs.Zips.{all_first, all_zip_map_next, first_of}
 use Rattle.ripemd_files.proofs.digests.read_files.Goals as goal

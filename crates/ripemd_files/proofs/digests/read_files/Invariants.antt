@@ -1,7 +1,6 @@
-use Rattle.std.proofs.Common.{◌<◌, take, length}
+use Rattle.ripemd_block.proofs.Library.{◌<◌, take, length, AllZip}
 use Rattle.ripemd_block.specs.Standard.{hash}
 use Rattle.ripemd_batch.specs.Lanes.{targets}
-use Rattle.std.specs.List.{AllZip}
 use Rattle.ripemd_files.specs.Contents.{IsContent}
 use Rattle.ripemd_files.proofs.digests.read_files.Given as goal
 

@@ -1,5 +1,4 @@
-use Rattle.std.proofs.Common.{◌<◌, sym, ◌∙◌, ap, length, arith, rules}
-use Rattle.std.proofs.lemmas.Result.{IfOk-at_ok}
+use Rattle.ripemd_block.proofs.Library.{◌<◌, sym, ◌∙◌, ap, length, arith, rules, IfOk-at_ok}
 use Rattle.ripemd_files.proofs.Cutting.{read_whole, read_last}
 use Rattle.ripemd_files.proofs.piece.read_piece.Goals as goal
 

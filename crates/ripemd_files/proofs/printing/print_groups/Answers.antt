@@ -1,5 +1,4 @@
-use Rattle.std.proofs.Common.{rules, arith, ◌∙◌}
-use Rattle.std.proofs.lemmas.List.{drop-map, take-map}
+use Rattle.ripemd_block.proofs.Library.{rules, arith, ◌∙◌, drop-map, take-map}
 use Rattle.ripemd_files.proofs.InTurn.{each_none, each_on, first_all, first_on}
 use Rattle.ripemd_files.proofs.Printed.{first_from, prints_after, read_more, read_none}
 use Rattle.ripemd_files.proofs.printing.print_groups.Goals as goal

@@ -1,6 +1,4 @@
-use Rattle.std.proofs.Common.{rules, arith, ◌<◌, length}
-use Rattle.std.proofs.lemmas.List.{get_or-map, length-map}
-use Rattle.std.proofs.lemmas.Slice.Zip.{AllZip-long}
+use Rattle.ripemd_block.proofs.Library.{rules, arith, ◌<◌, length, get_or-map, length-map, AllZip-long}
 use Rattle.ripemd_batch.specs.Lanes.{targets}
 use Rattle.ripemd_files.proofs.InTurn.{each_written, first_next, first_unwritten, so_far_next, so_far_none}
 use Rattle.ripemd_files.proofs.Printed.{read_more, read_none, read_one, reading_at}

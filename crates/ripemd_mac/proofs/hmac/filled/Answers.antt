@@ -1,5 +1,4 @@
-use Rattle.std.proofs.Common.{ℕ, length, refl}
-use Rattle.std.proofs.lemmas.List.{drop-replicate}
+use Rattle.ripemd.proofs.Library.{ℕ, length, refl, drop-replicate}
 use Rattle.ripemd_mac.proofs.hmac.filled.Goals as goal
 
 pub returns : goal.returns

@@ -1,5 +1,4 @@
-use Rattle.std.proofs.Common.{length, ap, ◌∙◌, arith}
-use Rattle.std.proofs.lemmas.Bool.{lt-leb, le-leb}
+use Rattle.ripemd.proofs.Library.{length, ap, ◌∙◌, arith, lt-leb, le-leb}
 use Rattle.ripemd_mac.specs.Hmac.{filled, key_block}
 use Rattle.ripemd_mac.proofs.hmac.key_block.Goals as goal
 

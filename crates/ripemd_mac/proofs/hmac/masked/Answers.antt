@@ -1,7 +1,5 @@
-use Rattle.std.proofs.Common.{ℕ, ◌<◌, arith, get_or, length, rules}
+use Rattle.ripemd.proofs.Library.{ℕ, ◌<◌, arith, get_or, length, rules, get_or_default, map_over_more}
 use Rattle.std.specs.Int.Bits.{bit_xor}
-use Rattle.std.proofs.lemmas.List.{get_or_default}
-use Rattle.std.proofs.lemmas.List.Edits.{map_over_more}
 use Rattle.ripemd_mac.proofs.hmac.masked.Goals as goal
 
 pub loop-byte-preserved : goal.loop-byte-preserved

@@ -1,6 +1,4 @@
-use Rattle.std.proofs.Common.{◌≡◌, ℕ, ◌+◌, ◌-◌, ◌*◌, ◌<◌, min, length, drop, refl, ap, sym, ◌∙◌, arith, rules, take}
-use Rattle.std.proofs.lemmas.List.{length-take-le, length-drop, nil_from_length}
-use Rattle.std.specs.Int.{div_ceil}
+use Rattle.ripemd.proofs.Library.{◌≡◌, ℕ, ◌+◌, ◌-◌, ◌*◌, ◌<◌, min, length, drop, refl, ap, sym, ◌∙◌, arith, rules, take, length-take-le, length-drop, nil_from_length, div_ceil}
 use Rattle.ripemd_mac.specs.Pbkdf2.{pbkdf2}
 use Rattle.ripemd_mac.proofs.Deriving.{all_written, block_begins, none_written, one_more}
 use Rattle.ripemd_mac.proofs.pbkdf2.pbkdf2_hmac.Goals as goal

@@ -1,5 +1,4 @@
-use Rattle.std.proofs.Common.{◌∙◌, sym, rules}
-use Rattle.std.proofs.lemmas.Bool.{false≢true}
+use Rattle.ripemd.proofs.Library.{◌∙◌, sym, rules, false≢true}
 use Rattle.ripemd_mac.proofs.MacReduction.{compared, no_memory, inner_answer, outer_answer}
 use Rattle.ripemd_mac.proofs.reduction.mac_collision.Goals as goal
 

@@ -1,5 +1,4 @@
-use Rattle.std.proofs.Common.{◌≡◌, ◌<◌, ◌≤◌, List, [], ◌∷◌, length, map, get_or, codes, Some, string_bytes, sym, ◌∙◌, refl, arith}
-use Rattle.std.proofs.lemmas.Slice.Eq.{bytes_eq-Decides}
+use Rattle.ripemd.proofs.Library.{◌≡◌, ◌<◌, ◌≤◌, List, [], ◌∷◌, length, map, get_or, codes, Some, string_bytes, sym, ◌∙◌, refl, arith, bytes_eq-Decides}
 use Rattle.ripemd_sum.proofs.arguments.choose_mac.Goals as goal
 
 map-three : {X Y : Type 0} (f : X → Y) (xs : List X) {a b c : X} → 3 ≤ length xs → length xs < 4

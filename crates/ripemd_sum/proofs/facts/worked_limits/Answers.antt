@@ -1,5 +1,4 @@
-use Rattle.std.proofs.Common.{rules, ◌≡◌, true, arith, refl}
-use Rattle.std.proofs.lemmas.List.Elements.{All-replicate}
+use Rattle.ripemd.proofs.Library.{rules, ◌≡◌, true, arith, refl, All-replicate}
 use Rattle.hex.specs.Hex.{is_hex_digit}
 use Rattle.ripemd_sum.proofs.facts.worked_limits.Goals as goal
 

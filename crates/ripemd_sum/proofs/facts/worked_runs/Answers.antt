@@ -1,5 +1,4 @@
-use Rattle.std.proofs.Common.{rules, ℕ, ◌<◌, ◌≤◌, [], Bool, true, false, replicate, refl, arith}
-use Rattle.std.proofs.lemmas.List.{length-replicate}
+use Rattle.ripemd.proofs.Library.{rules, ℕ, ◌<◌, ◌≤◌, [], Bool, true, false, replicate, refl, arith, length-replicate}
 use Rattle.ripemd_sum.specs.Runs.{Gives}
 use Rattle.ripemd_sum.specs.Worked.{Fails, Exceeds, tracked, unknown}
 use Rattle.ripemd_sum.proofs.facts.worked_runs.Goals as goal

@@ -1,6 +1,5 @@
 -- The sum is that of the bytes so far.
-use Rattle.std.proofs.Common.{◌≡◌, ◌+◌, ◌%◌, take}
-use Rattle.std.specs.List.{fold}
+use Rattle.ripemd_block.proofs.Library.{◌≡◌, ◌+◌, ◌%◌, take, fold}
 use Rattle.ripemd_tests.proofs.bytes.sum_from.Given as goal
 
 abbrev pub invariant-loop-byte : goal.invariant-loop-byte

@@ -1,5 +1,4 @@
-use Rattle.std.proofs.Common.{ℕ, refl, sym, ◌∙◌, arith, List, [], ◌∷◌, ◌++◌, Bor, map-id}
-use Rattle.std.proofs.lemmas.Result.{IfOk-weaker, IfErr-weaker}
+use Rattle.ripemd_block.proofs.Library.{ℕ, refl, sym, ◌∙◌, arith, List, [], ◌∷◌, ◌++◌, Bor, map-id, IfOk-weaker, IfErr-weaker}
 use Rattle.ripemd.specs.Standard.{word_bytes, ripemd160, compress, ripemd}
 use Rattle.ripemd.specs.States.{IsState, hasher_bytes}
 use Rattle.ripemd.specs.Types.{Command, New, Update, Fork, Finish}

@@ -1,5 +1,4 @@
-use Rattle.std.proofs.Common.{refl}
-use Rattle.std.specs.Fmt.{digits}
+use Rattle.ripemd_files.proofs.Library.{refl, digits}
 use Rattle.rmdsum.proofs.facts.named_lengths.Goals as goal
 
 pub returns : goal.returns

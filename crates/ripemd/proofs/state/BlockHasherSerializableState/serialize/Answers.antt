@@ -1,5 +1,4 @@
-use Rattle.std.proofs.Common.{◌≡◌, ◌+◌, ◌-◌, ℕ, length, arith}
-use Rattle.std.proofs.lemmas.List.{drop-replicate}
+use Rattle.ripemd_block.proofs.Library.{◌≡◌, ◌+◌, ◌-◌, ℕ, length, arith, drop-replicate}
 use Rattle.ripemd_block.specs.States.{with_tail, output_and_count}
 use Rattle.ripemd_block.specs.Laws.Saved.{core_and_tail-split}
 use Rattle.ripemd.proofs.state.BlockHasherSerializableState.serialize.Goals as goal

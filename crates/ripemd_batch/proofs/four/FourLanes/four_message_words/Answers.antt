@@ -1,5 +1,4 @@
-use Rattle.std.proofs.Common.{◌≡◌, ℕ, ◌+◌, ◌*◌, List, [], ◌∷◌, slice_index, ap, refl, ◌∙◌, arith}
-use Rattle.std.proofs.lemmas.List.{get_or_default}
+use Rattle.ripemd_block.proofs.Library.{◌≡◌, ℕ, ◌+◌, ◌*◌, List, [], ◌∷◌, slice_index, ap, refl, ◌∙◌, arith, get_or_default}
 use Rattle.ripemd_block.specs.Standard.{message_word}
 use Rattle.ripemd_batch.specs.Lanes.{list_at, targets}
 use Rattle.ripemd_batch.proofs.EightLanes.{below_four}

@@ -1,5 +1,4 @@
-use Rattle.std.proofs.Common.{◌≡◌, List, ℕ, length, zero-add, refl, ap, ◌∙◌}
-use Rattle.std.proofs.Math.Path.{fun_ext}
+use Rattle.ripemd_block.proofs.Library.{◌≡◌, List, ℕ, length, zero-add, refl, ap, ◌∙◌, fun_ext}
 use Rattle.ripemd_block.specs.Standard.{hash}
 use Rattle.ripemd_batch.specs.Lanes.{hash_after}
 use Rattle.ripemd_batch.proofs.lists.ListHasher.new.Goals as goal

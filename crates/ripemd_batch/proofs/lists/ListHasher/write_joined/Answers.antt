@@ -1,5 +1,5 @@
-use Rattle.std.proofs.Common.{ℕ, List, length, sym, ap, ◌∙◌, flat_map}
-use Rattle.std.proofs.lemmas.List.Folds.{flat_map-map}
+use Rattle.ripemd_block.proofs.Library.{ℕ, List, length, sym, ap, ◌∙◌, flat_map-map}
+use Rattle.std.proofs.Common.{flat_map}
 use Rattle.ripemd_batch.specs.Lanes.{made_by, targets}
 use Rattle.ripemd_batch.proofs.Chunks.{joined_chunks}
 use Rattle.ripemd_batch.proofs.lists.ListHasher.write_joined.Goals as goal

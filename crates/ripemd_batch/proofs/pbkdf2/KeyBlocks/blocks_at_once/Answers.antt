@@ -1,5 +1,4 @@
-use Rattle.std.proofs.Common.{◌≡◌, ℕ, ◌+◌, ◌<◌, ◌≤◌, ◌⊎◌, inl, inr, ap, arith, rules, ◌∙◌}
-use Rattle.std.proofs.lemmas.Bool.{cases_lt}
+use Rattle.ripemd_block.proofs.Library.{◌≡◌, ℕ, ◌+◌, ◌<◌, ◌≤◌, ◌⊎◌, inl, inr, ap, arith, rules, ◌∙◌, cases_lt}
 use Rattle.ripemd_block.specs.Standard.{hash}
 use Rattle.ripemd_mac.specs.Hmac.{hmac}
 use Rattle.ripemd_batch.specs.Pbkdf2.{KeyList, block_at, combined_tags, tag_after}

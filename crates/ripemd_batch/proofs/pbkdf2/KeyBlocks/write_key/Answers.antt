@@ -1,5 +1,4 @@
-use Rattle.std.proofs.Common.{◌≡◌, ℕ, ◌+◌, ◌-◌, ◌*◌, ◌%◌, ◌<◌, min, List, length, take, drop, length-take-le, length-drop, ap, sym, ◌∙◌, arith, rules, subst}
-use Rattle.std.specs.Int.{div_ceil}
+use Rattle.ripemd_block.proofs.Library.{◌≡◌, ℕ, ◌+◌, ◌-◌, ◌*◌, ◌%◌, ◌<◌, min, List, length, take, drop, length-take-le, length-drop, ap, sym, ◌∙◌, arith, rules, subst, div_ceil}
 use Rattle.ripemd_block.specs.Standard.{hash}
 use Rattle.ripemd_mac.specs.Hmac.{hmac}
 use Rattle.ripemd_mac.specs.Pbkdf2.{F, pbkdf2}

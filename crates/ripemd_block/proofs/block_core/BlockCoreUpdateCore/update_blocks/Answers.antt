@@ -1,5 +1,4 @@
-use Rattle.std.proofs.Common.{◌≡◌, length, refl, rules}
-use Rattle.std.proofs.lemmas.List.{nil_from_length}
+use Rattle.ripemd_block.proofs.Library.{◌≡◌, length, refl, rules, nil_from_length}
 use Rattle.ripemd_block.specs.OverLists.{walk_over_lists}
 use Rattle.ripemd_block.proofs.block_core.BlockCoreUpdateCore.update_blocks.Goals as goal
 use Rattle.ripemd_block.proofs.block_core.BlockCoreUpdateCore.update_blocks.Goals.{then-not-is_empty, else-not-is_empty}

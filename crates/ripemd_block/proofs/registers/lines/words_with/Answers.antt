@@ -1,5 +1,4 @@
-use Rattle.std.proofs.Common.{refl}
-use Rattle.std.proofs.lemmas.Simd.{zip2_splat}
+use Rattle.ripemd_block.proofs.Library.{refl, zip2_splat}
 use Rattle.ripemd_block.specs.Standard.{◌⊞◌}
 use Rattle.ripemd_block.specs.Code.Lines.{message_words, words_with}
 use Rattle.ripemd_block.proofs.registers.lines.words_with.Goals as goal

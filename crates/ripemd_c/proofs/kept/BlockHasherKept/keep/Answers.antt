@@ -1,5 +1,4 @@
-use Rattle.std.proofs.Common.{◌≡◌, ◌+◌, ◌-◌, ◌∙◌, [], ◌++◌, ap, sym, length, drop, arith}
-use Rattle.std.proofs.lemmas.List.{append-nil, drop_all, length-drop}
+use Rattle.ripemd_block.proofs.Library.{◌≡◌, ◌+◌, ◌-◌, ◌∙◌, [], ◌++◌, ap, sym, length, drop, arith, append-nil, drop_all, length-drop}
 use Rattle.ripemd.specs.States.{core_and_tail}
 use Rattle.ripemd_c.proofs.KeptBytes.{both_kept}
 use Rattle.ripemd_c.proofs.kept.BlockHasherKept.keep.Goals as goal
