@@ -3,8 +3,7 @@
 //! Two messages are hashed side by side, the one with more blocks ahead, so that both end together. If they end in one
 //! state, the last place where their states or their blocks differ is a collision of the block function.
 
-ghost use Rattle.std.specs.Prelude.{◌≡◌, ◌≢◌, ◌<◌, ◌≤◌, ◌^◌, ◌↔◌, ◌⊎◌, IsTrue, IsNone, IfSome};
-ghost use Rattle.std.specs.Prelude.{[], length, take, slice_index_or};
+ghost use Rattle.std.specs.Prelude.{◌≡◌, ◌≢◌, ◌<◌, ◌≤◌, ◌^◌, ◌↔◌, ◌⊎◌, IsTrue, IsNone, IfSome, [], length, take, slice_index_or};
 ghost use Rattle.ripemd_block.specs.Standard.{padded_message, blocks, walk, hash};
 ghost use Rattle.ripemd.specs.Collisions.{pair_of, state_after, IsCollision, IsOnlyCollision};
 

@@ -1,7 +1,6 @@
 //! Groups of at most eight messages, and the hash functions that can hash them at once.
 
-ghost use Rattle.std.specs.Prelude.{◌≡◌, ℕ, ◌+◌, ◌-◌, ◌*◌, ◌^◌, ◌<◌, ◌≤◌, min, true, false};
-ghost use Rattle.std.specs.Prelude.{length, map, replicate, slice_index, slice_index_or, [], refl};
+ghost use Rattle.std.specs.Prelude.{◌≡◌, ℕ, ◌+◌, ◌-◌, ◌*◌, ◌^◌, ◌<◌, ◌≤◌, min, true, false, length, map, replicate, slice_index, slice_index_or, [], refl};
 ghost use Rattle.std.proofs.Common.{arith};
 ghost use Rattle.ripemd_block.specs.Standard.{block_size, blocks};
 ghost use Rattle.ripemd_batch.specs.Lanes.{HasWords, blocks_of, hash_after, hashed_again, list_at, listed, padded_after, targets};

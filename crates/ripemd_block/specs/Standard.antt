@@ -7,7 +7,9 @@ pub mod Words
 pub mod Schedule
 pub mod Compression
 pub mod Hashing
-unfoldable pub use Words.*
-unfoldable pub use Schedule.*
-unfoldable pub use Compression.*
-unfoldable pub use Hashing.*
+pub use Words.{◌⊞◌, rol, block_size, message_word, word_bytes, eight_bytes}
+pub use Schedule.{rho, pi, rotations, rotation, root_from, whole_root, prime, square_root_constant, cube_root_constant, f0, f1, f2, f3, f4, boolean_function, Line, left_line, right_line}
+pub use Compression.{Parameters, start_words, second_start_words, word_sums, from_place, joint_state, double_state, ripemd128, ripemd160, ripemd256, ripemd320, step, round, Lines, exchange, lines_from}
+unfoldable pub use Compression.{registers_after, lines_after, compress}
+pub use Hashing.{length_place, zero_count, padded_message, walk, ripemd}
+unfoldable pub use Hashing.{with_padding, blocks, partial_block, hash}

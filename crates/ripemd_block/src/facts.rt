@@ -1,13 +1,9 @@
 //! Facts of the definitions, published values and laws, as contracts of functions that do nothing.
 
-ghost use Rattle.std.specs.Prelude.{◌≡◌, ℕ, ◌+◌, ◌-◌, ◌*◌, ◌%◌, ◌^◌, ◌<◌, List, [], ◌++◌, length, drop};
-ghost use Rattle.std.specs.Prelude.{slice_index_or};
+ghost use Rattle.std.specs.Prelude.{◌≡◌, ℕ, ◌+◌, ◌-◌, ◌*◌, ◌%◌, ◌^◌, ◌<◌, List, [], ◌++◌, length, drop, slice_index_or};
 ghost use Rattle.ripemd_block.specs.Standard.{block_size, word_bytes, eight_bytes, Parameters, compress, ripemd128, ripemd160, ripemd256, ripemd320, length_place, zero_count, padded_message, blocks, hash, ripemd};
-ghost use Rattle.ripemd_block.specs.States.{HashState, AreWords};
-ghost use Rattle.ripemd_block.specs.States.{initial_state, new_state, fed, finish};
-ghost use Rattle.ripemd_block.specs.Published.{DigestsOfEmpty, DigestsOfAbc, DigestsOfTwoBlocks, DigestsOfDigits};
-ghost use Rattle.ripemd_block.specs.Published.{OrderOfLeftLine, OrderOfRightLine, ConstantsOfLines, AreWholeRoots};
-ghost use Rattle.ripemd_block.specs.Published.{SavedCores, SavedHasher, SavedBlockAndTail, EndsOfLongMessages, StatesThatOccur};
+ghost use Rattle.ripemd_block.specs.States.{HashState, AreWords, initial_state, new_state, fed, finish};
+ghost use Rattle.ripemd_block.specs.Published.{DigestsOfEmpty, DigestsOfAbc, DigestsOfTwoBlocks, DigestsOfDigits, OrderOfLeftLine, OrderOfRightLine, ConstantsOfLines, AreWholeRoots, SavedCores, SavedHasher, SavedBlockAndTail, EndsOfLongMessages, StatesThatOccur};
 
 /// In each of the four variants, the definitions give the published digests of the empty message, of "abc", of a
 /// message of 56 bytes, whose padding needs a second block, and of "1234567890" eight times.

@@ -7,8 +7,7 @@ ghost use Rattle.std.specs.List.{flat_map};
 ghost use Rattle.ripemd.specs.Standard.{hash};
 ghost use Rattle.ripemd_mac.specs.Hmac.{hmac};
 ghost use Rattle.ripemd_batch.specs.Lanes.{made_by, targets};
-ghost use Rattle.ripemd_c.specs.Records.{FillsEach, FillsList, record_at, records};
-ghost use Rattle.ripemd_c.specs.Records.{WritesDigests, WritesEachDigest, WritesEachTag, WritesTags};
+ghost use Rattle.ripemd_c.specs.Records.{FillsEach, FillsList, record_at, records, WritesDigests, WritesEachDigest, WritesEachTag, WritesTags};
 
 use ripemd::block_api::ByteArray;
 use ripemd::digest::OutputSizeUser;

@@ -2,8 +2,7 @@
 
 ghost use Rattle.std.specs.Prelude.{◌≡◌, [], ◌∷◌, ◌++◌, replicate};
 ghost use Rattle.ripemd_c.specs.Records.{records};
-ghost use Rattle.ripemd_c.specs.Worked.{WorkedDigests, WorkedHmacStates, WorkedKept, WorkedKeyLists, WorkedKeys};
-ghost use Rattle.ripemd_c.specs.Worked.{WorkedLists, WorkedStates, WorkedTags};
+ghost use Rattle.ripemd_c.specs.Worked.{WorkedDigests, WorkedHmacStates, WorkedKept, WorkedKeyLists, WorkedKeys, WorkedLists, WorkedStates, WorkedTags};
 
 /// Digests, tags and keys: what is written, and what is refused.
 pub fn worked_calls()

@@ -3,8 +3,7 @@
 ghost use Rattle.std.specs.Prelude.{◌≡◌, ◌↔◌, length, IsTrue};
 ghost use Rattle.ripemd.specs.Standard.{hash};
 ghost use Rattle.ripemd_mac.specs.Hmac.{StandsFor, hmac};
-ghost use Rattle.ripemd_c.specs.KeptStates.{FinalizesHmac, InitsHmac, LoadsHmac, SavesHmac};
-ghost use Rattle.ripemd_c.specs.KeptStates.{UpdatesHmac, VerifiesHmac, bits_of_hmac};
+ghost use Rattle.ripemd_c.specs.KeptStates.{FinalizesHmac, InitsHmac, LoadsHmac, SavesHmac, UpdatesHmac, VerifiesHmac, bits_of_hmac};
 ghost use Rattle.ripemd_c.specs.Variants.{VerifiesTag, Writes, WritesTag};
 
 use crate::states::{final_kept, init_kept, load_saved, save_kept, update_kept, verify_kept};

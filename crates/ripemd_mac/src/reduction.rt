@@ -1,7 +1,6 @@
 //! From two texts with the same tag under one key to a collision of the block function.
 
-ghost use Rattle.std.specs.Prelude.{◌≡◌, ◌≢◌, ◌+◌, ◌-◌, ◌<◌, ◌^◌, ◌↔◌, ◌⊎◌};
-ghost use Rattle.std.specs.Prelude.{◌++◌, length, IsNone, IfOk, IfSome, OnErr};
+ghost use Rattle.std.specs.Prelude.{◌≡◌, ◌≢◌, ◌+◌, ◌-◌, ◌<◌, ◌^◌, ◌↔◌, ◌⊎◌, ◌++◌, length, IsNone, IfOk, IfSome, OnErr};
 ghost use Rattle.ripemd.specs.Standard.{hash};
 ghost use Rattle.ripemd.specs.Collisions.{IsCollision, IsOnlyCollision};
 ghost use Rattle.ripemd.specs.Types.{Collision};

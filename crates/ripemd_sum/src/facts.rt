@@ -3,8 +3,7 @@
 ghost use Rattle.std.specs.Prelude.{◌≡◌};
 ghost use Rattle.ripemd_sum.specs.Types.{Error};
 ghost use Rattle.ripemd_sum.specs.Runs.{most_bytes, most_bytes_under_a_key};
-ghost use Rattle.ripemd_sum.specs.Worked.{LinesOfAbc, LineOfATag, LinesOfErrors, AskForDigests, AskForTags, AskForNothing, LengthsOfKeys};
-ghost use Rattle.ripemd_sum.specs.Worked.{RunsToTheEnd, RunsThatStop, Writings, WorkedErrors};
+ghost use Rattle.ripemd_sum.specs.Worked.{LinesOfAbc, LineOfATag, LinesOfErrors, AskForDigests, AskForTags, AskForNothing, LengthsOfKeys, RunsToTheEnd, RunsThatStop, Writings, WorkedErrors};
 
 /// The lines of published digests of each variant, of a published tag, and of the errors.
 pub fn worked_lines()

@@ -1,4 +1,5 @@
-use Rattle.ripemd_block.proofs.Library.{◌-◌, ◌^◌, ◌<◌, rules, refl, arith, All-nil, All-replicate}
+use Rattle.std.proofs.Common.{◌-◌, ◌^◌, ◌<◌, rules, refl, arith}
+use Rattle.std.proofs.lemmas.List.Elements.{All-nil, All-replicate}
 use Rattle.ripemd_block.proofs.facts.states.Goals as goal
 
 pub returns : goal.returns
