@@ -12,7 +12,7 @@ pub use Rattle.std.proofs.lemmas.Iterator.Adapters.{YieldsList-from_vec}
 pub use Rattle.std.proofs.lemmas.Iterator.Consumers.{YieldsList-turn}
 pub use Rattle.std.proofs.lemmas.List.{append_cancel_left, drop-map, drop-replicate, drop-take, drop_all, drop_more, get_or-append_right, get_or-map, get_or_append_left, get_or_at, get_or_default, length-map, length-replicate, map-append, map-set, nil_from_length, replicate-append-replicate, reverse-append, same_lists, set_at, take-append-le, take-map, take-replicate, take-take, take_min, take_more, take_more_set, take_rest}
 pub use Rattle.std.proofs.lemmas.List.Edits.{map_over_more}
-pub use Rattle.std.proofs.lemmas.List.Elements.{All-append, All-get_or, All-nil, All-push, All-replicate, All-weaker}
+pub use Rattle.std.proofs.lemmas.List.Elements.{All-append, All-get_or, All-push, All-replicate, All-weaker}
 pub use Rattle.std.proofs.lemmas.List.Folds.{flat_map-map, list_all-append, list_any-append, list_any_at, list_any_none}
 pub use Rattle.std.proofs.lemmas.List.FromFn.{fill_by_all, get_or-map-range_with_len, length-map-range_with_len, length-range_with_len, map-range_with_len_more}
 pub use Rattle.std.proofs.lemmas.List.Sums.{AllPass-from_list_all, fold-append, fold_more, list_all-from_AllPass}

@@ -129,7 +129,7 @@ fn write_list<D: BatchDigest>(
     true
 }
 
-fn is_product(len: usize, count: usize, size: usize) -> bool
+pub(crate) fn is_product(len: usize, count: usize, size: usize) -> bool
     ensures { IsTrue result ↔ (len ≡ count * size) }
 {
     count.checked_mul(size) == Some(len)

@@ -4,6 +4,7 @@ ghost use Rattle.ripemd.specs.Standard.{hash};
 ghost use Rattle.ripemd_batch.specs.Lanes.{targets};
 ghost use Rattle.ripemd_c.specs.Pbkdf2.{DerivesKey, DerivesKeys, FillsKey, FillsKeys};
 
+use crate::each::is_product;
 use ripemd::{Ripemd128, Ripemd160, Ripemd256, Ripemd320};
 use ripemd_batch::{BatchDigest, pbkdf2_hmac, pbkdf2_hmac_each};
 
@@ -59,10 +60,7 @@ fn derive_keys<D: BatchDigest>(
     ensures { FillsKeys (hash D.start D.step D.output) D.OUTPUT_SIZE (targets passwords.now) (targets salts.now)
         rounds size keys.old keys.new result }
 {
-    let room = size.checked_mul(passwords.len());
-    if salts.len() == passwords.len() && room == Some(keys.len()) {
-        pbkdf2_hmac_each::<D>(passwords, salts, rounds, size, keys).is_ok()
-    } else {
-        false
-    }
+    salts.len() == passwords.len()
+        && is_product(keys.len(), size, passwords.len())
+        && pbkdf2_hmac_each::<D>(passwords, salts, rounds, size, keys).is_ok()
 }

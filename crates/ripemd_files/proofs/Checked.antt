@@ -57,7 +57,7 @@ pub event_at : {File : Type 0} (place : Place File) (ignore_missing : Bool) (lin
 event_at place ignore_missing lines outcomes read k line outcome within is_line is_outcome verdict is =
     let comes : IsOutcomeOf place line outcome =
     rw (← is_line, ← is_outcome) at
-        (all_zip_at (IsOutcomeOf place) lines outcomes k line outcome read (omega (arith, AllZip-long _ _ _ read, within))) in
+    (all_zip_at (IsOutcomeOf place) lines outcomes k line outcome read (omega (arith, AllZip-long _ _ _ read, within))) in
     (outcome, comes, ap (checked line.name.items) is)
 
 -- nothing of a list yet

@@ -24,9 +24,11 @@ pub reading_at : {File : Type 0} (place : Place File) (style : Style) (names : L
     → AllZip (ComesTo place (ripemd (parameters_of style.variant))) names outcomes → (k : ℕ) (name : List ℕ) (outcome : Outcome)
     → k < length outcomes → get_or names k name ≡ name → outcome ≡ get_or outcomes k outcome
     → IsReading place style name (record { name = name; outcome = outcome })
-reading_at place style names outcomes read k name outcome within is_name is_outcome =
-    (refl, rw (is_name, ← is_outcome) at
-        (all_zip_at (ComesTo place (ripemd (parameters_of style.variant))) names outcomes k name outcome read (omega (arith, within, AllZip-long _ _ _ read))))
+reading_at place style names outcomes read k name outcome within is_name is_outcome = (
+  refl,
+  rw (is_name, ← is_outcome) at
+      (all_zip_at (ComesTo place (ripemd (parameters_of style.variant))) names outcomes k name outcome read (omega (arith, within, AllZip-long _ _ _ read))),
+)
 
 -- files after others
 pub prints_after : {File : Type 0} (place : Place File) (style : Style) (names : List (List ℕ)) (old new : Told) (all more : Bool)

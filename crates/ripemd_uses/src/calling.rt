@@ -47,7 +47,6 @@ pub fn has_digest(message: &[u8], expected: &[u8; 20]) -> bool
     Ripemd160::digest(message) == *expected
 }
 
-
 /// The digest of a prefix and then a message, by any hash function.
 pub fn prefixed_digest<D: Digest>(prefix: &[u8], message: &[u8]) -> D::Output
     ensures { D.bytes_of result ≡ hash D.start D.step D.output (prefix.now ++ message.now) }

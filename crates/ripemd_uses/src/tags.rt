@@ -26,7 +26,6 @@ pub fn has_tag(key: &[u8], text: &[u8], tag: &[u8]) -> bool
     mac.verify(tag)
 }
 
-
 use ripemd::digest::BlockDigest;
 
 /// Whether a text has the tag that came with it, by any hash function.
