@@ -9,18 +9,15 @@
 #include <sys/mman.h>
 #include <unistd.h>
 
-#include "nattizhu.h"
+#include "calls.h"
 
 // The most messages of a list. tests/test_c.py takes fewer where a checker makes all of it slow.
 #ifndef MOST
 #define MOST 300
 #endif
 
-enum { VARIANTS = 4, LONGEST = 400, MESSAGE = 200, PAIRS = 130, MAX = NATTIZHU_MAX_SIZE };
+enum { LONGEST = 400, MESSAGE = 200, PAIRS = 130, MAX = NATTIZHU_MAX_SIZE };
 enum { STATE_SIZE = NATTIZHU_STATE_SIZE, HMAC_STATE_SIZE = NATTIZHU_HMAC_STATE_SIZE };
-
-static const nattizhu_variant ALL[VARIANTS] = {NATTIZHU_RIPEMD128, NATTIZHU_RIPEMD160,
-                                               NATTIZHU_RIPEMD256, NATTIZHU_RIPEMD320};
 
 // The variant that is tried, and the bytes of its digests.
 static nattizhu_variant v;
@@ -56,13 +53,6 @@ static void make_rooms(void) {
   }
 }
 
-static bool all_are(const uint8_t *bytes, size_t length, uint8_t value) {
-  for (size_t i = 0; i < length; i++)
-    if (bytes[i] != value)
-      return false;
-  return true;
-}
-
 // So many bytes of a room, against the page behind it or in front of it.
 static uint8_t *in_room(int room, size_t length) {
   return at_end ? rooms[room] + room_size - length : length ? rooms[room] : NULL;
@@ -96,43 +86,9 @@ static bool holds(int room, const void *bytes, size_t length) {
 
 // ---- the calls that write digests, tags or keys
 
-enum { DIGEST, EACH, LISTED, HMAC, HMAC_EACH, HMAC_LISTED, PBKDF2, PBKDF2_LISTED, CALLS };
-static const char *const NAMES[CALLS] = {"a digest", "digests of records", "digests of a list",
-                                         "a tag",    "tags of records",    "tags of a list",
-                                         "a key",    "keys of a list"};
-
-// What these read: a key or a password; a message, a text, records or a salt; lists.
-typedef struct {
-  const uint8_t *key, *bytes;
-  size_t key_length, length, record;
-  const nattizhu_message *list, *salts;
-  size_t count, salt_count;
-  uint32_t rounds;
-} input;
-
-static bool call(int kind, nattizhu_variant variant, const input *in, uint8_t *out, size_t length) {
-  switch (kind) {
-  case DIGEST:
-    return nattizhu_digest(variant, in->bytes, in->length, out, length);
-  case EACH:
-    return nattizhu_each(variant, in->bytes, in->length, in->record, out, length);
-  case LISTED:
-    return nattizhu_list(variant, in->list, in->count, out, length);
-  case HMAC:
-    return nattizhu_hmac(variant, in->key, in->key_length, in->bytes, in->length, out, length);
-  case HMAC_EACH:
-    return nattizhu_hmac_each(variant, in->key, in->key_length, in->bytes, in->length, in->record,
-                              out, length);
-  case HMAC_LISTED:
-    return nattizhu_hmac_list(variant, in->key, in->key_length, in->list, in->count, out, length);
-  case PBKDF2:
-    return nattizhu_pbkdf2(variant, in->key, in->key_length, in->bytes, in->length, in->rounds, out,
-                           length);
-  default:
-    return nattizhu_pbkdf2_list(variant, in->list, in->count, in->salts, in->salt_count, in->rounds,
-                                in->record, out, length);
-  }
-}
+static const char *const NAMES[CALLS] = {
+    "a digest", "digests of records", "digests of a list", "a key",
+    "a tag",    "tags of records",    "tags of a list",    "keys of a list"};
 
 // A call has to write these bytes; or, if they are null, to refuse and to write nothing. What it
 // reads stays, of which it has copies.
@@ -163,11 +119,6 @@ static size_t from_hex(const char *digits, uint8_t *bytes) {
   for (size_t i = 0; i < length; i++)
     sscanf(digits + 2 * i, "%2hhx", &bytes[i]);
   return length;
-}
-
-static input inputs(const uint8_t *key, size_t key_length, const uint8_t *bytes, size_t length) {
-  const input in = {key, bytes, key_length, length, 0, NULL, NULL, 0, 0, 1};
-  return in;
 }
 
 // Messages of unlike lengths, one behind the other in a room. Empty ones are null or at an unmapped
@@ -274,33 +225,7 @@ static void try_overlaps(void) {
 
 // ---- messages in pieces, and states: of hash functions, or of HMAC where they are keyed
 
-static const size_t STATE_SIZES[] = {NATTIZHU_STATE_SIZE, NATTIZHU_HMAC_STATE_SIZE};
 enum { MOST_SAVED = NATTIZHU_HMAC_SAVED_SIZE(NATTIZHU_MAX_SIZE) };
-
-static size_t saved_size(int keyed, size_t digest) {
-  return keyed ? NATTIZHU_HMAC_SAVED_SIZE(digest) : NATTIZHU_SAVED_SIZE(digest);
-}
-
-static bool update(int keyed, uint8_t *state, const uint8_t *bytes, size_t length) {
-  return keyed ? nattizhu_hmac_update((nattizhu_hmac_state *)(void *)state, bytes, length)
-               : nattizhu_update((nattizhu_state *)(void *)state, bytes, length);
-}
-
-static bool end(int keyed, const uint8_t *state, uint8_t *out, size_t length) {
-  return keyed ? nattizhu_hmac_final((const nattizhu_hmac_state *)(const void *)state, out, length)
-               : nattizhu_final((const nattizhu_state *)(const void *)state, out, length);
-}
-
-static bool save(int keyed, const uint8_t *state, uint8_t *saved, size_t length) {
-  return keyed ? nattizhu_hmac_save((const nattizhu_hmac_state *)(const void *)state, saved, length)
-               : nattizhu_save((const nattizhu_state *)(const void *)state, saved, length);
-}
-
-static bool load(nattizhu_variant variant, int keyed, uint8_t *state, const uint8_t *saved,
-                 size_t length) {
-  return keyed ? nattizhu_hmac_load(variant, (nattizhu_hmac_state *)(void *)state, saved, length)
-               : nattizhu_load(variant, (nattizhu_state *)(void *)state, saved, length);
-}
 
 // The rules of docs/C.md: whether bytes are a state, and which of them mean something then.
 static bool is_state(int keyed, const uint8_t *bytes, bool means[HMAC_STATE_SIZE]) {
@@ -588,15 +513,9 @@ static void try_states(void) {
     for (int keyed = 0; keyed < 2; keyed++) {
       const size_t all = saved_size(keyed, size);
       uint8_t bytes[HMAC_STATE_SIZE] = {0}, saved[HMAC_STATE_SIZE] = {0}, tag[MAX] = {0};
-      nattizhu_state state;
-      nattizhu_hmac_state hmac;
-      memset(&state, 0, sizeof state);
-      memset(&hmac, 0, sizeof hmac);
-      check(nattizhu_init(v, &state) && nattizhu_update(&state, ramp, length) &&
-                nattizhu_hmac_init(v, &hmac, ramp, 20) &&
-                nattizhu_hmac_update(&hmac, ramp, length) && nattizhu_hmac_final(&hmac, tag, size),
-            "states to change", length);
-      memcpy(bytes, keyed ? hmac.bytes : state.bytes, STATE_SIZES[keyed]);
+      check(begin(v, keyed, bytes, ramp, 20) && update(keyed, bytes, ramp, length) &&
+                end(keyed, bytes, tag, size),
+            "a state to change", length);
       check(save(keyed, bytes, saved, all), "a state to load", length);
       for (size_t at = 0; at < HMAC_STATE_SIZE; at++)
         for (int i = 0; i < (at ? 5 : 256); i++) {
@@ -684,8 +603,8 @@ static void try_nulls(void) {
                                         1 << LIST | 1 << MESSAGES,
                                         1 << KEY | 1 << BYTES,
                                         1 << KEY | 1 << BYTES,
-                                        1 << KEY | 1 << LIST | 1 << MESSAGES,
                                         1 << KEY | 1 << BYTES,
+                                        1 << KEY | 1 << LIST | 1 << MESSAGES,
                                         1 << LIST | 1 << MESSAGES | 1 << SALTS | 1 << SALT_BYTES};
   static nattizhu_message list[129], salts[129];
   const nattizhu_message last = {ramp, 9}, wrong = {NULL, 1};
@@ -729,16 +648,14 @@ static void try_nulls_and_states(void) {
   for (int keyed = 0; keyed < 2; keyed++) {
     const size_t all = STATE_SIZES[keyed], length = saved_size(keyed, size);
     uint8_t *state = output(STATE, all);
-    check((keyed ? nattizhu_hmac_init(v, (nattizhu_hmac_state *)(void *)state, ramp, 20)
-                 : nattizhu_init(v, (nattizhu_state *)(void *)state)) &&
-              update(keyed, state, ramp, 70) && end(keyed, state, tag, size),
+    check(begin(v, keyed, state, ramp, 20) && update(keyed, state, ramp, 70) &&
+              end(keyed, state, tag, size),
           "a state", 0);
     uint8_t kept[HMAC_STATE_SIZE];
     memcpy(kept, state, all);
     check(!update(keyed, state, NULL, 1) && !update(keyed, state, NULL, 64) &&
               !end(keyed, state, NULL, size) && !save(keyed, state, NULL, length) &&
-              !load(v, keyed, state, NULL, length) &&
-              !(keyed && nattizhu_hmac_init(v, (nattizhu_hmac_state *)(void *)state, NULL, 1)) &&
+              !load(v, keyed, state, NULL, length) && !(keyed && begin(v, keyed, state, NULL, 1)) &&
               holds(STATE, kept, all),
           "a null pointer and a state", (size_t)keyed);
   }

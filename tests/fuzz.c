@@ -2,13 +2,11 @@
 // lengths and counts. What a call reads and writes lies in memory of just that size, which the
 // sanitizers watch. A call answers true exactly if what it was given fits, and otherwise writes
 // nothing.
-#include <stdbool.h>
-#include <stdint.h>
 #include <stdio.h>
 #include <stdlib.h>
 #include <string.h>
 
-#include "nattizhu.h"
+#include "calls.h"
 
 #define MUST(fact)                                                                                 \
   do                                                                                               \
@@ -19,10 +17,10 @@
   while (0)
 
 // What is left of the input.
-static const uint8_t *input;
+static const uint8_t *next;
 static size_t left;
 
-static uint8_t byte(void) { return left ? left--, *input++ : 0; }
+static uint8_t byte(void) { return left ? left--, *next++ : 0; }
 
 // Mostly a small number.
 static size_t number(void) {
@@ -37,9 +35,7 @@ static size_t number(void) {
 
 // The variant of a number: one of the four, unless the number is large.
 static nattizhu_variant variant_of(size_t number) {
-  static const nattizhu_variant all[] = {NATTIZHU_RIPEMD128, NATTIZHU_RIPEMD160, NATTIZHU_RIPEMD256,
-                                         NATTIZHU_RIPEMD320};
-  return number < 200 ? all[number % 4] : (nattizhu_variant)number;
+  return number < 200 ? ALL[number % VARIANTS] : (nattizhu_variant)number;
 }
 
 // Memory of just so many bytes, all `value`.
@@ -48,12 +44,6 @@ static uint8_t *filled(size_t length, uint8_t value) {
   MUST(bytes);
   memset(bytes, value, length);
   return bytes;
-}
-
-static bool all_are(const uint8_t *bytes, size_t length, uint8_t value) {
-  while (length && bytes[length - 1] == value)
-    length--;
-  return !length;
 }
 
 // Bytes of the input, a few of them again and again.
@@ -102,59 +92,50 @@ static size_t output_length(size_t fitting) {
 static uint8_t *or_null(uint8_t *bytes) { return byte() < 200 ? bytes : NULL; }
 
 // The calls that write digests, tags and keys. They refuse null pointers whose length is not 0.
-static void try_outputs(unsigned kind, nattizhu_variant v) {
+static void try_outputs(int kind, nattizhu_variant v) {
   const piece key = take(), bytes = take();
   const list messages = parts(bytes), salts = parts(key);
   const size_t size = nattizhu_digest_size(v), record = number(), rounds = byte() % 3;
   const size_t salt_count = byte() % 2 ? messages.count : salts.count;
   const nattizhu_message *salt = salt_count == salts.count ? salts.messages : messages.messages;
   const size_t outputs[] = {size, (record ? bytes.length / record : 3) * size,
-                            messages.count * size, kind == 3 ? number() : messages.count * record};
+                            messages.count * size,
+                            kind == PBKDF2 ? number() : messages.count * record};
   const size_t length = output_length(outputs[kind % 4]);
   uint8_t *room = filled(length, 7), *out = or_null(room);
   const uint8_t *const k = or_null(key.bytes), *const b = or_null(bytes.bytes);
+  input in = inputs(k, key.length, b, bytes.length);
+  in.record = record, in.rounds = (uint32_t)rounds;
+  in.list = messages.messages, in.count = messages.count;
+  in.salts = salt, in.salt_count = salt_count;
   const bool has_key = k || !key.length, has_bytes = b || !bytes.length;
-  bool fits = size != 0 && (out || !length), done = false;
+  bool fits = size != 0 && (out || !length) && (has_key || kind < PBKDF2 || kind == PBKDF2_LISTED);
   switch (kind) {
-  case 0:
+  case DIGEST:
+  case HMAC:
     fits = fits && has_bytes && length == size;
-    done = nattizhu_digest(v, b, bytes.length, out, length);
     break;
-  case 1:
+  case EACH:
+  case HMAC_EACH:
     fits =
         fits && has_bytes && length % size == 0 && is_product(bytes.length, length / size, record);
-    done = nattizhu_each(v, b, bytes.length, record, out, length);
     break;
-  case 2:
+  case LISTED:
+  case HMAC_LISTED:
     fits = fits && length == messages.count * size;
-    done = nattizhu_list(v, messages.messages, messages.count, out, length);
     break;
-  case 3:
-    fits = fits && has_key && has_bytes && rounds;
-    done = nattizhu_pbkdf2(v, k, key.length, b, bytes.length, (uint32_t)rounds, out, length);
-    break;
-  case 4:
-    fits = fits && has_key && has_bytes && length == size;
-    done = nattizhu_hmac(v, k, key.length, b, bytes.length, out, length);
-    MUST(nattizhu_hmac_verify_text(v, k, key.length, b, bytes.length, out, length) == done);
-    break;
-  case 5:
-    fits = fits && has_key && has_bytes && length % size == 0 &&
-           is_product(bytes.length, length / size, record);
-    done = nattizhu_hmac_each(v, k, key.length, b, bytes.length, record, out, length);
-    break;
-  case 6:
-    fits = fits && has_key && length == messages.count * size;
-    done = nattizhu_hmac_list(v, k, key.length, messages.messages, messages.count, out, length);
+  case PBKDF2:
+    fits = fits && has_bytes && rounds;
     break;
   default:
     fits = fits && rounds && salt_count == messages.count &&
            is_product(length, messages.count, record) && record <= UINT32_MAX * size;
-    done = nattizhu_pbkdf2_list(v, messages.messages, messages.count, salt, salt_count,
-                                (uint32_t)rounds, record, out, length);
   }
+  const bool done = call(kind, v, &in, out, length);
   MUST(done == fits);
   MUST(done || all_are(room, length, 7));
+  MUST(kind != HMAC ||
+       nattizhu_hmac_verify_text(v, k, key.length, b, bytes.length, out, length) == done);
   free(room);
   free(messages.messages);
   free(salts.messages);
@@ -169,18 +150,9 @@ static void replace(uint8_t *state, size_t length) {
 }
 
 // What a state is saved as. If it is none, or is not saved as so many bytes, nothing is written.
-static piece saved(const nattizhu_state *state, size_t length) {
+static piece saved(int keyed, const uint8_t *state, size_t length) {
   piece it = {filled(length, 7), length};
-  if (!nattizhu_save(state, it.bytes, length)) {
-    MUST(all_are(it.bytes, length, 7));
-    it.length = 0;
-  }
-  return it;
-}
-
-static piece saved_hmac(const nattizhu_hmac_state *state, size_t length) {
-  piece it = {filled(length, 7), length};
-  if (!nattizhu_hmac_save(state, it.bytes, length)) {
+  if (!save(keyed, state, it.bytes, length)) {
     MUST(all_are(it.bytes, length, 7));
     it.length = 0;
   }
@@ -193,130 +165,81 @@ static bool are_equal(piece one, piece other) {
 
 // Bytes are loaded exactly if they are what a state is saved as: then it is saved as these again.
 // Otherwise the state stays.
-static void try_load(nattizhu_variant v, piece bytes) {
-  nattizhu_state state, before;
-  memset(&state, 7, sizeof state);
-  before = state;
-  if (nattizhu_load(v, &state, bytes.bytes, bytes.length)) {
-    const piece again = saved(&state, NATTIZHU_SAVED_SIZE(nattizhu_digest_size(v)));
+static void try_load(int keyed, nattizhu_variant v, piece bytes) {
+  uint8_t *state = filled(STATE_SIZES[keyed], 7);
+  if (load(v, keyed, state, bytes.bytes, bytes.length)) {
+    const piece again = saved(keyed, state, saved_size(keyed, nattizhu_digest_size(v)));
     MUST(are_equal(bytes, again));
     free(again.bytes);
   } else {
-    MUST(!memcmp(&state, &before, sizeof state));
+    MUST(all_are(state, STATE_SIZES[keyed], 7));
   }
+  free(state);
 }
 
-static void try_hmac_load(nattizhu_variant v, piece bytes) {
-  nattizhu_hmac_state state, before;
-  memset(&state, 7, sizeof state);
-  before = state;
-  if (nattizhu_hmac_load(v, &state, bytes.bytes, bytes.length)) {
-    const piece again = saved_hmac(&state, NATTIZHU_HMAC_SAVED_SIZE(nattizhu_digest_size(v)));
-    MUST(are_equal(bytes, again));
-    free(again.bytes);
-  } else {
-    MUST(!memcmp(&state, &before, sizeof state));
-  }
-}
-
-// A state is taken by all calls or by none. What is refused stays; what takes in no bytes is saved
-// as before. Where a state was loaded from what it is saved as, it goes on in the same way.
-static void try_state(nattizhu_variant v) {
-  nattizhu_state state, before, loaded;
-  const piece bytes = take();
-  memset(&state, byte(), sizeof state);
-  if (!nattizhu_init(v, &state))
+// A state, of HMAC if it is keyed, is taken by all calls or by none. What is refused stays; what
+// takes in no bytes is saved as before. Where a state was loaded from what it is saved as, it goes
+// on in the same way.
+static void try_state(int keyed, nattizhu_variant v) {
+  const size_t whole = STATE_SIZES[keyed];
+  const piece none = {NULL, 0}, key = keyed ? take() : none, bytes = take();
+  uint8_t *state = filled(whole, byte()), *before = filled(whole, 0), *loaded = filled(whole, 0);
+  if (!begin(v, keyed, state, key.bytes, key.length))
     MUST(nattizhu_digest_size(v) == 0);
-  replace(state.bytes, sizeof state);
-  before = state;
-  const size_t size = state.bytes[0], all = NATTIZHU_SAVED_SIZE(size);
-  const piece first = saved(&state, all);
-  const bool is_state = nattizhu_update(&state, NULL, 0);
-  const piece same = saved(&state, all);
+  replace(state, whole);
+  memcpy(before, state, whole);
+  const size_t size = state[0] & (keyed ? 127 : 255), all = saved_size(keyed, size);
+  const piece first = saved(keyed, state, all);
+  const bool is_state = update(keyed, state, NULL, 0);
+  const piece same = saved(keyed, state, all);
   MUST(is_state == (first.length != 0) && are_equal(first, same));
-  MUST(is_state || !memcmp(&state, &before, sizeof state));
-  MUST(nattizhu_update(&state, bytes.bytes, bytes.length) == is_state);
-  MUST(is_state || !memcmp(&state, &before, sizeof state));
+  MUST(is_state || !memcmp(state, before, whole));
+  MUST(update(keyed, state, bytes.bytes, bytes.length) == is_state);
+  MUST(is_state || !memcmp(state, before, whole));
   if (is_state) {
-    MUST(nattizhu_load((nattizhu_variant)(8 * size), &loaded, first.bytes, first.length));
-    MUST(nattizhu_update(&loaded, bytes.bytes, bytes.length));
-    const piece one = saved(&state, all), other = saved(&loaded, all);
+    MUST(load((nattizhu_variant)(8 * size), keyed, loaded, first.bytes, first.length));
+    MUST(update(keyed, loaded, bytes.bytes, bytes.length));
+    const piece one = saved(keyed, state, all), other = saved(keyed, loaded, all);
     MUST(one.length && are_equal(one, other));
     free(one.bytes);
     free(other.bytes);
   }
   replace(first.bytes, all);
-  const piece forged = {first.bytes, all}, any = saved(&state, output_length(all));
-  try_load(v, forged);
-  try_load(v, bytes);
+  const piece forged = {first.bytes, all}, any = saved(keyed, state, output_length(all));
+  try_load(keyed, v, forged);
+  try_load(keyed, v, bytes);
   free(any.bytes);
   free(first.bytes);
   free(same.bytes);
-  const size_t length = output_length(state.bytes[0]);
+  const size_t length = output_length(size);
   uint8_t *out = filled(length, 7);
-  const bool done = nattizhu_final(&state, out, length);
-  MUST(done == (is_state && length == state.bytes[0]));
+  const bool done = end(keyed, state, out, length);
+  MUST(done == (is_state && length == size));
   MUST(done || all_are(out, length, 7));
-  free(out);
-  free(bytes.bytes);
-}
-
-static void try_hmac_state(nattizhu_variant v) {
-  nattizhu_hmac_state state, before, loaded;
-  const piece key = take(), bytes = take();
-  memset(&state, byte(), sizeof state);
-  if (!nattizhu_hmac_init(v, &state, key.bytes, key.length))
-    MUST(nattizhu_digest_size(v) == 0);
-  replace(state.bytes, sizeof state);
-  before = state;
-  const size_t size = state.bytes[0] & 127, all = NATTIZHU_HMAC_SAVED_SIZE(size);
-  const piece first = saved_hmac(&state, all);
-  const bool is_state = nattizhu_hmac_update(&state, NULL, 0);
-  const piece same = saved_hmac(&state, all);
-  MUST(is_state == (first.length != 0) && are_equal(first, same));
-  MUST(is_state || !memcmp(&state, &before, sizeof state));
-  MUST(nattizhu_hmac_update(&state, bytes.bytes, bytes.length) == is_state);
-  MUST(is_state || !memcmp(&state, &before, sizeof state));
-  if (is_state) {
-    MUST(nattizhu_hmac_load((nattizhu_variant)(8 * size), &loaded, first.bytes, first.length));
-    MUST(nattizhu_hmac_update(&loaded, bytes.bytes, bytes.length));
-    const piece one = saved_hmac(&state, all), other = saved_hmac(&loaded, all);
-    MUST(one.length && are_equal(one, other));
-    free(one.bytes);
-    free(other.bytes);
-  }
-  replace(first.bytes, all);
-  const piece forged = {first.bytes, all}, any = saved_hmac(&state, output_length(all));
-  try_hmac_load(v, forged);
-  try_hmac_load(v, bytes);
-  free(any.bytes);
-  free(first.bytes);
-  free(same.bytes);
-  const size_t length = output_length(state.bytes[0] & 127);
-  uint8_t *out = filled(length, 7);
-  const bool done = nattizhu_hmac_final(&state, out, length);
-  MUST(done == (is_state && length == (state.bytes[0] & 127)));
-  MUST(done || all_are(out, length, 7));
-  MUST(nattizhu_hmac_verify(&state, out, length) == done);
-  if (done) {
-    out[byte() % length] ^= 1;
-    MUST(!nattizhu_hmac_verify(&state, out, length));
+  if (keyed) {
+    const nattizhu_hmac_state *hmac = (const nattizhu_hmac_state *)(const void *)state;
+    MUST(nattizhu_hmac_verify(hmac, out, length) == done);
+    if (done) {
+      out[byte() % length] ^= 1;
+      MUST(!nattizhu_hmac_verify(hmac, out, length));
+    }
   }
   free(out);
+  free(loaded);
+  free(before);
+  free(state);
   free(key.bytes);
   free(bytes.bytes);
 }
 
 int LLVMFuzzerTestOneInput(const uint8_t *data, size_t size) {
-  input = data;
+  next = data;
   left = size;
-  const unsigned kind = byte() % 10;
+  const int kind = byte() % (CALLS + 2);
   const nattizhu_variant v = variant_of(number());
-  if (kind < 8)
+  if (kind < CALLS)
     try_outputs(kind, v);
-  else if (kind == 8)
-    try_state(v);
   else
-    try_hmac_state(v);
+    try_state(kind - CALLS, v);
   return 0;
 }
