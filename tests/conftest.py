@@ -22,6 +22,7 @@ ARM64_COMPILER = "aarch64-linux-gnu-gcc"
 
 # The status of a program of which memcheck reports something.
 NOTICED = 3
+VARIANTS = ["128", "160", "256", "320"]
 # The digest of "abc" by RIPEMD-160.
 ABC = "8eb208f7e05d987a9b044a8e98c6b087f15a0bfc"
 
@@ -53,6 +54,20 @@ def need(tool, package=None):
 def lines(name):
     """The words of each line of a file of tests/data."""
     return [line.split() for line in (DATA / name).read_text("utf-8").splitlines() if line[:1] not in ("", "#")]
+
+
+def counted(length, first=0):
+    """So many bytes that count up."""
+    return bytes((first + at) % 256 for at in range(int(length)))
+
+
+# Rows of tests/data, each of a variant: messages that the authors published, and their digests; the lengths of
+# messages that count up, and their digests; keys, texts and tags, in hexadecimal.
+PUBLISHED = [(bits, text.encode() * int(times), digest) for bits, text, times, digest in lines("published.txt")]
+DIGESTS = [(bits, int(length), digest) for bits, length, digest in [
+    *((bits, *words) for bits in VARIANTS for words in lines(f"digests-{bits}.txt")), *lines("digests-long.txt")]]
+TAGS = [(bits, counted(length, 1).hex(), counted(150).hex(), tag) for bits, length, tag in lines("tags.txt")]
+TAGS += [tuple(words) for words in lines("rfc2286.txt")]
 
 
 def fences(page):

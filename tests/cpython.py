@@ -24,26 +24,19 @@ EXCHANGED = {
         "f264108c288a61d036c3e495fc2e6203013e71a1888d06902357b42d65d09f26"}
 OTHERS = re.compile("blake2|sha3|shake|sha224|sha384|sha512|rfc4231|scrypt|compare_digest")
 
-# The digests that the authors published, by variant and message.
-LETTERS = b"ABCDEFGHIJKLMNOPQRSTUVWXYZabcdefghijklmnopqrstuvwxyz0123456789"
-FOURS = b"abcdbcdecdefdefgefghfghighijhijkijkljklmklmnlmnomnopnopq"
-PUBLISHED = {
-    ("ripemd128", b""): "cdf26213a150dc3ecb610f18f6b38b46",
-    ("ripemd128", b"abc"): "c14a12199c66e4ba84636b0f69144c77",
-    ("ripemd128", LETTERS): "d1e959eb179c911faea4624c60c5c702",
-    ("ripemd160", b""): "9c1185a5c5e9fc54612808977ee8f548b2258d31",
-    ("ripemd160", b"abc"): "8eb208f7e05d987a9b044a8e98c6b087f15a0bfc",
-    ("ripemd160", FOURS): "12a053384a9c0c88e405a06c27dcf49ada62eb2b",
-    ("ripemd160", b"a" * 10**6): "52783243c1697bdbe16d37f97f68f08325dc1528",
-    ("ripemd256", b""): "02ba4c4e5f8ecd1877fc52d64d30e37a2d9774fb1e5d026380ae0168e3c5522d",
-    ("ripemd256", b"abc"): "afbd6e228b9d8cbbcef5ca2d03e6dba10ac0bc7dcbe4680e1e42d2e975459b65",
-    ("ripemd256", FOURS): "3843045583aac6c8c8d9128573e7a9809afb2a0f34ccc36ea9e72f16f6368e3f",
-    ("ripemd256", b"a" * 10**6): "ac953744e10e31514c150d4d8d7b677342e33399788296e43ae4850ce4f97978"}
-# The tags of RFC 2286, whose keys and texts are those of RFC 2202.
+
+def rows(name):
+    """The words of each line of a file of tests/data."""
+    text = (pathlib.Path(__file__).parent / "data" / name).read_text("utf-8")
+    return [line.split() for line in text.splitlines() if line[0] != "#"]
+
+
+# The digests that the authors published, by variant and message; and the tags of RFC 2286, whose keys and texts are
+# those of RFC 2202.
+PUBLISHED = {(f"ripemd{bits}", text.encode() * int(times)): digest
+             for bits, text, times, digest in rows("published.txt")}
 RFC_2286 = {(f"ripemd{bits}", bytes.fromhex(key), bytes.fromhex(text)): tag
-            for bits, key, text, tag in map(str.split, filter(
-                lambda line: line[0] != "#",
-                (pathlib.Path(__file__).parent / "data/rfc2286.txt").open(encoding="utf-8")))}
+            for bits, key, text, tag in rows("rfc2286.txt")}
 
 
 class HMAC:

@@ -14,8 +14,8 @@ import time
 
 import pytest
 from browsers import BROWSERS, lacks
-from conftest import ABC, ROOT, lines, need, run, version
-from test_rmdsum import (BY_HAND, BYTES, DIGESTS, RIPEMD, STOCK, Rooms, draw_files, draw_list, ended, escaped, joined,
+from conftest import ABC, ROOT, need, run, version
+from test_rmdsum import (BY_HAND, BY_LENGTH, BYTES, RIPEMD, STOCK, Rooms, draw_files, draw_list, ended, escaped, joined,
                          listed, tagged, untagged)
 
 VARIANTS = (128, 160, 256, 320)
@@ -27,7 +27,7 @@ BIG = ["39adc82d71ce33e94c8448fccd9e9a1e", "776730696fe49628875a1afc68058386b66e
        "ebf3859b2bf7302e243eebd4009157c543da2148392393ccae7ac9b795c04122",
        "a6be7f789fb71e8b6d4b52153b813c1572540538613c0f05a49ae65790072a174710e282f6319873"]
 # Of no bytes, and of one byte that is zero.
-EMPTY, ONE = ([dict(lines(f"digests-{bits}.txt"))[length] for bits in VARIANTS] for length in "01")
+EMPTY, ONE = ([BY_LENGTH[str(bits)][length] for bits in VARIANTS] for length in (0, 1))
 
 
 @pytest.fixture(name="page", scope="session")
@@ -330,7 +330,7 @@ def verdict_of(line, room):
     if line["name"] != "-" and not os.path.isfile(path):
         return "FAILED open or read"
     length = 0 if line["name"] == "-" else os.path.getsize(path)
-    return "OK" if line["hex"] == DIGESTS[str(line["bits"])][length] else "FAILED"
+    return "OK" if line["hex"] == BY_LENGTH[str(line["bits"])][length] else "FAILED"
 
 
 def test_drawn_lists(rmdsum, tmp_path):

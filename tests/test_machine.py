@@ -8,7 +8,7 @@ import sys
 import tarfile
 
 import pytest
-from conftest import ARM64, ROOT, lines, need, run
+from conftest import ARM64, DIGESTS, ROOT, TAGS, counted, lines, need, run
 
 for _module, _package in (("capstone", "python3-capstone"), ("elftools", "python3-pyelftools")):
     pytest.importorskip(_module, reason=f"there is no {_module} for this python3 (Debian's {_package})")
@@ -25,18 +25,13 @@ RUN = ROOT / "tests/machine/run"
 BITS = 100
 
 
-def count(length, first=0):
-    """So many bytes that count up."""
-    return [(first + i) % 256 for i in range(int(length))]
-
-
 def test_textbook():
     """It gives the values of other implementations."""
-    found = [(textbook.ripemd(bits, count(length)), digest) for bits in textbook.VARIANTS
-             for length, digest in lines(f"digests-{bits}.txt")]
-    found += [(textbook.output(int(bits), textbook.keyed(int(bits), count(length, 1)), count(150)), tag)
-              for bits, length, tag in lines("tags.txt")]
-    found += [(textbook.pbkdf2(int(bits), count(password, 1), count(salt), int(rounds), len(key) // 2), key)
+    found = [(textbook.ripemd(int(bits), [*counted(length)]), digest)
+             for bits, length, digest in DIGESTS if length <= 200]
+    found += [(textbook.output(int(bits), textbook.keyed(int(bits), list(bytes.fromhex(key))), list(bytes.fromhex(text))),
+               tag) for bits, key, text, tag in TAGS]
+    found += [(textbook.pbkdf2(int(bits), [*counted(password, 1)], [*counted(salt)], int(rounds), len(key) // 2), key)
               for bits, password, salt, rounds, key in lines("keys.txt") if int(rounds) <= 3]
     assert len(found) > 800 and [row for row in found if bytes(row[0]).hex() != row[1]] == []
 

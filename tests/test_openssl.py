@@ -8,7 +8,8 @@ import re
 import shutil
 
 import pytest
-from conftest import ABC, ARM64_COMPILER, ROOT, SECRETS, fences, lines, memcheck, need, programs, run, version
+from conftest import (ABC, ARM64_COMPILER, DIGESTS, PUBLISHED, ROOT, SECRETS, TAGS, VARIANTS, counted, fences, lines,
+                      memcheck, need, programs, run, version)
 from test_c import CRATE, PACKAGES, assert_read_only, assert_tried
 
 SOURCE = ROOT / "openssl/provider.c"
@@ -22,21 +23,10 @@ BESIDE = ["default", "nattizhu", "legacy"]
 STRICT = ["-O2", "-Wall", "-Wextra", "-pedantic", "-Wconversion", "-Werror"]
 SHARED = ["-std=c99", "-fPIC", "-shared", "-Wl,-rpath,$ORIGIN/..", "-I", CRATE, SOURCE]
 
-# The digests of "abc" that the authors published.
-PUBLISHED = {"128": "c14a12199c66e4ba84636b0f69144c77", "160": ABC,
-             "256": "afbd6e228b9d8cbbcef5ca2d03e6dba10ac0bc7dcbe4680e1e42d2e975459b65",
-             "320": "de4c01b3054f8930a79d09ae738e92301e5a17085beffdc1b8d116713e74f82fa942d64cdbc4682d"}
-# The messages of tests/data, by variant and length, with their digests: of up to 200 bytes, and all.
-SHORT = {(bits, int(length)): digest for bits in PUBLISHED for length, digest in lines(f"digests-{bits}.txt")}
-DIGESTS = SHORT | {(bits, int(length)): digest for bits, length, digest in lines("digests-long.txt")}
-# Keys, texts and tags, in hexadecimal.
-TAGS = [(bits, bytes(range(1, int(length) + 1)).hex(), bytes(range(150)).hex(), tag)
-        for bits, length, tag in lines("tags.txt")] + [tuple(words) for words in lines("rfc2286.txt")]
-
-
-def counted(length, start=0):
-    """So many bytes: 0, 1, 2 and so on."""
-    return bytes((start + at) % 256 for at in range(length))
+# The digests of "abc".
+ABCS = {bits: digest for bits, message, digest in PUBLISHED if message == b"abc"}
+# Messages of up to 200 bytes.
+SHORT = [row for row in DIGESTS if row[1] <= 200]
 
 
 def modules_of(library):
@@ -55,7 +45,7 @@ def try_evp(folder, modules, *before, compiler=("cc", "-O2"), digests=DIGESTS, p
     """Compiles tests/evp.c and runs it with these digests."""
     run(*compiler, "-std=c11", "-Wall", "-Wextra", "-Werror", ROOT / "tests/evp.c", "-o", folder / "evp", "-lcrypto",
         "-lpthread")
-    rows = "".join(f"{bits} {length} {digest}\n" for (bits, length), digest in digests.items())
+    rows = "".join(f"{bits} {length} {digest}\n" for bits, length, digest in digests)
     assert_tried(1700 + 25 * len(digests), *before, folder / "evp", pairs, by=by, input=rows, env={"OPENSSL_MODULES": modules})
 
 
@@ -180,7 +170,7 @@ SUPPRESSED = """{
 def test_evp_under_valgrind(modules, tmp_path):
     """It loads the provider more than 1000 times."""
     (tmp_path / "suppressed").write_text(SUPPRESSED)
-    digests = {key: digest for key, digest in SHORT.items() if key[1] % 32 == 31}
+    digests = [row for row in SHORT if row[1] % 32 == 31]
     try_evp(tmp_path, modules, f"--suppressions={tmp_path}/suppressed", "--leak-check=full", digests=digests, pairs=404,
             by=memcheck)
 
@@ -205,9 +195,9 @@ def test_arm64(arm64, tmp_path):
 # ---- by the program openssl
 
 @pytest.mark.parametrize("providers", [["nattizhu"], ["nattizhu", "base"], ["nattizhu", "default"], BESIDE], ids=" ".join)
-@pytest.mark.parametrize("bits", PUBLISHED)
+@pytest.mark.parametrize("bits", VARIANTS)
 def test_digests(openssl, tmp_path, bits, providers):
-    wanted = {length: digest for (variant, length), digest in DIGESTS.items() if variant == bits}
+    wanted = {length: digest for variant, length, digest in DIGESTS if variant == bits}
     for length in wanted:
         (tmp_path / str(length)).write_bytes(counted(length))
     printed = openssl("dgst", "-propquery", "provider=nattizhu", f"-ripemd{bits}", "-r", *wanted, providers=providers,
@@ -219,12 +209,12 @@ def test_digests(openssl, tmp_path, bits, providers):
 def test_names(openssl):
     """Those of docs/OPENSSL.md, which are all that openssl lists."""
     listed = re.findall("{ (.*) } @ nattizhu", (ROOT / "docs/OPENSSL.md").read_text("utf-8"))
-    assert len(listed) == len(PUBLISHED)
+    assert len(listed) == len(VARIANTS)
     for names in listed:
         bits = re.search(r"RIPEMD-(\d+)", names)[1]
         for name in names.split(", "):
             printed = openssl("dgst", f"-{name}", providers=["nattizhu"], input="abc").stdout
-            assert printed == f"RIPEMD-{bits}(stdin)= {PUBLISHED[bits]}\n"
+            assert printed == f"RIPEMD-{bits}(stdin)= {ABCS[bits]}\n"
 
 
 @pytest.mark.parametrize("name, query, digest", [
@@ -260,8 +250,8 @@ def test_keys(openssl):
     assert len(lines("keys.txt")) >= 40
     for bits, password, salt, rounds, key in lines("keys.txt"):
         printed = openssl("kdf", "-keylen", len(key) // 2, "-kdfopt", f"digest:RIPEMD-{bits}",
-                          "-kdfopt", "properties:provider=nattizhu", "-kdfopt", f"hexpass:{counted(int(password), 1).hex()}",
-                          "-kdfopt", f"hexsalt:{counted(int(salt)).hex()}", "-kdfopt", f"iter:{rounds}", "PBKDF2",
+                          "-kdfopt", "properties:provider=nattizhu", "-kdfopt", f"hexpass:{counted(password, 1).hex()}",
+                          "-kdfopt", f"hexsalt:{counted(salt).hex()}", "-kdfopt", f"iter:{rounds}", "PBKDF2",
                           providers=BESIDE).stdout
         assert printed.strip().replace(":", "").lower() == key
 
@@ -327,7 +317,7 @@ def test_hashlib(modules, configurations, python, name):
     linked = run(python, "-c", "import ssl; print(ssl.OPENSSL_VERSION)", status=None).stdout
     if not linked.startswith("OpenSSL 3"):
         pytest.skip(f"{python} has no OpenSSL 3")
-    rows = [(bits, None, counted(length).hex(), digest) for (bits, length), digest in SHORT.items()] + TAGS
+    rows = [(bits, None, counted(length).hex(), digest) for bits, length, digest in SHORT] + TAGS
     env = {"OPENSSL_MODULES": modules, "OPENSSL_CONF": configurations[name]}
     assert run(python, "-c", PYTHON, env=env, input=json.dumps(rows)).stdout == "sha256 True\n"
 

@@ -14,11 +14,9 @@ import subprocess
 import threading
 
 import pytest
-from conftest import lines, need, run, version
-from test_program import PUBLISHED
+from conftest import DIGESTS, PUBLISHED, VARIANTS, need, run, version
 
 BYTES = bytes(range(256)) * 64
-VARIANTS = ["128", "160", "256", "320"]
 # The lengths of the contents of files, whose digests by RIPEMD other implementations gave.
 LENGTHS = [*range(201), 4095, 4096, 4097, 8192, 12288]
 
@@ -37,13 +35,8 @@ class Hash:
     other: dict
 
 
-def ripemd_digests(variant):
-    """The digests of the bytes 0 to 255 again and again, by length."""
-    short = {int(length): digest for length, digest in lines(f"digests-{variant}.txt")}
-    return short | {int(length): digest for name, length, digest in lines("digests-long.txt") if name == variant}
-
-
-DIGESTS = {variant: ripemd_digests(variant) for variant in VARIANTS}
+# The digests of the bytes 0 to 255 again and again, by variant and length.
+BY_LENGTH = {variant: {length: digest for bits, length, digest in DIGESTS if bits == variant} for variant in VARIANTS}
 OTHER = {"128": "160", "160": "256", "256": "320", "320": "128"}
 
 
@@ -53,7 +46,7 @@ def sha_digests(name):
 
 SHA256 = Hash("SHA256", ["SHA256"], [], sha_digests("sha256"), sha_digests("sha1"))
 RIPEMD = {variant: Hash(f"RMD{variant}", [f"RMD{variant}", f"RIPEMD{variant}", f"RIPEMD-{variant}"],
-                        ["-a", variant], DIGESTS[variant], DIGESTS[OTHER[variant]]) for variant in VARIANTS}
+                        ["-a", variant], BY_LENGTH[variant], BY_LENGTH[OTHER[variant]]) for variant in VARIANTS}
 
 
 @pytest.fixture(scope="module", autouse=True)
@@ -646,7 +639,7 @@ def test_help_and_version(rooms):
 def is_of_another(line, variant):
     """Whether a damaged line may be one of another variant, by the number of its digits."""
     counts = {len(digits) for digits in re.findall(rb"[0-9a-fA-F]+", line)}
-    return any(counts & {len(DIGESTS[other][0])} for other in VARIANTS if other != variant)
+    return any(counts & {len(BY_LENGTH[other][0])} for other in VARIANTS if other != variant)
 
 
 @pytest.mark.parametrize("seed", range(20))

@@ -7,8 +7,8 @@ import shutil
 import sys
 
 import pytest
-from conftest import DATA, NOTICED, ROOT, SECRETS, fences, lines, memcheck, need, programs, run
-from test_openssl import DIGESTS, TAGS, counted
+from conftest import (DATA, DIGESTS, NOTICED, ROOT, SECRETS, TAGS, VARIANTS, counted, fences, lines, memcheck, need,
+                      programs, run)
 
 sys.path.insert(0, str(ROOT / "tests/machine"))
 import textbook  # noqa: E402 pylint: disable=wrong-import-position
@@ -80,12 +80,12 @@ def write_blobs(file, rows, counted_first):
 def write_vectors(folder, counted_first):
     """Writes what the tests of a dependent read."""
     folder.mkdir()
-    for bits in ("128", "160", "256", "320"):
+    for bits in VARIANTS:
         for name, rows in [
                 ("digests", [(counted(length), bytes.fromhex(digest))
-                             for (variant, length), digest in DIGESTS.items() if variant == bits]),
+                             for variant, length, digest in DIGESTS if variant == bits]),
                 ("tags", [map(bytes.fromhex, row) for variant, *row in TAGS if variant == bits]),
-                ("keys", [(counted(int(password), 1), counted(int(salt)), int(rounds).to_bytes(4, "big"), bytes.fromhex(key))
+                ("keys", [(counted(password, 1), counted(salt), int(rounds).to_bytes(4, "big"), bytes.fromhex(key))
                           for variant, password, salt, rounds, key in lines("keys.txt") if variant == bits])]:
             write_blobs(folder / f"{name}_{bits}.blb", rows, counted_first)
         # What `hash_serialization_test` saves.
