@@ -1,11 +1,10 @@
 """Tries what is built for ARM64, under qemu-user: the libraries for C as in test_c.py, and the package for Python by
-tests/vectors.py. What is executed for different secrets is in test_secrets.py."""
-import re
+tests/vectors.py."""
 import shutil
 
 import pytest
 from conftest import ARM64, ARM64_COMPILER, DATA, ROOT, need, run
-from test_c import CALLS, CRATE, FUNCTIONS, STRICT, assert_tried, test_page  # the last with the fixture `build` below
+from test_c import CALLS, CRATE, STRICT, assert_tried, test_page  # the last with the fixture `build` below
 
 # Where Debian's libc6-arm64-cross has the C library.
 EMULATOR = ["qemu-aarch64", "-L", "/usr/aarch64-linux-gnu"]
@@ -28,14 +27,6 @@ def fixture_build(request, arm64, tmp_path):
 def test_calls(build):
     """With shorter lists, since the emulator is slow."""
     assert_tried(838000, *build(CALLS, "-DMOST=70"), DATA)
-
-
-def test_interface(arm64):
-    """The shared object exports the functions of the header, and needs the C library alone."""
-    printed = run("aarch64-linux-gnu-nm", "-D", "--defined-only", arm64 / "libnattizhu.so.0").stdout
-    assert sorted(line.split()[-1] for line in printed.splitlines()) == FUNCTIONS
-    printed = run("aarch64-linux-gnu-objdump", "-p", arm64 / "libnattizhu.so.0").stdout
-    assert re.findall("NEEDED +(.*)", printed) == ["libc.so.6"]
 
 
 def test_vectors_from_python(arm64, tmp_path):

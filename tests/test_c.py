@@ -3,7 +3,7 @@ warnings of wrong calls, the programs of docs/C.md, and tests/calls.c, also wher
 import re
 
 import pytest
-from conftest import DATA, ROOT, lines, memcheck, need, programs, run
+from conftest import ARM64, DATA, ROOT, lines, memcheck, need, need_arm64, programs, run
 
 CRATE = ROOT / "crates/ripemd_c"
 CALLS = ROOT / "tests/calls.c"
@@ -20,7 +20,6 @@ CHECKED = ["-O1", "-g", "-D_DEFAULT_SOURCE", "-DMOST=130"]
 # Compiles the input, and leaves no file.
 INPUT = ["-S", "-o", "-", "-"]
 
-every_object = pytest.mark.parametrize("name", ["libnattizhu.so.0", "glibc-hwcaps/x86-64-v3/libnattizhu.so.0"])
 every_standard = pytest.mark.parametrize("compiler, standard", [*COMPILERS, ("c++", "c++17"), ("clang++", "c++17")])
 
 
@@ -29,6 +28,12 @@ def compile_by(compiler, standard, *words, **options):
     need(compiler, PACKAGES[compiler])
     language = "c++" if "++" in standard else "c"
     return run(compiler, f"-std={standard}", "-I", CRATE, "-x", language, *words, **options)
+
+
+def exported(name):
+    """The names that a shared object exports."""
+    need("nm", "binutils")
+    return sorted(line.split()[-1] for line in run("nm", "-D", "--defined-only", name).stdout.splitlines())
 
 
 def assert_read_only(name):
@@ -43,22 +48,25 @@ def listed(kind):
     return sorted(words[1:] for words in lines("interface.txt") if words[0] == kind)
 
 
-@every_object
-def test_exported_functions(library, name):
-    need("nm", "binutils")
-    printed = run("nm", "-D", "--defined-only", library / name).stdout
-    assert sorted(line.split()[-1] for line in printed.splitlines()) == FUNCTIONS
+@pytest.fixture(name="shared", params=[".", "glibc-hwcaps/x86-64-v3", ARM64])
+def fixture_shared(request, library):
+    """A shared object of the library."""
+    if request.param == ARM64:
+        need_arm64()
+    return library / request.param / "libnattizhu.so.0"
 
 
-@every_object
-def test_shared_object_needs_the_c_library_alone(library, name):
+def test_exported_functions(shared):
+    assert exported(shared) == FUNCTIONS
+
+
+def test_shared_object_needs_the_c_library_alone(shared):
     need("objdump", "binutils")
-    assert re.findall("NEEDED +(.*)", run("objdump", "-p", library / name).stdout) == ["libc.so.6"]
+    assert re.findall("NEEDED +(.*)", run("objdump", "-p", shared).stdout) == ["libc.so.6"]
 
 
-@every_object
-def test_tables_of_addresses_are_read_only(library, name):
-    assert_read_only(library / name)
+def test_tables_of_addresses_are_read_only(shared):
+    assert_read_only(shared)
 
 
 def test_listed_functions():
@@ -119,19 +127,8 @@ nattizhu_pbkdf2_list(NATTIZHU_RIPEMD160, list, 1, list, 1, 1, 20, digest, 20)
 # A call that answers nothing.
 WIPE = "nattizhu_wipe(bytes, 3)"
 
-OTHER_STATE = """\
-nattizhu_init(NATTIZHU_RIPEMD160, &hmac)
-nattizhu_update(&hmac, bytes, 3)
-nattizhu_final(&hmac, digest, 20)
-nattizhu_save(&hmac, bytes, 92)
-nattizhu_load(NATTIZHU_RIPEMD160, &hmac, bytes, 92)
-nattizhu_hmac_init(NATTIZHU_RIPEMD160, &state, bytes, 3)
-nattizhu_hmac_update(&state, bytes, 3)
-nattizhu_hmac_final(&state, digest, 20)
-nattizhu_hmac_verify(&state, digest, 20)
-nattizhu_hmac_save(&state, bytes, 184)
-nattizhu_hmac_load(NATTIZHU_RIPEMD160, &state, bytes, 184)
-""".splitlines()
+OTHER_STATE = [re.sub("&(state|hmac)", lambda found: "&hmac" if found[1] == "state" else "&state", call)
+               for call in RIGHT if "&" in call]
 
 EXCHANGED = """\
 nattizhu_digest(bytes, 3, NATTIZHU_RIPEMD160, digest, 20)

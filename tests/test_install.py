@@ -89,11 +89,6 @@ def test_program_by_processor(prefix, processor):
     assert ("main_x86_64_v3" in ended.stderr) == bool(PROCESSORS[processor])
 
 
-def test_exported_names(prefix):
-    names = [line.split()[-1] for line in run("nm", "-D", "--defined-only", prefix / "lib/libnattizhu.so").stdout.splitlines()]
-    assert names and all(name.startswith("nattizhu_") for name in names)
-
-
 @pytest.fixture(name="provider")
 def fixture_provider(prefix):
     """What tells openssl where the provider is, and has it loaded."""

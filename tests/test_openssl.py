@@ -10,7 +10,7 @@ import shutil
 import pytest
 from conftest import (ABC, ARM64_COMPILER, DIGESTS, PUBLISHED, ROOT, SECRETS, TAGS, VARIANTS, counted, fences, lines,
                       memcheck, need, programs, run, version)
-from test_c import CRATE, PACKAGES, assert_read_only, assert_tried
+from test_c import CRATE, PACKAGES, assert_read_only, assert_tried, exported
 
 SOURCE = ROOT / "openssl/provider.c"
 CNF = ROOT / "openssl/openssl.cnf"
@@ -109,8 +109,7 @@ def test_no_warning(modules, compiler, standard):
 
 def test_exported_functions_and_needed_libraries(modules):
     need("objdump", "binutils")
-    names = [line.split()[-1] for line in run("nm", "-D", "--defined-only", modules / "nattizhu.so").stdout.splitlines()]
-    assert names == ["OSSL_provider_init"]
+    assert exported(modules / "nattizhu.so") == ["OSSL_provider_init"]
     printed = run("objdump", "-p", modules / "nattizhu.so").stdout
     assert set(re.findall("NEEDED +(.*)", printed)) <= {"libnattizhu.so.0", "libcrypto.so.3", "libc.so.6"}
     assert set(re.findall(r"\bOPENSSL_[0-9.]+", printed)) == {"OPENSSL_3.0.0"}
