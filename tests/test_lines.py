@@ -1,13 +1,14 @@
-"""Compares the worked lines of crates/ripemd_files with sha256sum of coreutils: with its digests and tag in
-place of those of RIPEMD, it writes, takes and refuses the same lines."""
+"""Compares the worked lines and layouts of crates/ripemd_files with sha256sum of coreutils: with its digests and tag in
+place of those of RIPEMD, it writes, takes and refuses the same lines, and takes the same layout for a list."""
 import hashlib
 import os
 import re
 
 import pytest
-from conftest import ROOT, need, run
+from conftest import ROOT, VARIANTS, need, run
 
-WORKED = (ROOT / "crates/ripemd_files/specs/Worked.antt").read_text("utf-8")
+WORKED = "".join((ROOT / "crates/ripemd_files/specs" / name).read_text("utf-8")
+                 for name in ("Worked.antt", "WorkedLists.antt"))
 # The facts of each record, by name.
 FACTS = {(record, name): fact
          for record, facts in re.findall(r"^pub record (\w+) : Type 0 where\n((?:  pub .*\n)+)", WORKED, re.MULTILINE)
@@ -108,7 +109,7 @@ def test_taken(fact, tmp_path):
         _, name, line = parts(FACTS[fact])
     else:
         _, layout, line, _, _, name = parts(FACTS[fact])
-    name, line = value(name), exchanged(value(line), ("128", "160", "256", "320"))
+    name, line = value(name), exchanged(value(line), VARIANTS)
     first = [SHA256.encode() + b" abc"] if layout == "Reversed" else []
     (tmp_path / "abc").write_bytes(b"abc")
     if not name:  # which no file has
@@ -131,3 +132,16 @@ def test_refused(fact, tmp_path):
     # Empty lines and comments are passed over.
     improper = line[:1] not in (b"", b"#")
     assert (ended.returncode, b"1 line is improperly formatted" in ended.stderr) == (int(improper), improper)
+
+
+@pytest.mark.parametrize("fact", [key for key in FACTS if FACTS[key].startswith("layout_in")], ids="-".join)
+def test_layout(fact, tmp_path):
+    """From a first line."""
+    line, layout = re.fullmatch(r"layout_in (.*) ≡ (?:Some )?(\w+)", FACTS[fact]).groups()
+    line = exchanged(value(line), VARIANTS)
+    for name in ("next", " next"):
+        (tmp_path / name).write_bytes(b"abc")
+    one, two = (check(tmp_path, [line, SHA256.encode() + spaces + b"next"]).stdout.splitlines()
+                for spaces in (b" ", b"  "))
+    assert (b"next: OK" in one) == (layout != "Standard")
+    assert (b" next: OK" if layout == "Reversed" else b"next: OK") in two
