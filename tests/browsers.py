@@ -1,6 +1,5 @@
 """Drives headless Chromium, by Debian's chromedriver, and headless Firefox, by Marionette, its own protocol, with
 one interface."""
-import base64
 import json
 import re
 import shutil
@@ -49,9 +48,11 @@ class Browser:
         self.command("Navigate", url=url)
 
     def run(self, script, *arguments):
-        """What the body of an async function returns, on the page."""
+        """What the body of an async function returns, on the page. It may wait by `until`."""
         done, value = self.command("ExecuteAsyncScript", args=list(arguments), script=f"""
             const done = arguments[arguments.length - 1];
+            const pause = () => new Promise((resolve) => setTimeout(resolve, 20));
+            const until = async (found) => found() || (await pause(), until(found));
             (async (...args) => {{ {script} }})(...Array.from(arguments).slice(0, -1))
               .then((value) => done([true, value]), (error) => done([false, String(error)]));""")
         if not done:
@@ -77,10 +78,6 @@ class Browser:
             actions += [{"type": "keyUp", "value": part} for part in reversed(parts)]
         self.command("PerformActions", actions=[{"type": "key", "id": "keyboard", "actions": actions}])
 
-    def screenshot(self):
-        """What the window shows, as PNG."""
-        return base64.b64decode(self.command("TakeScreenshot", full=False))
-
     def close(self):
         if self.process:
             self.process.terminate()
@@ -92,7 +89,7 @@ class Chromium(Browser):
     NEEDS = ("chromedriver", "chromium-driver")
     PATHS = {"NewSession": "", "Navigate": "/url", "ExecuteAsyncScript": "/execute/async", "FindElement": "/element",
              "FindElements": "/elements", "ElementSendKeys": "/element/{id}/value", "PerformActions": "/actions",
-             "GetComputedLabel": "/element/{id}/computedlabel", "TakeScreenshot": "/screenshot", "Cdp": "/goog/cdp/execute"}
+             "GetComputedLabel": "/element/{id}/computedlabel", "Cdp": "/goog/cdp/execute"}
 
     def start(self, folder, wasm, touch):
         self.address = None
@@ -112,7 +109,7 @@ class Chromium(Browser):
 
     def command(self, name, **parameters):
         path = self.address + self.PATHS[name].format(**parameters)
-        data = None if name in ("TakeScreenshot", "GetComputedLabel") else json.dumps(parameters).encode()
+        data = None if name == "GetComputedLabel" else json.dumps(parameters).encode()
         request = urllib.request.Request(path, data, {"Content-Type": "application/json"})
         try:
             with DIRECT.open(request, timeout=LIMIT + 5) as answer:

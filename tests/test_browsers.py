@@ -127,10 +127,9 @@ class Page:
     def rows(self):
         """Waits until the files of a list are summed up. Returns the name, the function and the verdict of each, and the
         sum."""
-        return self.run("""const sum = document.getElementById('sum');
-            while (!sum.textContent) await new Promise((resolve) => setTimeout(resolve, 20));
+        return self.run("""const sum = await until(() => document.getElementById('sum').textContent);
             const rows = [...document.querySelectorAll('#list tbody tr')];
-            return [rows.map((row) => Array.from(row.cells, (cell) => cell.textContent)), sum.textContent];""")
+            return [rows.map((row) => Array.from(row.cells, (cell) => cell.textContent)), sum];""")
 
     def expect(self, text):
         """Writes the expected digests, and returns what the page says of them."""
@@ -141,14 +140,11 @@ class Page:
 
     def ended(self, number):
         """Waits until so many files are through. Returns for each its name, what is said, and the digests."""
-        return self.run("""for (;;) {
-            const cards = [...document.querySelectorAll('article')];
+        return self.run("""const cards = () => [...document.querySelectorAll('article')];
             const texts = (card, what) => Array.from(card.querySelectorAll(what), (found) => found.textContent);
-            if (cards.length === args[0] && cards.every((card) => card.querySelector('.work').hidden)) {
-              return cards.map((card) => [...texts(card, 'h3'), texts(card, '.outcome p'), texts(card, 'code')]);
-            }
-            await new Promise((resolve) => setTimeout(resolve, 20));
-          }""", number)
+            await until(() => cards().length === args[0]
+              && cards().every((card) => card.querySelector('.work').hidden));
+            return cards().map((card) => [...texts(card, 'h3'), texts(card, '.outcome p'), texts(card, 'code')]);""", number)
 
     def verdicts(self, number):
         return [said[1:] for _, said, _ in self.ended(number)]
@@ -156,16 +152,11 @@ class Page:
     def problem(self):
         """Waits until the page says why it does not work."""
         return self.run("""const place = document.getElementById('problem');
-            while (place.hidden) await new Promise((resolve) => setTimeout(resolve, 20));
-            return place.textContent;""")
+            return until(() => !place.hidden && place.textContent);""")
 
     def begun(self):
         """Waits until a file is being read, and returns its place on the bar."""
-        return self.run("""for (;;) {
-            const bar = document.querySelector('.work:not([hidden]) progress');
-            if (bar?.value) return bar.value;
-            await new Promise((resolve) => setTimeout(resolve, 20));
-          }""")
+        return self.run("return until(() => document.querySelector('.work:not([hidden]) progress')?.value)")
 
 
 @pytest.fixture(name="shown")
@@ -543,11 +534,9 @@ def test_keyboard(shown, files):
     assert shown.ended(2)[1] == ["big", ["cancelled"], []]
     assert shown.run("return document.activeElement.textContent") == "big"
     shown.press("Shift+Tab", "Space")
-    assert shown.run("""for (;;) {
-        const word = document.activeElement.firstChild.textContent;
-        if (word !== 'Copy') return word;
-        await new Promise((resolve) => setTimeout(resolve, 20));
-      }""") in ("Copied", "Selected")
+    assert shown.run("""const word = () => document.activeElement.firstChild.textContent;
+        await until(() => word() !== 'Copy');
+        return word();""") in ("Copied", "Selected")
 
 
 def test_narrow(browser, site):
@@ -559,7 +548,7 @@ def test_narrow(browser, site):
         const { document: page } = contentWindow, data = new contentWindow.DataTransfer();
         data.items.add(new contentWindow.File(['abc'], 'a'.repeat(200)));
         page.body.dispatchEvent(new contentWindow.DragEvent('drop', { dataTransfer: data, bubbles: true }));
-        while (!page.querySelector('code')?.textContent) await new Promise((resolve) => setTimeout(resolve, 20));
+        await until(() => page.querySelector('code')?.textContent);
         return page.documentElement.scrollWidth;""") <= 320
 
 
@@ -578,8 +567,7 @@ def test_package(browser, javascript, tmp_path):
     own = Site(tmp_path)
     try:
         browser.go(own.address)
-        assert browser.run("""while (!document.title) await new Promise((resolve) => setTimeout(resolve, 20));
-            return document.title;""") == f"{ABC},{ABC}"
+        assert browser.run("return until(() => document.title)") == f"{ABC},{ABC}"
     finally:
         own.stop()
     assert own.reports == []
