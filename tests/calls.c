@@ -1,8 +1,8 @@
 // Tries the functions of nattizhu.h as a caller in C has them, and as one in C++. All memory that
 // is handed over lies against an unmapped page, first behind it and then in front of it, and what a
 // call must not write is looked at. A pointer to no bytes is null, and then to such a page.
-//   calls DIRECTORY [VARIANT]  of digests-*.txt, tags.txt, keys.txt and rfc2286.txt, which others
-//                              published or gave; and 160, for example, to try one variant alone
+//   calls FILE [VARIANT]  of values that others published or gave, which conftest.py writes; and
+//                         160, for example, to try one variant alone
 #include <stdio.h>
 #include <stdlib.h>
 #include <string.h>
@@ -742,81 +742,52 @@ static void try_tag(const input *in, uint8_t *tag) {
   check(right && holds(STATE, &kept, HMAC_STATE_SIZE), "a tag in pieces", in->key_length);
 }
 
-// A file of the directory, which has to be there.
-static FILE *opened(const char *directory, const char *name) {
-  char path[4096];
-  snprintf(path, sizeof path, "%s/%s", directory, name);
-  FILE *file = fopen(path, "r");
+// The lines of the file about the variant: the number of a call, the variant, rounds, and in
+// hexadecimal, behind an x each, a key or a password, a message, a text or a salt, and what is
+// written. Each key is tried with the empty text too.
+static void try_values(const char *name) {
+  enum { TIMES = 9 };
+  char words[3][900];
+  uint8_t key[LONGEST], bytes[LONGEST], wanted[TIMES * 450] = {0};
+  unsigned bits, rounds;
+  int kind;
+  size_t lines = 0;
+  FILE *file = fopen(name, "r");
   if (!file) {
-    perror(path);
+    perror(name);
     exit(2);
   }
-  return file;
-}
-
-// The lines of a file about the variant. Keys and passwords are the bytes 1, 2 and so on. Each key
-// is tried with the empty text too.
-static void try_file(const char *directory, const char *name, int kind) {
-  enum { TIMES = 9 };
-  char line[4096], digits[900];
-  uint8_t wanted[TIMES * 450] = {0}, key[255];
-  unsigned bits = v, rounds;
-  size_t length, salt, lines = 0;
-  for (int i = 0; i < 255; i++)
-    key[i] = (uint8_t)(i + 1);
-  FILE *file = opened(directory, name);
-  while (fgets(line, sizeof line, file)) {
-    if (!(kind == DIGEST ? sscanf(line, "%zu %99s", &length, digits) == 2 && length <= MESSAGE
-          : kind == HMAC
-              ? sscanf(line, "%u %zu %99s", &bits, &length, digits) == 3
-              : sscanf(line, "%u %zu %zu %u %899s", &bits, &length, &salt, &rounds, digits) == 5) ||
-        bits != (unsigned)v || length > sizeof key)
+  while (fscanf(file, "%d %u %u %899s %899s %899s", &kind, &bits, &rounds, words[0], words[1],
+                words[2]) == 6) {
+    if (bits != (unsigned)v)
       continue;
     lines++;
-    const size_t all = from_hex(digits, wanted);
+    const size_t key_length = from_hex(words[0] + 1, key), length = from_hex(words[1] + 1, bytes);
+    const size_t all = from_hex(words[2] + 1, wanted);
+    input in = inputs(key, key_length, bytes, length);
     if (kind == DIGEST) {
-      const input in = inputs(NULL, 0, ramp, length);
       try_call(v, DIGEST, &in, wanted, all);
     } else if (kind == HMAC) {
-      input in = inputs(key, length, ramp, 150);
       try_tag(&in, wanted);
       in.length = 0;
       by_call(HMAC, &in, wanted, size);
       try_tag(&in, wanted);
     } else {
+      const nattizhu_message password = {key, key_length}, salt = {bytes, length};
       nattizhu_message passwords[TIMES], salts[TIMES];
       for (int i = 0; i < TIMES; i++) {
-        passwords[i].bytes = key, passwords[i].length = length;
-        salts[i].bytes = ramp, salts[i].length = salt;
+        passwords[i] = password, salts[i] = salt;
         memmove(wanted + i * all, wanted, all);
       }
-      const input in = {key, ramp, length, salt, all, passwords, salts, TIMES, TIMES, rounds};
+      in.record = all, in.rounds = rounds;
+      in.list = passwords, in.salts = salts;
+      in.count = in.salt_count = TIMES;
       try_call(v, PBKDF2, &in, wanted, all);
       try_call(v, PBKDF2_LISTED, &in, wanted, TIMES * all);
     }
   }
   fclose(file);
-  check(lines >= (kind == DIGEST ? MESSAGE + 1 : 5), name, lines);
-}
-
-// The lines of RFC 2286 about the variant: a key, a text and a tag, in hexadecimal.
-static void try_published(const char *directory) {
-  char line[512], key_digits[200], text_digits[200], tag_digits[200];
-  uint8_t key[100], text[100], tag[100] = {0};
-  unsigned bits;
-  size_t lines = 0;
-  FILE *file = opened(directory, "rfc2286.txt");
-  while (fgets(line, sizeof line, file))
-    if (sscanf(line, "%u %199s %199s %199s", &bits, key_digits, text_digits, tag_digits) == 4 &&
-        bits == (unsigned)v) {
-      const size_t key_length = from_hex(key_digits, key);
-      const input in = inputs(key, key_length, text, from_hex(text_digits, text));
-      check(from_hex(tag_digits, tag) == size, "the length of a published tag", lines);
-      try_tag(&in, tag);
-      lines++;
-    }
-  fclose(file);
-  check(lines == (size <= 20 ? 7 : 0), "published tags", lines);
+  check(lines > MESSAGE + 15, name, lines);
 }
 
 int main(int argc, char **argv) {
@@ -826,17 +797,12 @@ int main(int argc, char **argv) {
     ramp[i] = (uint8_t)i;
   make_rooms();
   for (int i = 0; i < 2 * VARIANTS; i++) {
-    char digests[40];
     v = ALL[i / 2];
     size = (size_t)v / 8;
     at_end = i % 2;
     if (argc > 2 && atoi(argv[2]) != (int)v)
       continue;
-    snprintf(digests, sizeof digests, "digests-%u.txt", (unsigned)v);
-    try_file(argv[1], digests, DIGEST);
-    try_file(argv[1], "tags.txt", HMAC);
-    try_file(argv[1], "keys.txt", PBKDF2);
-    try_published(argv[1]);
+    try_values(argv[1]);
     try_saved_hmac();
     try_many();
     try_key_lists();

@@ -143,6 +143,18 @@ def library(once):
     return BUILT
 
 
+@pytest.fixture(scope="session")
+def values(tmp_path_factory):
+    """A file of what others gave, for tests/calls.c: calls by their numbers in tests/calls.h."""
+    rows = [(0, bits, 1, "", counted(length).hex(), digest) for bits, length, digest in DIGESTS if length <= 200]
+    rows += [(3, bits, rounds, counted(password, 1).hex(), counted(salt).hex(), key)
+             for bits, password, salt, rounds, key in lines("keys.txt")]
+    rows += [(4, bits, 1, *words) for bits, *words in TAGS]
+    file = tmp_path_factory.mktemp("values") / "values"
+    file.write_text("".join("{} {} {} x{} x{} x{}\n".format(*row) for row in rows))
+    return file
+
+
 # Digests and tags of which one bit is wrong, by the right functions under other names.
 BROKEN = """#include "nattizhu.h"
 #define BROKEN(name, parameters, arguments) \\

@@ -24,9 +24,9 @@ def fixture_build(request, arm64, tmp_path):
     return build
 
 
-def test_calls(build):
+def test_calls(build, values):
     """With shorter lists, since the emulator is slow."""
-    assert_tried(838000, *build(CALLS, "-DMOST=70"), DATA)
+    assert_tried(838000, *build(CALLS, "-DMOST=70"), values)
 
 
 def test_vectors_from_python(arm64, tmp_path):

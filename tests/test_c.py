@@ -3,7 +3,7 @@ warnings of wrong calls, the programs of docs/C.md, and tests/calls.c, also wher
 import re
 
 import pytest
-from conftest import ARM64, DATA, ROOT, lines, memcheck, need, need_arm64, programs, run
+from conftest import ARM64, ROOT, lines, memcheck, need, need_arm64, programs, run
 
 CRATE = ROOT / "crates/ripemd_c"
 CALLS = ROOT / "tests/calls.c"
@@ -220,18 +220,18 @@ def assert_tried(least, *command, by=run, **options):
     assert by is memcheck or "no addresses" not in printed, "tests/calls.c has to try a key that is too long"
 
 
-def test_calls(build):
-    assert_tried(2145000, *build(CALLS), DATA)
+def test_calls(build, values):
+    assert_tried(2145000, *build(CALLS), values)
 
 
-def test_calls_with_sanitizers(library, tmp_path, sanitizers):
+def test_calls_with_sanitizers(library, values, tmp_path, sanitizers):
     run(*sanitizers, "-std=c99", *CHECKED, "-I", CRATE, CALLS, CRATE / "nattizhu.c", library / "libnattizhu.a",
         "-o", tmp_path / "program")
-    assert_tried(2084000, tmp_path / "program", DATA)
+    assert_tried(2084000, tmp_path / "program", values)
 
 
 @pytest.mark.parametrize("variant", [128, 160, 256, 320])
-def test_calls_under_valgrind(library, tmp_path, variant):
+def test_calls_under_valgrind(library, values, tmp_path, variant):
     program = tmp_path / "program"
     compile_by("cc", "c99", *CHECKED, CALLS, "-x", "none", library / "libnattizhu.a", "-o", program)
-    assert_tried(514000, program, DATA, variant, by=memcheck)
+    assert_tried(514000, program, values, variant, by=memcheck)
