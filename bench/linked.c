@@ -328,30 +328,32 @@ static void print_cell(int l, int cell, double figure, const char *form) {
     printf(" (%.2f)", part);
 }
 
+// Of a task the MB of a second, or the ns for each message; of keys the thousands of rounds of a second.
+static double figure(int cell, double taken) {
+  if (cell >= KEY_CELLS)
+    return KEYS[cell - KEY_CELLS].count * KEY_ROUNDS / taken / 1e3;
+  const struct task *task = &TASKS[cell / VARIANTS];
+  return task->in_ns ? 1e9 * taken / task->count : task->size * task->count / taken / 1e6;
+}
+
 // A row for each library.
-static void print_table(int t, int rounds) {
-  const struct task *task = &TASKS[t];
-  printf("\n%s:\n\n| | 128 | 160 | 256 | 320 |\n|---|---|---|---|---|\n", task->title);
+static void print_rows(int first, int cells, int rounds) {
   for (int l = 0; l < count; l++) {
-    int any = 0;
-    for (int v = 0; v < VARIANTS; v++)
-      any |= has(&libraries[l], v, task);
+    bool any = false;
+    for (int cell = first; cell < first + cells; cell++)
+      any |= has_cell(&libraries[l], cell);
     if (!any)
       continue;
     printf("| %s |", libraries[l].name);
-    for (int v = 0; v < VARIANTS; v++) {
-      int cell = t * VARIANTS + v;
+    for (int cell = first; cell < first + cells; cell++) {
       double taken = times[l][cell].least;
       if (taken)
-        print_cell(l, cell,
-                   task->in_ns ? 1e9 * taken / task->count
-                               : task->size * task->count / taken / 1e6,
-                   " %.0f");
+        print_cell(l, cell, figure(cell, taken), " %.0f");
       printf(" |");
     }
     printf("\n");
   }
-  print_spread(t * VARIANTS, VARIANTS, rounds);
+  print_spread(first, cells, rounds);
 }
 
 // A row for each call of pieces.
@@ -381,25 +383,6 @@ static void print_pieces(int rounds) {
   print_spread(PIECE_CELLS, CALLS_COUNT, rounds);
 }
 
-// A row for each library: the rounds of a key in a second, or of all keys of a list.
-static void print_keys(int rounds) {
-  printf("\nKeys from passwords, PBKDF2 with HMAC and RIPEMD-160, thousands of rounds a second:\n\n"
-         "| | 20 bytes | 64 bytes | 192 bytes | eight of 20 bytes, ours at once |\n"
-         "|---|---|---|---|---|\n");
-  for (int l = 0; l < count; l++) {
-    if (!libraries[l].derive)
-      continue;
-    printf("| %s |", libraries[l].name);
-    for (int k = 0; k < KEYS_COUNT; k++) {
-      double taken = times[l][KEY_CELLS + k].least;
-      print_cell(l, KEY_CELLS + k, KEYS[k].count * KEY_ROUNDS / taken / 1e3, " %.0f");
-      printf(" |");
-    }
-    printf("\n");
-  }
-  print_spread(KEY_CELLS, KEYS_COUNT, rounds);
-}
-
 int main(int argc, char **argv) {
   for (int i = 0; i < MIB; i++)
     bytes[i] = i * 7 + (i >> 8);
@@ -427,8 +410,13 @@ int main(int argc, char **argv) {
     measure_all(round);
     still = fell ? 0 : still + 1;
   }
-  for (int t = 0; t < TASKS_COUNT; t++)
-    print_table(t, round);
+  for (int t = 0; t < TASKS_COUNT; t++) {
+    printf("\n%s:\n\n| | 128 | 160 | 256 | 320 |\n|---|---|---|---|---|\n", TASKS[t].title);
+    print_rows(t * VARIANTS, VARIANTS, round);
+  }
   print_pieces(round);
-  print_keys(round);
+  printf("\nKeys from passwords, PBKDF2 with HMAC and RIPEMD-160, thousands of rounds a second:\n\n"
+         "| | 20 bytes | 64 bytes | 192 bytes | eight of 20 bytes, ours at once |\n"
+         "|---|---|---|---|---|\n");
+  print_rows(KEY_CELLS, KEYS_COUNT, round);
 }
