@@ -3,7 +3,6 @@
 import json
 import random
 import re
-import subprocess
 import sys
 import tarfile
 
@@ -12,7 +11,6 @@ from conftest import ARM64, DIGESTS, ROOT, TAGS, counted, lines, need, run
 
 for _module, _package in (("capstone", "python3-capstone"), ("elftools", "python3-pyelftools")):
     pytest.importorskip(_module, reason=f"there is no {_module} for this python3 (Debian's {_package})")
-sys.path.insert(0, str(ROOT / "tests/machine"))
 # pylint: disable=wrong-import-position
 import cases  # noqa: E402
 import machine  # noqa: E402
@@ -195,8 +193,7 @@ def test_single_bits_are_noticed(library, image, tmp_path):
         changed = bytearray(data)
         changed[image.offset(at)] ^= bit
         (tmp_path / "changed.so").write_bytes(changed)
-        ended = subprocess.run([sys.executable, "-c", NATIVE, tmp_path / "changed.so"], input=asked, text=True,
-                               capture_output=True, check=False)
+        ended = run(sys.executable, "-c", NATIVE, tmp_path / "changed.so", input=asked, status=None)
         assert ended.stdout == "right\n", f"{image.place(at)}, bit {bit:#x}: not noticed, and wrong\n{ended.stderr}"
     print(f"{noticed} of {BITS} bits noticed; the others do not matter")
     assert noticed >= BITS * 8 // 10

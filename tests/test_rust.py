@@ -4,14 +4,11 @@ docs/RUST.md. Other crates are Debian's, which .ci/run unpacks: nothing is downl
 import pathlib
 import re
 import shutil
-import sys
 
 import pytest
+import textbook
 from conftest import (DATA, DIGESTS, NOTICED, ROOT, SECRETS, TAGS, VARIANTS, counted, fences, lines, memcheck, need,
                       programs, run)
-
-sys.path.insert(0, str(ROOT / "tests/machine"))
-import textbook  # noqa: E402 pylint: disable=wrong-import-position
 
 REGISTRY = pathlib.Path("/usr/local/share/cargo/registry")
 MUSL = "x86_64-unknown-linux-musl"
