@@ -1,8 +1,8 @@
 // Tries the functions of nattizhu.h as a caller in C has them, and as one in C++. All memory that
 // is handed over lies against an unmapped page, first behind it and then in front of it, and what a
 // call must not write is looked at. A pointer to no bytes is null, and then to such a page.
-//   calls FILE [VARIANT]  of values that others published or gave, which conftest.py writes; and
-//                         160, for example, to try one variant alone
+//   calls FILE [VARIANT]  of values, as conftest.py writes them; and 160, for example, to try one
+//                         variant alone
 #include <stdio.h>
 #include <stdlib.h>
 #include <string.h>
@@ -278,16 +278,6 @@ static void muddle(int keyed, uint8_t *state) {
       state[i] = (uint8_t)(state[i] + (means[i] ? 0 : 1 + i % 255));
 }
 
-// Writes what a hasher is saved as, with this chaining value, so many blocks and this tail.
-static void write_saved(uint8_t *saved, const uint8_t *chaining, size_t blocks, const uint8_t *tail,
-                        size_t length) {
-  memset(saved, 0, size + 72);
-  memcpy(saved, chaining, size);
-  saved[size] = (uint8_t)blocks;
-  saved[size + 8] = (uint8_t)length;
-  memcpy(saved + size + 9, tail, length);
-}
-
 // Whether a state has so many blocks and this tail, behind a chaining value.
 static bool has(const uint8_t *part, size_t blocks, const uint8_t *tail, size_t length) {
   part += size;
@@ -295,43 +285,43 @@ static bool has(const uint8_t *part, size_t blocks, const uint8_t *tail, size_t 
          !memcmp(part + 9, tail, length);
 }
 
-// Whether the state of a message ends with its digest, and only in so many bytes.
-static bool ends(const nattizhu_state *state, const uint8_t *message, size_t length) {
-  const input in = inputs(NULL, 0, message, length);
+// Whether a state ends with the digest or the tag of what it was given, and only in so many bytes.
+static bool ends(int keyed, const uint8_t *state, const input *in) {
   uint8_t wanted[MAX];
-  bool right = call(DIGEST, v, &in, wanted, size);
+  bool right = call(keyed ? HMAC : DIGEST, v, in, wanted, size);
   for (size_t n = 0; n <= MAX + 1; n++) {
-    uint8_t *digest = output(OUT, n);
-    right &=
-        nattizhu_final(state, digest, n) == (n == size) && holds(OUT, n == size ? wanted : NULL, n);
+    uint8_t *out = output(OUT, n);
+    right &= end(keyed, state, out, n) == (n == size) && holds(OUT, n == size ? wanted : NULL, n);
   }
   return right;
 }
 
 // The message in two pieces at every cut, and then the state copied and taken on in another place.
 // What means nothing is changed between the calls.
-static void try_pieces(void) {
-  const size_t length = size + 72, rest = STATE_SIZE - 1 - length;
+static void try_pieces(int keyed) {
+  const size_t length = saved_size(keyed, size), all = STATE_SIZES[keyed], rest = all - 1 - length;
+  const input whole = inputs(ramp, 20, ramp, MESSAGE);
   for (size_t cut = 0; cut <= MESSAGE; cut++) {
-    uint8_t *bytes = output(STATE, STATE_SIZE), saved[MOST_SAVED], again[MOST_SAVED];
-    nattizhu_state *state = (nattizhu_state *)(void *)bytes;
-    bool right = nattizhu_init(v, state) && bytes[0] == size && has(bytes + 1, 0, ramp, 0) &&
-                 all_are(bytes + 1 + length, rest, 7);
-    muddle(0, bytes);
-    memset(bytes + 1 + length, 9, rest);
-    right &= nattizhu_update(state, copied(BYTES, ramp, cut), cut) &&
-             has(bytes + 1, cut / 64, ramp + cut / 64 * 64, cut % 64) &&
-             nattizhu_save(state, saved, length) && is_kept(STATE, 0, saved, 9);
-    nattizhu_state copy = *state;
-    muddle(0, bytes);
-    memset(bytes + 1 + length, 9, rest);
-    right &= ends(state, ramp, cut) && nattizhu_update(state, copied(BYTES, ramp, 0), 0) &&
-             is_kept(STATE, 0, saved, 9) && nattizhu_save(state, again, length) &&
+    uint8_t *state = output(STATE, all), *behind = state + 1 + length;
+    uint8_t copy[HMAC_STATE_SIZE], saved[MOST_SAVED], again[MOST_SAVED];
+    const input first = inputs(ramp, 20, ramp, cut);
+    bool right = begin(v, keyed, state, ramp, 20) && state[0] == size + (keyed ? 128 : 0) &&
+                 has(state + 1, (size_t)keyed, ramp, 0) && all_are(behind, rest, 7);
+    muddle(keyed, state);
+    memset(behind, 9, rest);
+    right &= update(keyed, state, copied(BYTES, ramp, cut), cut) &&
+             has(state + 1, (size_t)keyed + cut / 64, ramp + cut / 64 * 64, cut % 64) &&
+             save(keyed, state, saved, length) && is_kept(STATE, keyed, saved, 9);
+    memcpy(copy, state, all);
+    muddle(keyed, state);
+    memset(behind, 9, rest);
+    right &= ends(keyed, state, &first) && update(keyed, state, copied(BYTES, ramp, 0), 0) &&
+             is_kept(STATE, keyed, saved, 9) && save(keyed, state, again, length) &&
              !memcmp(saved, again, length);
-    right &= nattizhu_update(state, copied(BYTES, ramp + cut, MESSAGE - cut), MESSAGE - cut) &&
-             ends(state, ramp, MESSAGE) && nattizhu_save(state, saved, length) &&
-             is_kept(STATE, 0, saved, 9) && nattizhu_update(&copy, ramp + cut, MESSAGE - cut) &&
-             nattizhu_save(&copy, again, length) && !memcmp(saved, again, length);
+    right &= update(keyed, state, copied(BYTES, ramp + cut, MESSAGE - cut), MESSAGE - cut) &&
+             ends(keyed, state, &whole) && save(keyed, state, saved, length) &&
+             is_kept(STATE, keyed, saved, 9) && update(keyed, copy, ramp + cut, MESSAGE - cut) &&
+             save(keyed, copy, again, length) && !memcmp(saved, again, length);
     check(right, "two pieces", cut);
   }
 }
@@ -353,74 +343,21 @@ static bool is_saved_as(int keyed, const uint8_t *state, const uint8_t *saved) {
          !memcmp(again, saved, length);
 }
 
-// What a hasher is saved as after this message, whose blocks lead to this chaining value; it goes
-// on from there. None of its memory is initialized.
-static void try_saved(const uint8_t *chaining, const uint8_t *message, size_t length) {
-  const size_t cut = length / 3, whole = length / 64 * 64;
-  uint8_t saved[MOST_SAVED], more[4 * MESSAGE];
-  nattizhu_state state, loaded;
-  write_saved(saved, chaining, length / 64, message + whole, length - whole);
-  memcpy(more, message, length);
-  memcpy(more + length, ramp, MESSAGE);
-  check(nattizhu_init(v, &state) && nattizhu_update(&state, message, cut) &&
-            nattizhu_update(&state, message + cut, length - cut) &&
-            is_saved_as(0, state.bytes, saved) && nattizhu_load(v, &loaded, saved, size + 72) &&
-            ends(&loaded, more, length) && nattizhu_update(&loaded, ramp, MESSAGE) &&
-            ends(&loaded, more, length + MESSAGE),
-        "a saved state", length);
-}
-
-// Before the first block the chaining value is the start of the paper. The blocks to which a
-// message is padded lead to one that is its digest.
-static void try_saved_pieces(void) {
-  uint8_t left[20], right[20], start[MAX], bytes[2 * MESSAGE], digest[MAX];
-  const size_t line = size < 32 ? size : size / 2;
-  from_hex("0123456789abcdeffedcba9876543210f0e1d2c3", left);
-  from_hex("1032547698badcfeefcdab89674523010f1e2d3c", right);
-  memcpy(start, left, line);
-  memcpy(start + line, right, size - line);
-  for (size_t length = 0; length < 64; length++)
-    try_saved(start, ramp, length);
-  for (size_t length = 0; length + 64 <= MESSAGE; length++) {
-    const size_t all = (length + 8) / 64 * 64 + 64, tail = length * 7 % 64;
-    const input in = inputs(NULL, 0, ramp, length);
-    by_call(DIGEST, &in, digest, size);
-    memset(bytes, 0, all);
-    memcpy(bytes, ramp, length);
-    bytes[length] = 0x80;
-    bytes[all - 8] = (uint8_t)(length * 8);
-    bytes[all - 7] = (uint8_t)(length >> 5);
-    memcpy(bytes + all, ramp, tail);
-    try_saved(digest, bytes, all + tail);
-  }
-}
-
-// The HMAC state after 3 bytes under a key of 20 bytes 1, 2 and so on: LibTomCrypt 1.18.2's words
-// after each masked key, one block, and the tail.
-static void try_saved_hmac(void) {
-  static const char *const words[VARIANTS][2] = {
-      {"b8e59e1beda52fe06f5d006bc01c3aad", "aa621cf31d8bc030a45c02d3f1f62b1a"},
-      {"f8bc455df2f8776b6c2ad7716f001355ddb1e73b", "c63681a8e6e3eec6a70f1df0acbcbff94e9c2305"},
-      {"ebe4db5a045a3cee216e694b1fb32c22866b9406f89295629c53824e14479019",
-       "0f5f673119a81cb1bfa0dae25978a8a9990babace8fac6875cb5c761816c3727"},
-      {"309a1ec3383714c24ff99acc3220246437be47a1419976aa438636d5157f3ff2390f1f4d93500a8c",
-       "86237896279179c88628c0f2d64f0dc8447cc13d4f549bd1e4d4d5253240e90368bffd7f7443c598"}};
-  const input in = inputs(ramp + 1, 20, ramp, 150);
-  uint8_t chaining[MAX], saved[MOST_SAVED], tag[MAX], wanted[MAX];
-  nattizhu_hmac_state state, loaded;
-  for (int i = 0; i < VARIANTS; i++)
-    for (size_t part = 0; part < 2 && v == ALL[i]; part++) {
-      from_hex(words[i][part], chaining);
-      write_saved(saved + part * (size + 72), chaining, 1, ramp, part ? 0 : 3);
-    }
-  by_call(HMAC, &in, wanted, size);
-  check(nattizhu_hmac_init(v, &state, ramp + 1, 20) && nattizhu_hmac_update(&state, ramp, 3) &&
-            is_saved_as(1, state.bytes, saved) &&
-            nattizhu_hmac_load(v, &loaded, saved, 2 * (size + 72)) &&
-            nattizhu_hmac_update(&loaded, ramp + 3, 147) &&
-            nattizhu_hmac_final(&loaded, tag, size) && !memcmp(tag, wanted, size) &&
-            nattizhu_hmac_verify(&loaded, wanted, size),
-        "a saved HMAC state", 0);
+// What a state is saved as after a message in two pieces; it goes on from there. None of its memory
+// is initialized.
+static void try_saved(int keyed, const input *in, const uint8_t *saved) {
+  const size_t cut = in->length / 3;
+  uint8_t state[HMAC_STATE_SIZE], loaded[HMAC_STATE_SIZE], more[LONGEST + MESSAGE];
+  input longer = *in;
+  longer.bytes = more, longer.length += MESSAGE;
+  memcpy(more, in->bytes, in->length);
+  memcpy(more + in->length, ramp, MESSAGE);
+  check(begin(v, keyed, state, in->key, in->key_length) && update(keyed, state, in->bytes, cut) &&
+            update(keyed, state, in->bytes + cut, in->length - cut) &&
+            is_saved_as(keyed, state, saved) &&
+            load(v, keyed, loaded, saved, saved_size(keyed, size)) && ends(keyed, loaded, in) &&
+            update(keyed, loaded, ramp, MESSAGE) && ends(keyed, loaded, &longer),
+        "a saved state", in->length);
 }
 
 // Bytes that may be no state: each call takes them exactly if they are one, and writes nothing if
@@ -701,54 +638,39 @@ static void try_too_long(void) {
 
 // ---- what others gave
 
-// A tag whole and in two pieces, and verified: as it is, too short or too long, and with each byte
+// A tag, whole and of a state, and verified: as it is, too short or too long, and with each byte
 // wrong.
 static void try_tag(const input *in, uint8_t *tag) {
-  const size_t third = in->length / 3, more = in->length - third, whole = in->length / 64;
-  uint8_t *bytes = output(STATE, HMAC_STATE_SIZE), *outer = bytes + 1 + size + 72;
-  uint8_t *behind = outer + size + 72;
-  const size_t rest = HMAC_STATE_SIZE - (size_t)(behind - bytes);
-  nattizhu_hmac_state *state = (nattizhu_hmac_state *)(void *)bytes, loaded;
-  uint8_t saved[MOST_SAVED];
+  uint8_t *state = output(STATE, HMAC_STATE_SIZE), kept[HMAC_STATE_SIZE];
+  const nattizhu_hmac_state *hmac = (const nattizhu_hmac_state *)(const void *)state;
   try_call(v, HMAC, in, tag, size);
-  bool right = nattizhu_hmac_init(v, state, copied(KEY, in->key, in->key_length), in->key_length) &&
-               has(bytes + 1, 1, ramp, 0) && all_are(behind, rest, 7);
-  muddle(1, bytes);
-  right &= nattizhu_hmac_update(state, copied(BYTES, in->bytes, third), third);
-  muddle(1, bytes);
-  memset(behind, 9, rest);
-  right &= nattizhu_hmac_update(state, copied(BYTES, in->bytes + third, more), more);
-  right &= has(outer, 1, ramp, 0) &&
-           has(bytes + 1, 1 + whole, in->bytes + 64 * whole, in->length % 64) &&
-           nattizhu_hmac_save(state, saved, 2 * (size + 72)) && is_kept(STATE, 1, saved, 9) &&
-           is_saved_as(1, bytes, saved) && nattizhu_hmac_load(v, &loaded, saved, 2 * (size + 72)) &&
-           nattizhu_hmac_verify(&loaded, tag, size);
-  muddle(1, bytes);
-  const nattizhu_hmac_state kept = *state;
   const uint8_t *key = copied(KEY, in->key, in->key_length);
   const uint8_t *text = copied(BYTES, in->bytes, in->length);
+  bool right = begin(v, 1, state, key, in->key_length) && update(1, state, text, in->length);
+  muddle(1, state);
+  memcpy(kept, state, sizeof kept);
   for (size_t i = 0; i <= 2 * size + 1; i++) {
     const size_t length = i <= size + 1 ? i : size; // then each byte wrong
     uint8_t *out = output(OUT, length);
-    right &= nattizhu_hmac_final(state, out, length) == (length == size) &&
+    right &= end(1, state, out, length) == (length == size) &&
              holds(OUT, length == size ? tag : NULL, length);
     out = copied(OUT, tag, length);
     if (i > size + 1)
       out[i - size - 2] ^= 1;
-    right &= nattizhu_hmac_verify(state, out, length) == (i == size) &&
+    right &= nattizhu_hmac_verify(hmac, out, length) == (i == size) &&
              nattizhu_hmac_verify_text(v, key, in->key_length, text, in->length, out, length) ==
                  (i == size);
   }
-  check(right && holds(STATE, &kept, HMAC_STATE_SIZE), "a tag in pieces", in->key_length);
+  check(right && holds(STATE, kept, HMAC_STATE_SIZE), "a tag of a state", in->key_length);
 }
 
 // The lines of the file about the variant: the number of a call, the variant, rounds, and in
-// hexadecimal, behind an x each, a key or a password, a message, a text or a salt, and what is
-// written. Each key is tried with the empty text too.
+// hexadecimal, behind an x each, a key or a password, a message, a text or a salt, what is written,
+// and what a state is saved as then. Each key is tried with the empty text too.
 static void try_values(const char *name) {
   enum { TIMES = 9 };
-  char words[3][900];
-  uint8_t key[LONGEST], bytes[LONGEST], wanted[TIMES * 450] = {0};
+  char words[4][900];
+  uint8_t key[LONGEST], bytes[LONGEST], wanted[TIMES * 450] = {0}, saved[MOST_SAVED];
   unsigned bits, rounds;
   int kind;
   size_t lines = 0;
@@ -757,18 +679,21 @@ static void try_values(const char *name) {
     perror(name);
     exit(2);
   }
-  while (fscanf(file, "%d %u %u %899s %899s %899s", &kind, &bits, &rounds, words[0], words[1],
-                words[2]) == 6) {
+  while (fscanf(file, "%d %u %u %899s %899s %899s %899s", &kind, &bits, &rounds, words[0], words[1],
+                words[2], words[3]) == 7) {
     if (bits != (unsigned)v)
       continue;
     lines++;
     const size_t key_length = from_hex(words[0] + 1, key), length = from_hex(words[1] + 1, bytes);
     const size_t all = from_hex(words[2] + 1, wanted);
     input in = inputs(key, key_length, bytes, length);
+    from_hex(words[3] + 1, saved);
     if (kind == DIGEST) {
       try_call(v, DIGEST, &in, wanted, all);
+      try_saved(0, &in, saved);
     } else if (kind == HMAC) {
       try_tag(&in, wanted);
+      try_saved(1, &in, saved);
       in.length = 0;
       by_call(HMAC, &in, wanted, size);
       try_tag(&in, wanted);
@@ -803,12 +728,11 @@ int main(int argc, char **argv) {
     if (argc > 2 && atoi(argv[2]) != (int)v)
       continue;
     try_values(argv[1]);
-    try_saved_hmac();
     try_many();
     try_key_lists();
     try_overlaps();
-    try_pieces();
-    try_saved_pieces();
+    try_pieces(0);
+    try_pieces(1);
     try_states();
     try_wipe();
     try_refused(v);

@@ -8,6 +8,7 @@ import shutil
 import subprocess
 
 import pytest
+import textbook
 
 ROOT = pathlib.Path(__file__).resolve().parent.parent
 DATA = ROOT / "tests/data"
@@ -145,13 +146,20 @@ def library(once):
 
 @pytest.fixture(scope="session")
 def values(tmp_path_factory):
-    """A file of what others gave, for tests/calls.c: calls by their numbers in tests/calls.h."""
-    rows = [(0, bits, 1, "", counted(length).hex(), digest) for bits, length, digest in DIGESTS if length <= 200]
-    rows += [(3, bits, rounds, counted(password, 1).hex(), counted(salt).hex(), key)
+    """A file for tests/calls.c: calls by their numbers in tests/calls.h, what others gave, and what states are saved as
+    then by the textbook."""
+    def saved(bits, key, text):
+        hashers = [(textbook.start_of(int(bits)), 0, [])] if key is None else textbook.keyed(int(bits), [*key])
+        return bytes(textbook.saved(int(bits), hashers, [*text])).hex()
+
+    rows = [(0, bits, 1, "", counted(length).hex(), digest, saved(bits, None, counted(length)))
+            for bits, length, digest in DIGESTS if length <= 200]
+    rows += [(3, bits, rounds, counted(password, 1).hex(), counted(salt).hex(), key, "")
              for bits, password, salt, rounds, key in lines("keys.txt")]
-    rows += [(4, bits, 1, *words) for bits, *words in TAGS]
+    rows += [(4, bits, 1, key, text, tag, saved(bits, bytes.fromhex(key), bytes.fromhex(text)))
+             for bits, key, text, tag in TAGS]
     file = tmp_path_factory.mktemp("values") / "values"
-    file.write_text("".join("{} {} {} x{} x{} x{}\n".format(*row) for row in rows))
+    file.write_text("".join("{} {} {} x{} x{} x{} x{}\n".format(*row) for row in rows))
     return file
 
 

@@ -27,10 +27,12 @@ def test_textbook():
     """It gives the values of other implementations."""
     found = [(textbook.ripemd(int(bits), [*counted(length)]), digest)
              for bits, length, digest in DIGESTS if length <= 200]
-    found += [(textbook.output(int(bits), textbook.keyed(int(bits), list(bytes.fromhex(key))), list(bytes.fromhex(text))),
+    found += [(textbook.output(int(bits), textbook.keyed(int(bits), [*bytes.fromhex(key)]), [*bytes.fromhex(text)]),
                tag) for bits, key, text, tag in TAGS]
     found += [(textbook.pbkdf2(int(bits), [*counted(password, 1)], [*counted(salt)], int(rounds), len(key) // 2), key)
               for bits, password, salt, rounds, key in lines("keys.txt") if int(rounds) <= 3]
+    found += [(textbook.saved(int(bits), textbook.keyed(int(bits), [*counted(20, 1)]), []),
+               "".join(value + "01" + "00" * 71 for value in values)) for bits, *values in lines("states.txt")]
     assert len(found) > 800 and [row for row in found if bytes(row[0]).hex() != row[1]] == []
 
 
