@@ -447,12 +447,6 @@ def test_file_that_is_cut(shown, tmp_path, files):
     assert one[2] == ONE
 
 
-def test_dropped(shown):
-    shown.drop(("abc", b"abc"), ("one", b"\0"))
-    (_, _, abc), (_, _, one) = shown.ended(2)
-    assert abc[1] == ABC and one == ONE
-
-
 def test_folder_dropped(shown, files):
     """Chromium lets a driver drop what lies on the disk."""
     if not isinstance(shown.browser, BROWSERS["chromium"]):

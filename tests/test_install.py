@@ -30,21 +30,14 @@ def test_completion(prefix, words, options):
     assert ended.stdout.split() == options
 
 
-def by_pkg_config(prefix, source):
+def test_pkg_config(library, source, tmp_path):
+    """Where the prefix has a space. In test_rust.py and of Debian's packages it has none."""
+    need("pkg-config", "pkg-config")
+    prefix = tmp_path / "a prefix"
+    run("make", "install-library", f"PREFIX={prefix}", "DESTDIR=")
     flags = run("pkg-config", "--cflags", "--libs", "nattizhu", env={"PKG_CONFIG_PATH": prefix / "lib/pkgconfig"}).stdout
     run("cc", "-o", source.with_suffix(""), source, *shlex.split(flags))
     assert run(source.with_suffix(""), env={"LD_LIBRARY_PATH": prefix / "lib"}).stdout == ABC + "\n"
-
-
-def test_pkg_config(prefix, source):
-    need("pkg-config", "pkg-config")
-    by_pkg_config(prefix, source)
-
-
-def test_space_in_the_prefix(library, source, tmp_path):
-    need("pkg-config", "pkg-config")
-    run("make", "install-library", f"PREFIX={tmp_path / 'a prefix'}", "DESTDIR=")
-    by_pkg_config(tmp_path / "a prefix", source)
 
 
 def test_static_library(prefix, source):
