@@ -7,7 +7,7 @@ import contextlib
 from functools import partial
 from itertools import product
 
-from machine import Wrong, number_bytes
+from machine import Wrong, halves
 from terms import bytes_of, forget, inputs, sources, words_of, xor, zero
 from textbook import keyed, output, pbkdf2, saved, start_of
 
@@ -76,7 +76,7 @@ class Caller:
 
     def messages(self, pieces):
         """A list of messages."""
-        some = [byte for piece in pieces for byte in number_bytes(piece.at) + number_bytes(piece.count)]
+        some = bytes_of(halves(number for piece in pieces for number in piece))
         return Piece(self.machine.piece(some, odd=8), some, len(pieces))
 
     def call(self, name, *arguments, answer=1):

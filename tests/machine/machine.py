@@ -284,7 +284,7 @@ class Machine:
     def call_at(self, pc, *arguments):
         for i, argument in zip(self.ARGUMENTS, arguments):
             self.g[i] = argument
-        further = [byte for number in arguments[len(self.ARGUMENTS):] for byte in number_bytes(number)]
+        further = bytes_of(halves(arguments[len(self.ARGUMENTS):]))
         self.entry = self.g[self.KEPT[0]] = TOP - 4096
         self.cells.owned = self.entry + len(further)
         self.cells.update(enumerate(further, self.entry))
@@ -349,7 +349,3 @@ class Machine:
             return back
 
         return execute, None
-
-
-def number_bytes(number):
-    return list(number.to_bytes(8, "little"))
