@@ -12,7 +12,8 @@ import textbook
 
 ROOT = pathlib.Path(__file__).resolve().parent.parent
 DATA = ROOT / "tests/data"
-BUILT = ROOT / "crates/ripemd_c/out"
+CRATE = ROOT / "crates/ripemd_c"
+BUILT = CRATE / "out"
 PROGRAM = ROOT / "crates/ripemd_sum/out/x86-64/ripemd_sum"
 FILES_PROGRAM = ROOT / "crates/rmdsum/out/rmdsum"
 SECRETS = ROOT / "tests/secrets"
@@ -85,7 +86,7 @@ def programs(page, language):
 
 def version():
     """The version that nattizhu.h names."""
-    header = (ROOT / "crates/ripemd_c/nattizhu.h").read_text("utf-8")
+    header = (CRATE / "nattizhu.h").read_text("utf-8")
     return re.search(r'^#define NATTIZHU_VERSION "(.*)"$', header, re.MULTILINE)[1]
 
 
@@ -186,7 +187,7 @@ def broken(library, once):
             shutil.copy(archive, folder)
         names = re.findall(r"^BROKEN\((\w+)", BROKEN, re.MULTILINE)
         run("objcopy", *(f"--redefine-sym={name}=right_{name}" for name in names), folder / "libnattizhu.a")
-        run("cc", "-O2", "-fPIC", "-Wall", "-Wextra", "-Werror", "-I", ROOT / "crates/ripemd_c", "-x", "c", "-c", "-",
+        run("cc", "-O2", "-fPIC", "-Wall", "-Wextra", "-Werror", "-I", CRATE, "-x", "c", "-c", "-",
             "-o", folder / "broken.o", input=BROKEN)
         run("ar", "r", folder / "libnattizhu.a", folder / "broken.o")
 

@@ -3,8 +3,8 @@ tests/vectors.py."""
 import shutil
 
 import pytest
-from conftest import ARM64, ARM64_COMPILER, DATA, ROOT, need, run
-from test_c import CALLS, CRATE, STRICT, assert_tried, test_page  # the last with the fixture `build` below
+from conftest import ARM64, ARM64_COMPILER, CRATE, DATA, ROOT, need, run
+from test_c import CALLS, STRICT, assert_tried, test_page  # the last with the fixture `build` below
 
 # Where Debian's libc6-arm64-cross has the C library.
 EMULATOR = ["qemu-aarch64", "-L", "/usr/aarch64-linux-gnu"]

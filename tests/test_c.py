@@ -3,9 +3,8 @@ warnings of wrong calls, the programs of docs/C.md, and tests/calls.c, also wher
 import re
 
 import pytest
-from conftest import ARM64, ROOT, lines, memcheck, need, need_arm64, programs, run
+from conftest import ARM64, CRATE, ROOT, lines, memcheck, need, need_arm64, programs, run
 
-CRATE = ROOT / "crates/ripemd_c"
 CALLS = ROOT / "tests/calls.c"
 HEADER = (CRATE / "nattizhu.h").read_text("utf-8")
 FUNCTIONS = sorted(re.findall(r"^(?:NATTIZHU_CHECKED .*[ *]|void )(nattizhu_\w+)\(", HEADER, re.MULTILINE))

@@ -6,9 +6,8 @@ import sys
 import time
 
 import pytest
-from conftest import DATA, ROOT, need, run, site
+from conftest import CRATE, DATA, ROOT, need, run, site
 
-CRATE = ROOT / "crates/ripemd_c"
 SECONDS = int(os.environ.get("FUZZ_SECONDS", "0"))
 # The inputs that reach all that is reached: one a line, in hexadecimal.
 INPUTS = DATA / "fuzz.txt"

@@ -7,7 +7,7 @@ import sys
 import tarfile
 
 import pytest
-from conftest import ARM64, DIGESTS, ROOT, TAGS, counted, lines, need, run
+from conftest import ARM64, CRATE, DIGESTS, ROOT, TAGS, counted, lines, need, run
 
 for _module, _package in (("capstone", "python3-capstone"), ("elftools", "python3-pyelftools")):
     pytest.importorskip(_module, reason=f"there is no {_module} for this python3 (Debian's {_package})")
@@ -18,7 +18,6 @@ import textbook  # noqa: E402
 from depth import Depths  # noqa: E402
 from x86 import X86  # noqa: E402
 
-CRATE = ROOT / "crates/ripemd_c"
 RUN = ROOT / "tests/machine/run"
 BITS = 100
 

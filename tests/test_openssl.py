@@ -8,9 +8,9 @@ import re
 import shutil
 
 import pytest
-from conftest import (ABC, ARM64_COMPILER, DIGESTS, PUBLISHED, ROOT, SECRETS, TAGS, VARIANTS, counted, fences, lines,
-                      memcheck, need, programs, run, version)
-from test_c import CRATE, PACKAGES, assert_read_only, assert_tried, exported
+from conftest import (ABC, ARM64_COMPILER, CRATE, DIGESTS, PUBLISHED, ROOT, SECRETS, TAGS, VARIANTS, counted, fences,
+                      lines, memcheck, need, programs, run, version)
+from test_c import PACKAGES, assert_read_only, assert_tried, exported
 
 SOURCE = ROOT / "openssl/provider.c"
 CNF = ROOT / "openssl/openssl.cnf"

@@ -6,7 +6,7 @@ import subprocess
 import sys
 
 import pytest
-from conftest import ENVIRONMENT, NOTICED, ROOT, SECRETS, memcheck, need, run, site
+from conftest import CRATE, ENVIRONMENT, NOTICED, SECRETS, memcheck, need, run, site
 
 SEEDS = range(1, 6)
 
@@ -31,7 +31,7 @@ def executed(*command, **options):
 @pytest.mark.parametrize("number", range(3))
 def test_first_call_leaves_nothing(library, once, number):
     """By a program that is linked statically, in which the loader still looks for the functions of the C library."""
-    program = once("left", lambda file: run("cc", "-O2", "-Wall", "-Wextra", "-Werror", "-I", ROOT / "crates/ripemd_c",
+    program = once("left", lambda file: run("cc", "-O2", "-Wall", "-Wextra", "-Werror", "-I", CRATE,
                                             SECRETS / "left.c", library / "libnattizhu.a", "-Wl,-z,lazy", "-o", file))
     assert run(program, number).stdout.split() == ["0"] * 3
 
