@@ -1,9 +1,10 @@
 """Tries what is built for ARM64, under qemu-user: the libraries for C as in test_c.py, and the package for Python by
 tests/vectors.py."""
+import json
 import shutil
 
 import pytest
-from conftest import ARM64, ARM64_COMPILER, CRATE, DATA, ROOT, need, run
+from conftest import ARM64, ARM64_COMPILER, CRATE, DIGESTS, ROOT, TAGS, lines, need, run
 from test_c import CALLS, STRICT, assert_tried, test_page  # the last with the fixture `build` below
 
 # Where Debian's libc6-arm64-cross has the C library.
@@ -41,6 +42,7 @@ def test_vectors_from_python(arm64, tmp_path):
         pytest.skip(made.stderr.strip())
     for wheel in tmp_path.glob("nattizhu-*_aarch64.whl"):
         shutil.unpack_archive(wheel, tmp_path / "package", "zip")
-    compared = run("qemu-aarch64", tmp_path / "python", ROOT / "tests/vectors.py", DATA,
+    values = json.dumps([DIGESTS, TAGS, lines("keys.txt")])
+    compared = run("qemu-aarch64", tmp_path / "python", ROOT / "tests/vectors.py", input=values,
                    env={"PYTHONPATH": tmp_path / "package"}).stdout
-    assert int(compared) >= 1826
+    assert int(compared) >= 1840
