@@ -332,7 +332,7 @@ def test_drawn_lists(rmdsum, tmp_path):
         rooms.append(Rooms(tmp_path / str(number), rmdsum, str(rng.choice(VARIANTS))))
         files = draw_files(rng, rooms[-1])
         rooms[-1].list("list", draw_list(rng, files))
-        texts.append((rooms[-1].sides[1][1] / "list").read_bytes())
+        texts.append((rooms[-1].room / "list").read_bytes())
     program = f"""import {{ read }} from {json.dumps(str(ROOT / 'js/page/list.js'))};
         const texts = JSON.parse((await import('fs')).readFileSync(0, 'utf8'));
         console.log(JSON.stringify(texts.map((text) => read(new TextDecoder('utf-8', {{ ignoreBOM: true }}).decode(
@@ -340,10 +340,10 @@ def test_drawn_lists(rmdsum, tmp_path):
     found = json.loads(run("node", "--input-type=module", "-e", program,
                            input=json.dumps([text.decode("latin-1") for text in texts])).stdout)
     for room, text, said in zip(rooms, texts, found):
-        wanted, misformatted = checked(rmdsum, room.sides[1][1])
+        wanted, misformatted = checked(rmdsum, room.room)
         assert said["isList"] == bool(wanted), text
         if wanted:
-            verdicts = [(as_printed(line["name"]), verdict_of(line, room.sides[1][1])) for line in said["lines"]]
+            verdicts = [(as_printed(line["name"]), verdict_of(line, room.room)) for line in said["lines"]]
             numbers = [int(re.match("line ([0-9]+) is", fault)[1]) for fault in said["faults"]]
             assert (verdicts, numbers) == (wanted, misformatted), text
 

@@ -90,8 +90,8 @@ class Rooms:
 
     def __init__(self, top, program, variant="256"):
         self.hash = RIPEMD[variant]
-        self.program = program
-        self.sides = [(SHA256, top / "sha256", shutil.which("sha256sum")), (self.hash, top / "ripemd", program)]
+        self.program, self.room = program, top / "ripemd"
+        self.sides = [(SHA256, top / "sha256", shutil.which("sha256sum")), (self.hash, self.room, program)]
         for _, room, _ in self.sides:
             room.mkdir(parents=True)
 
@@ -108,6 +108,10 @@ class Rooms:
         """Makes a list, which is a function of the hash."""
         for hash_, room, _ in self.sides:
             (room / os.fsdecode(name)).write_bytes(text(hash_))
+
+    def own(self, words, **options):
+        """A run of rmdsum alone."""
+        return ended(self.program, words, self.room, **options)
 
     def run(self, words, text=None, pick=True, **options):
         """What sha256sum would say of RIPEMD, and what rmdsum does say. The text of standard input is a function
@@ -154,7 +158,7 @@ class Rooms:
             wanted, found = self.run_alike(words, text, found, **options)
         if wanted != found:
             shown = "" if text is None else f"\nstandard input: {text(self.hash)!r}"
-            lists = "".join(f"\n{path.name!r}: {path.read_bytes()!r}" for path in sorted(self.sides[1][1].iterdir())
+            lists = "".join(f"\n{path.name!r}: {path.read_bytes()!r}" for path in sorted(self.room.iterdir())
                             if path.is_file() and os.fsencode(path.name).startswith(b"list"))
             pytest.fail(f"{self.hash.options} {words}{shown}{lists}\nwanted: {wanted}\nfound: {found}", pytrace=False)
         return found
@@ -506,14 +510,13 @@ def test_own_lists(tmp_path, rmdsum, seed):
         names = [name for name in sorted({b"a", *(draw_name(rng, PIECES) for _ in range(5))} - {b"-"}) if is_utf8(name)]
         for name in names:
             rooms.file(name, rng.choice(LENGTHS))
-        _, room, _ = rooms.sides[1]
         form = rng.choice([[], ["-b"], ["--tag"], ["-t"]])
-        printed = ended(rooms.program, [*rooms.hash.options, *form, "--", *names], room)
+        printed = rooms.own([*rooms.hash.options, *form, "--", *names])
         assert (printed.status, printed.error, printed.out.count(b"\n")) == (0, b"", len(names))
         for options in [rooms.hash.options, []]:
-            checked = ended(rooms.program, [*options, "--check", "--strict"], room, input=printed.out)
+            checked = rooms.own([*options, "--check", "--strict"], input=printed.out)
             assert (checked.status, checked.error, checked.out.count(b": OK\n")) == (0, b"", len(names))
-            assert ended(rooms.program, [*options, "-c", "--quiet"], room, input=printed.out) == Ended(0, b"", b"")
+            assert rooms.own([*options, "-c", "--quiet"], input=printed.out) == Ended(0, b"", b"")
 
 
 # Options.
@@ -594,33 +597,31 @@ TRY = b"Try 'rmdsum --help' for more information.\n"
            (["-a", "160 "], b"160 "), (["-a", "it's\n\\"], b"it\\'s\\n\\\\"), (["-a", "é"], b"\\303\\251")]),
 ], ids=str)
 def test_misuse(rooms, words, text):
-    assert ended(rooms.program, words, rooms.sides[1][1]) == Ended(1, b"", b"rmdsum: " + text + b"\n" + TRY)
+    assert rooms.own(words) == Ended(1, b"", b"rmdsum: " + text + b"\n" + TRY)
 
 
 @pytest.mark.parametrize("variant", VARIANTS)
 def test_algorithm(rooms, variant):
-    room = rooms.sides[1][1]
-    (room / "a").write_bytes(BYTES[:100])
+    (rooms.room / "a").write_bytes(BYTES[:100])
     line = Ended(0, RIPEMD[variant].digests[100].encode() + b"  a\n", b"")
     for words in [["-a", variant, "a"], [f"-a{variant}", "a"], ["a", "-a", variant], ["--algorithm", variant, "a"],
                   [f"--algorithm={variant}", "a"], [f"--a={variant}", "--", "a"], ["-a", "160", "-a", variant, "a"],
                   [f"-ta{variant}", "a"]]:
-        assert ended(rooms.program, words, room) == line
+        assert rooms.own(words) == line
     if variant == "160":
-        assert ended(rooms.program, ["a"], room) == line
+        assert rooms.own(["a"]) == line
 
 
 @pytest.mark.parametrize("variant, message, digest", PUBLISHED)
 def test_published(rooms, variant, message, digest):
-    (rooms.sides[1][1] / "message").write_bytes(message)
+    (rooms.room / "message").write_bytes(message)
     line = Ended(0, digest.encode() + b"  message\n", b"")
-    assert ended(rooms.program, ["-a", variant, "message"], rooms.sides[1][1]) == line
+    assert rooms.own(["-a", variant, "message"]) == line
 
 
 def test_help_and_version(rooms):
-    room = rooms.sides[1][1]
     for words in [["--help"], ["--h"], ["a", "--help", "-x"], ["--tag", "-c", "--help"]]:
-        helped = ended(rooms.program, words, room)
+        helped = rooms.own(words)
         assert (helped.status, helped.error) == (0, b"")
         assert helped.out.startswith(b"Usage: rmdsum [OPTION]... [FILE]...\n")
         for option in ["--algorithm", "--binary", "--check", "--tag", "--text", "--zero", "--ignore-missing",
@@ -628,7 +629,7 @@ def test_help_and_version(rooms):
                        "--version", "-a", "-b", "-c", "-t", "-w", "-z"]:
             assert re.search(rb"(?<![\w-])%s\b" % option.encode(), helped.out), option
     for words in [["--version"], ["--v"], ["-b", "--version", "--help"]]:
-        told = ended(rooms.program, words, room)
+        told = rooms.own(words)
         assert (told.status, told.error) == (0, b"")
         assert told.out.startswith(b"rmdsum ") and version().encode() in told.out.split(b"\n")[0]
 
@@ -663,15 +664,14 @@ def test_lists_of_all_variants(tmp_path, rmdsum, seed):
 
 def test_other_variants_are_no_lines(rooms):
     """With -a, lines of the other variants are improper."""
-    room = rooms.sides[1][1]
-    (room / "a").write_bytes(BYTES[:7])
+    (rooms.room / "a").write_bytes(BYTES[:7])
     for variant, other in itertools.permutations(VARIANTS, 2):
         for line in [untagged(b"a", 7), untagged(b"a", 7, b" *"), tagged(b"a", 7)]:
-            alone = ended(rooms.program, ["-c", "-a", variant], room, input=line(RIPEMD[other]) + b"\n")
+            alone = rooms.own(["-c", "-a", variant], input=line(RIPEMD[other]) + b"\n")
             assert alone == Ended(
                 1, b"", b"rmdsum: 'standard input': no properly formatted checksum lines found\n")
-            beside = ended(rooms.program, ["-c", "-w", "-a", variant], room,
-                           input=line(RIPEMD[other]) + b"\n" + line(RIPEMD[variant]) + b"\n")
+            beside = rooms.own(["-c", "-w", "-a", variant],
+                               input=line(RIPEMD[other]) + b"\n" + line(RIPEMD[variant]) + b"\n")
             assert beside == Ended(
                 0, b"a: OK\n",
                 b"rmdsum: 'standard input': 1: improperly formatted RMD%s checksum line\n"
@@ -684,38 +684,33 @@ def test_other_variants_are_no_lines(rooms):
 @pytest.mark.parametrize("name", ["plain", "two words", "par(en)theses", ") = "])
 def test_lines_of_openssl(rooms, name):
     need("openssl", "openssl")
-    room = rooms.sides[1][1]
-    (room / name).write_bytes(BYTES[:150])
-    printed = run("openssl", "dgst", "-provider", "legacy", "-provider", "default", "-rmd160", name, cwd=room,
-                  status=None, text=False)
-    if printed.returncode:
-        pytest.skip("openssl has no RIPEMD-160 here")
-    reversed_ = run("openssl", "dgst", "-r", "-provider", "legacy", "-provider", "default", "-rmd160", name, cwd=room,
-                    text=False)
-    for text in [printed.stdout, reversed_.stdout]:
+    (rooms.room / name).write_bytes(BYTES[:150])
+    for form in [[], ["-r"]]:
+        printed = run("openssl", "dgst", *form, "-provider", "legacy", "-provider", "default", "-rmd160", name,
+                      cwd=rooms.room, status=0 if form else None, text=False)
+        if printed.returncode:
+            pytest.skip("openssl has no RIPEMD-160 here")
         for options in [[], ["-a", "160"]]:
-            assert ended(rooms.program, ["-c", "--strict", *options], room, input=text) == Ended(
+            assert rooms.own(["-c", "--strict", *options], input=printed.stdout) == Ended(
                 0, os.fsencode(name) + b": OK\n", b"")
 
 
 @pytest.mark.parametrize("name", ["plain", "two words", "par(en)theses"])
 def test_lines_of_rhash(rooms, name):
     need("rhash", "rhash")
-    room = rooms.sides[1][1]
-    (room / name).write_bytes(BYTES[:150])
+    (rooms.room / name).write_bytes(BYTES[:150])
     for words in [["--ripemd160", "--simple"], ["--ripemd160", "--bsd"], ["--ripemd160"]]:
-        text = run("rhash", *words, name, cwd=room, text=False).stdout
-        assert ended(rooms.program, ["-c"], room, input=text) == Ended(0, os.fsencode(name) + b": OK\n", b"")
+        text = run("rhash", *words, name, cwd=rooms.room, text=False).stdout
+        assert rooms.own(["-c"], input=text) == Ended(0, os.fsencode(name) + b": OK\n", b"")
 
 
 def test_lines_are_read_by_rhash(rooms):
     need("rhash", "rhash")
-    room = rooms.sides[1][1]
     for name in ["plain", "two words"]:
-        (room / name).write_bytes(BYTES[:150])
+        (rooms.room / name).write_bytes(BYTES[:150])
         for form in [[], ["-b"], ["--tag"]]:
-            (room / "list").write_bytes(ended(rooms.program, [*form, name], room).out)
-            assert run("rhash", "--ripemd160", "--check", "list", cwd=room).stdout.count(" OK\n") == 1
+            (rooms.room / "list").write_bytes(rooms.own([*form, name]).out)
+            assert run("rhash", "--ripemd160", "--check", "list", cwd=rooms.room).stdout.count(" OK\n") == 1
 
 
 # Names from a file.
@@ -731,13 +726,12 @@ def wc_message(room, words, **options):
 ], ids=repr)
 def test_names_from_a_file(stocked, names):
     """Its messages are those of wc."""
-    room = stocked.sides[1][1]
     lengths = {b"a": 0, b"b": 3, b"new\nline": 6, b"-dash": 8, b"*star": 9}
-    (room / "names").write_bytes(names)
+    (stocked.room / "names").write_bytes(names)
     for source, options in [("names", {}), ("-", {"input": names})]:
         words = [f"--files0-from={source}"]
-        counted = wc_message(room, words, **options)
-        found = ended(stocked.program, [*words, "--tag"], room, **options)
+        counted = wc_message(stocked.room, words, **options)
+        found = stocked.own([*words, "--tag"], **options)
         assert (found.error, found.status) == (counted, 1 if counted else 0)
         known = [name for name in names.split(b"\0") if name in lengths]
         wanted = b"".join(tagged(escaped(name), lengths[name], b"\\" if b"\n" in name else b"")(RIPEMD["160"]) + b"\n"
@@ -749,34 +743,31 @@ def test_names_from_a_file(stocked, names):
 
 @pytest.mark.parametrize("source", ["no-names", "folder", "", "new\nline", "it's"])
 def test_names_from_no_file(stocked, source):
-    room = stocked.sides[1][1]
-    (room / "new\nline").unlink()
-    (room / "it's").unlink()
-    found = ended(stocked.program, ["--files0-from", source], room)
-    assert found == Ended(1, b"", wc_message(room, [f"--files0-from={source}"]))
+    (stocked.room / "new\nline").unlink()
+    (stocked.room / "it's").unlink()
+    found = stocked.own(["--files0-from", source])
+    assert found == Ended(1, b"", wc_message(stocked.room, [f"--files0-from={source}"]))
 
 
 def test_lists_by_names_from_a_file(stocked):
-    room = stocked.sides[1][1]
-    (room / "names").write_bytes(b"list\0list-wrong\0no-list\0")
-    found = ended(stocked.program, ["-a", "256", "-c", "--files0-from=names"], room)
-    assert found == ended(stocked.program, ["-a", "256", "-c", "list", "list-wrong", "no-list"], room)
+    (stocked.room / "names").write_bytes(b"list\0list-wrong\0no-list\0")
+    found = stocked.own(["-a", "256", "-c", "--files0-from=names"])
+    assert found == stocked.own(["-a", "256", "-c", "list", "list-wrong", "no-list"])
     assert found.status == 1 and found.out.count(b": OK\n") == 5
 
 
 def test_progress_is_for_terminals(stocked):
     for words in [["a", "b"], ["-c", "list"], ["-c", "list-each"], ["missing"]]:
-        first, second = (ended(stocked.program, ["-a", "256", *options, *words], stocked.sides[1][1])
-                         for options in [[], ["--progress"]])
+        first, second = (stocked.own(["-a", "256", *options, *words]) for options in [[], ["--progress"]])
         assert first == second
 
 
 @pytest.mark.parametrize("words", [["a", "c"], ["-c", "list"]], ids=" ".join)
 def test_progress(stocked, words):
     """On a terminal standard output and the status stay the same."""
-    plain = ended(stocked.program, ["-a", "256", *words], stocked.sides[1][1])
+    plain = stocked.own(["-a", "256", *words])
     reader, terminal = os.openpty()
-    found = ended(stocked.program, ["-a", "256", "--progress", *words], stocked.sides[1][1], stderr=terminal)
+    found = stocked.own(["-a", "256", "--progress", *words], stderr=terminal)
     os.close(terminal)
     os.close(reader)
     assert (found.out, found.status) == (plain.out, plain.status)
@@ -792,9 +783,7 @@ def test_progress(stocked, words):
 @pytest.mark.parametrize("kind", ["full", "closed", "read-only"])
 def test_output_that_takes_nothing(stocked, words, kind):
     if kind == "closed":
-        def close():
-            os.close(1)
-        wanted, found = stocked.run(words, stdout=None, preexec_fn=close)
+        wanted, found = stocked.run(words, stdout=None, preexec_fn=lambda: os.close(1))
     else:
         path, mode = ("/dev/full", "wb") if kind == "full" else ("/dev/null", "rb")
         with open(path, mode) as output:
@@ -809,7 +798,7 @@ def test_output_that_takes_nothing(stocked, words, kind):
 @pytest.mark.parametrize("words", [["--help"], ["--version"]], ids=" ".join)
 def test_help_that_cannot_be_written(stocked, words):
     with open("/dev/full", "wb") as output:
-        found = ended(stocked.program, words, stocked.sides[1][1], stdout=output)
+        found = stocked.own(words, stdout=output)
     assert found.status == 1 and UNWRITABLE.fullmatch(found.error.removeprefix(b"rmdsum"))
 
 
@@ -839,9 +828,7 @@ def test_error_that_takes_nothing(stocked, words):
 @pytest.mark.parametrize("words", [
     [], ["-"], ["-", "a"], ["-c"], ["-c", "-"], ["-c", "list", "-"], ["a"], ["-c", "list"]], ids=" ".join)
 def test_closed_input(stocked, words):
-    def close():
-        os.close(0)
-    wanted, found = stocked.run(words, preexec_fn=close, stdin=None)
+    wanted, found = stocked.run(words, preexec_fn=lambda: os.close(0), stdin=None)
     # sha256sum closes standard input at the end, and says once more that it can't.
     wanted.error = wanted.error.removesuffix(b"rmdsum: standard input: Bad file descriptor\n")
     assert wanted == found
@@ -991,11 +978,10 @@ def test_no_line_waits_for_the_next_name(stocked):
 def test_lists_take_time_by_their_length(stocked):
     """Each 64 KiB have short lines and the beginning of a long one, which is not searched again for each of them: that
     would take longer than a program may."""
-    room = stocked.sides[1][1]
-    (room / "list-quick").write_bytes((b"\n" * 40000 + b"x" * 25536) * 200)
-    (room / "names").write_bytes((b"\0" * 40000 + b"x" * 25536) * 2)
-    assert ended(stocked.program, ["-c", "list-quick"], room).status == 1
-    assert ended(stocked.program, ["--files0-from=names"], room).error.count(b"\n") == 80001
+    (stocked.room / "list-quick").write_bytes((b"\n" * 40000 + b"x" * 25536) * 200)
+    (stocked.room / "names").write_bytes((b"\0" * 40000 + b"x" * 25536) * 2)
+    assert stocked.own(["-c", "list-quick"]).status == 1
+    assert stocked.own(["--files0-from=names"]).error.count(b"\n") == 80001
 
 
 def test_last_name(stocked):
@@ -1049,7 +1035,7 @@ def test_own_name(stocked):
                         (["-x"], b"%s: invalid option -- 'x'\nTry '%s --help' for more information.\n"),
                         (["--help"], b"Usage: %s [OPTION]... [FILE]...\n")]:
         for name in b"md", b"/bin/a name":
-            done = subprocess.run([name, *words], executable=stocked.program, cwd=stocked.sides[1][1], env=UTF8,
+            done = subprocess.run([name, *words], executable=stocked.program, cwd=stocked.room, env=UTF8,
                                   stdout=subprocess.PIPE, stderr=subprocess.STDOUT, check=False, timeout=60)
             assert done.stdout.startswith(text.replace(b"%s", name))
 
@@ -1123,15 +1109,14 @@ def test_names_in_messages(rooms):
 
 def test_names_that_are_not_utf8(rooms):
     """They can't be opened, also where there is such a file."""
-    room = rooms.sides[1][1]
     rooms.file(b"\xff", 3)
     rooms.file(b"a", 0)
     line = untagged(b"a", 0)(RIPEMD["256"])
     said = b"rmdsum: ''$'\\377': invalid filename\n"
-    assert ended(rooms.program, ["-a", "256", b"\xff", "a"], room) == Ended(1, line + b"\n", said)
-    (room / "list").write_bytes(untagged(b"\xff", 3)(RIPEMD["256"]) + b"\n" + line)
+    assert rooms.own(["-a", "256", b"\xff", "a"]) == Ended(1, line + b"\n", said)
+    (rooms.room / "list").write_bytes(untagged(b"\xff", 3)(RIPEMD["256"]) + b"\n" + line)
     for options in [[], ["--ignore-missing"]]:
-        assert ended(rooms.program, ["-c", *options, "list"], room) == Ended(
+        assert rooms.own(["-c", *options, "list"]) == Ended(
             1, b"\xff: FAILED open or read\na: OK\n",
             said + b"rmdsum: WARNING: 1 listed file could not be read\n")
 
