@@ -391,19 +391,17 @@ int main(int argc, char **argv) {
     salts[i] = (struct iovec){bytes + (PASSWORDS + i) * PASSWORD, PASSWORD};
   }
   add_libraries(argv + 1);
-  for (int v = 0; v < VARIANTS; v++)
-    for (int l = 0; l < count; l++)
-      if (has(&libraries[l], v, &TASKS[0]))
-        check(&libraries[l], v);
-  for (int l = 0; l < count; l++)
-    if (libraries[l].tag || libraries[l].tag_each)
-      check_tag(&libraries[l]);
-  for (int l = 0; l < count; l++)
-    if (libraries[l].updates)
-      check_pieces(&libraries[l]);
-  for (int l = 0; l < count; l++)
-    if (libraries[l].derive)
-      check_keys(&libraries[l]);
+  for (const struct library *by = libraries; by < libraries + count; by++) {
+    for (int v = 0; v < VARIANTS; v++)
+      if (has(by, v, &TASKS[0]))
+        check(by, v);
+    if (by->tag || by->tag_each)
+      check_tag(by);
+    if (by->updates)
+      check_pieces(by);
+    if (by->derive)
+      check_keys(by);
+  }
   int round = 0;
   for (int still = 0; round < MOST_ROUNDS && (round < ROUNDS || still < 3); round++) {
     fell = false;

@@ -144,7 +144,8 @@ class Page:
             const texts = (card, what) => Array.from(card.querySelectorAll(what), (found) => found.textContent);
             await until(() => cards().length === args[0]
               && cards().every((card) => card.querySelector('.work').hidden));
-            return cards().map((card) => [...texts(card, 'h3'), texts(card, '.outcome p'), texts(card, 'code')]);""", number)
+            return cards().map((card) => [...texts(card, 'h3'), texts(card, '.outcome p'), texts(card, 'code')]);""",
+                        number)
 
     def verdicts(self, number):
         return [said[1:] for _, said, _ in self.ended(number)]
