@@ -111,10 +111,8 @@ class Page:
 
     def __init__(self, browser, address):
         self.browser, self.run, self.press = browser, browser.run, browser.press
+        self.choose = functools.partial(browser.choose, "#files")
         browser.go(address)
-
-    def choose(self, *files):
-        self.browser.choose("#files", *files)
 
     def drop(self, *files):
         """Drops files, each a name and its bytes."""
