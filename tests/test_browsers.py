@@ -41,8 +41,7 @@ def fixture_page(javascript, once):
 
 
 class Handler(http.server.SimpleHTTPRequestHandler):
-    """Serves a folder, and pages of a test. The policy of the page is sent a second time as a header, with a
-    place for reports."""
+    """Serves a folder. The policy of the page is sent a second time as a header, with a place for reports."""
     extensions_map = {".html": "text/html", ".css": "text/css", ".js": "text/javascript", ".wasm": "application/wasm"}
 
     def log_message(self, *_):
@@ -50,13 +49,7 @@ class Handler(http.server.SimpleHTTPRequestHandler):
 
     def do_GET(self):
         self.server.requests.append(self.path)
-        if self.path not in self.server.texts:
-            super().do_GET()
-            return
-        self.send_response(200)
-        self.send_header("Content-Type", self.guess_type(self.path))
-        self.end_headers()
-        self.wfile.write(self.server.texts[self.path].encode())
+        super().do_GET()
 
     def do_POST(self):
         self.server.reports.append(json.loads(self.rfile.read(int(self.headers["Content-Length"]))))
@@ -75,22 +68,22 @@ class Site(http.server.ThreadingHTTPServer):
     def __init__(self, folder):
         super().__init__(("127.0.0.1", 0), functools.partial(Handler, directory=folder))
         self.address = f"http://127.0.0.1:{self.server_port}/"
-        self.requests, self.reports, self.texts = [], [], {}
+        self.requests, self.reports = [], []
         self.policy = re.search('http-equiv="Content-Security-Policy" content="(.*?)"',
                                 (folder / "index.html").read_text("utf-8"))[1]
         threading.Thread(target=self.serve_forever, args=(0.05,)).start()
 
-    def stop(self):
+    def stop(self, *_):
         self.shutdown()
         self.server_close()
+
+    __exit__ = stop
 
 
 @pytest.fixture(name="site")
 def fixture_site(page):
-    site = Site(page)
-    yield site
-    if site.socket.fileno() >= 0:
-        site.stop()
+    with Site(page) as site:
+        yield site
 
 
 def start(name, folder, **options):
@@ -493,17 +486,14 @@ def test_without_network(shown, site, files):
 
 def test_policy(browser, site, page):
     """Neither the page reaches another server nor a worker that it starts."""
-    other = Site(page)
-    reach = f"fetch('{other.address}', {{ mode: 'no-cors' }}).then(() => 'reached', () => 'refused')"
-    try:
+    with Site(page) as other:
+        reach = f"fetch('{other.address}', {{ mode: 'no-cors' }}).then(() => 'reached', () => 'refused')"
         shown = Page(browser, site.address)
         assert shown.run(f"return await {reach}") == "refused"
         assert shown.run("""const worker = new Worker(URL.createObjectURL(new Blob([args[0]])));
             return new Promise((resolve) => { worker.onmessage = ({ data }) => resolve(data); });""",
                          f"{reach}.then(postMessage)") == "refused"
         assert other.requests == []
-    finally:
-        other.stop()
     end = time.monotonic() + 10
     while len(site.reports) < 2 and time.monotonic() < end:
         time.sleep(0.05)
@@ -532,17 +522,19 @@ def test_keyboard(shown, files):
         return word();""") in ("Copied", "Selected")
 
 
-def test_narrow(browser, site):
+def test_narrow(browser, page, tmp_path):
     """On 320 pixels nothing is cut off."""
-    site.texts["/frame.html"] = '<iframe src="/" width="320" height="600"></iframe>'
-    site.policy = "default-src 'self'"
-    browser.go(site.address + "frame.html")
-    assert browser.run("""const { contentWindow } = document.querySelector('iframe');
-        const { document: page } = contentWindow, data = new contentWindow.DataTransfer();
-        data.items.add(new contentWindow.File(['abc'], 'a'.repeat(200)));
-        page.body.dispatchEvent(new contentWindow.DragEvent('drop', { dataTransfer: data, bubbles: true }));
-        await until(() => page.querySelector('code')?.textContent);
-        return page.documentElement.scrollWidth;""") <= 320
+    shutil.copy(page / "index.html", tmp_path)
+    (tmp_path / "frame.html").write_text('<iframe src="/" width="320" height="600"></iframe>')
+    with Site(tmp_path) as site:
+        site.policy = "default-src 'self'"
+        browser.go(site.address + "frame.html")
+        assert browser.run("""const { contentWindow } = document.querySelector('iframe');
+            const { document: page } = contentWindow, data = new contentWindow.DataTransfer();
+            data.items.add(new contentWindow.File(['abc'], 'a'.repeat(200)));
+            page.body.dispatchEvent(new contentWindow.DragEvent('drop', { dataTransfer: data, bubbles: true }));
+            await until(() => page.querySelector('code')?.textContent);
+            return page.documentElement.scrollWidth;""") <= 320
 
 
 def test_package(browser, javascript, tmp_path):
@@ -557,12 +549,9 @@ def test_package(browser, javascript, tmp_path):
         '<!doctype html><meta http-equiv="Content-Security-Policy" content="default-src \'none\'; '
         'script-src \'self\' \'wasm-unsafe-eval\'; connect-src \'self\'; img-src data:">'
         '<link rel="icon" href="data:,"><script type="module" src="own.js"></script>')
-    own = Site(tmp_path)
-    try:
+    with Site(tmp_path) as own:
         browser.go(own.address)
         assert browser.run("return until(() => document.title)") == f"{ABC},{ABC}"
-    finally:
-        own.stop()
     assert own.reports == []
 
 
