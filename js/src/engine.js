@@ -14,7 +14,7 @@ export const big = (length) => SHORT[length] ?? BigInt(length);
 /** Longer messages go through the memory in pieces of so many bytes. */
 export const PIECE = 65536;
 
-// Calls use some 3,000 bytes of the stack.
+// Below so many bytes of the stack calls leave nothing of secrets, as tests/machine/wasm.py shows.
 const STACK = 8192;
 
 /**

@@ -33,7 +33,7 @@ class Caller:
 
     def __init__(self, machine, quick=False):
         self.machine, self.quick = machine, quick
-        self.wrong, self.depths, self.calls = [], {}, 0
+        self.wrong, self.calls = [], 0
         self.secrets = set()
 
     def some(self, every, few):
@@ -83,7 +83,6 @@ class Caller:
         """Makes a call, which has to answer this and, if it clears, to leave nothing of what is secret."""
         self.calls += 1
         got = self.machine.call(f"nattizhu_{name}", *arguments)
-        self.depths[name] = max(self.depths.get(name, 0), self.machine.entry - self.machine.lowest)
         if answer not in (None, got):
             raise Wrong(f"{name} answers {got}, not {answer}")
         for where, word in self.machine.left() if name.startswith(CLEARS) else ():

@@ -223,7 +223,7 @@ class Machine:
     def __init__(self, image):
         self.image = image
         self.code = {}  # of each address the function that executes the instruction there, and the next address
-        self.steps = self.at = self.entry = self.lowest = 0
+        self.steps = self.at = self.entry = 0
         self.loaded = {}  # the bytes that were written when the object was loaded
         self.g, self.v = [0] * 32, [[0] * 8 for _ in range(32)]
         self.reset()
@@ -253,9 +253,8 @@ class Machine:
 
     def put(self, at, some):
         end = at + len(some)
-        if TOP - DEPTH <= at and end <= self.cells.owned:
-            self.lowest = min(self.lowest, at)
-        elif some and not any(start <= at and end <= stop for start, stop in self.writable):
+        on_stack = TOP - DEPTH <= at and end <= self.cells.owned
+        if some and not on_stack and not any(start <= at and end <= stop for start, stop in self.writable):
             raise Wrong(f"writes at {at:#x}, which it is not to")
         self.cells.update(enumerate(some, at))
 
@@ -290,7 +289,6 @@ class Machine:
         self.cells.update(enumerate(further, self.entry))
         kept, limit = self.kept(), self.steps + LIMIT
         self.link(STOP)
-        self.lowest = self.entry
         try:
             while pc != STOP:
                 self.at = pc

@@ -86,10 +86,6 @@ class Wasm(Machine):
         super().reset()
         self.writable, self.next_piece, self.globals, self.count = [(0, TOP)], PIECES, dict(self.image.globals), 0
 
-    def put(self, at, some):
-        super().put(at, some)
-        self.lowest = min(self.lowest, at)
-
     def left(self):
         for at, byte in self.cells.items():
             if at < TOP - WIPED and isinstance(byte, Term):
@@ -99,7 +95,7 @@ class Wasm(Machine):
         """Calls an exported function, and returns its answer. Those of RIPEMD-160 alone are not given a variant."""
         if name == "nattizhu_wipe":  # which JavaScript does
             return self.put(arguments[0], [0] * arguments[1])
-        self.entry, self.lowest, self.limit = TOP, TOP, self.steps + LIMIT
+        self.limit = self.steps + LIMIT
         sys.setrecursionlimit(10000)
         name = self.image.exports[name]
         answer = self.function(name)(*arguments[-len(self.image.functions[name][0]):])
