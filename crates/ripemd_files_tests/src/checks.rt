@@ -2,7 +2,7 @@
 
 ghost use Rattle.std.specs.Prelude.{◌≡◌, None};
 ghost use Rattle.ripemd_files.specs.Splitting.{state_of};
-ghost use Rattle.ripemd_files.specs.Types.{Among};
+ghost use Rattle.ripemd_files.specs.declared.piece.Stage.TheVariants.{Among};
 
 use crate::doubles::{Bytes, Calls, Memory, Page, list_of};
 use ripemd_files::checking::check_list;

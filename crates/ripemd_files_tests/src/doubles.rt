@@ -2,7 +2,7 @@
 
 ghost use Rattle.std.specs.Prelude.{◌≡◌, false, IfErr, IfOk, None, OnOk, Some, ⊤};
 ghost use Rattle.ripemd_files.specs.Splitting.{state_of};
-ghost use Rattle.ripemd_files.specs.Types.{Among};
+ghost use Rattle.ripemd_files.specs.declared.piece.Stage.TheVariants.{Among};
 ghost use Rattle.std.specs.Io.{ReadsAtMost};
 
 use ripemd_files::folder::Folder;

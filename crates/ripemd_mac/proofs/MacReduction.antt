@@ -1,7 +1,7 @@
 -- What collisions of the inner and of the outer messages say of the texts.
 use Rattle.ripemd.proofs.Library.{◌≡◌, ◌≢◌, ◌⊎◌, ◌↔◌, ℕ, sym, ap, refl, rules, ◌∙◌, arith, List, ◌++◌, Option, None, Some, Result, Ok, Err, true, false, IsErr, OnErr, IsNone, IfSome, IsSomeAnd, MatchOption, append_cancel_left, false≢true, bytes_eq-Decides, bytes_eq}
 use Rattle.ripemd.specs.Collisions.{IsCollision, IsOnlyCollision}
-use Rattle.ripemd.specs.Types.{Collision}
+use Rattle.ripemd.specs.declared.witness.Collision.{Collision}
 use Rattle.ripemd_mac.specs.declared.reduction.MacCollision.{MacCollision}
 use Rattle.ripemd_mac.specs.declared.reduction.MacCollision.TheVariants.{Inner, Outer}
 use Rattle.ripemd_mac.specs.Hmac.{key_block, masked, inner_message, outer_message, hmac}

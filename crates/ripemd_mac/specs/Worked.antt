@@ -5,7 +5,7 @@ use Rattle.ripemd.specs.Standard.{word_bytes, ripemd128, ripemd160, compress, pa
 use Rattle.ripemd.specs.Published.{hexadecimal}
 use Rattle.ripemd.specs.States.{AreWords}
 use Rattle.ripemd.specs.Worked.{block_of}
-use Rattle.ripemd.specs.Types.{Collision}
+use Rattle.ripemd.specs.declared.witness.Collision.{Collision}
 use Rattle.ripemd_mac.specs.declared.reduction.MacCollision.{MacCollision}
 use Rattle.ripemd_mac.specs.declared.reduction.MacCollision.TheVariants.{Inner, Outer}
 use Rattle.ripemd_mac.specs.Hmac.{hmac, inner_message, outer_message, fed_text, tag_of, keyed_state}

@@ -3,7 +3,7 @@
 ghost use Rattle.std.specs.Prelude.{◌≡◌, ◌≢◌, ◌+◌, ◌-◌, ◌<◌, ◌^◌, ◌↔◌, ◌⊎◌, ◌++◌, length, IsNone, IfOk, IfSome, OnErr};
 ghost use Rattle.ripemd.specs.Standard.{hash};
 ghost use Rattle.ripemd.specs.Collisions.{IsCollision, IsOnlyCollision};
-ghost use Rattle.ripemd.specs.Types.{Collision};
+ghost use Rattle.ripemd.specs.declared.witness.Collision.{Collision};
 ghost use Rattle.ripemd_mac.specs.declared.reduction.MacCollision.{MacCollision};
 ghost use Rattle.ripemd_mac.specs.Hmac.{hmac};
 ghost use Rattle.ripemd_mac.specs.MacCollisions.{InnerAgree, IsMacCollision};

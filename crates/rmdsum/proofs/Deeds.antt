@@ -1,6 +1,9 @@
 -- Deeds of a run, one after another.
 use Rattle.ripemd_files.proofs.Library.{◌≡◌, ◌≢◌, ◌<◌, ◌+◌, ℕ, Bool, true, false, ◌&&◌, List, [], ◌∷◌, ◌++◌, length, take, get_or, map, Option, Some, None, vec_items, Global, refl, inl, inr, sym, append_assoc, arith, Vec, is_none, and-true, append-nil, map-append, take_more}
-use Rattle.ripemd_files.specs.Types.{Variant, Rules, Style, Options}
+use Rattle.ripemd_files.specs.declared.line.Variant.{Variant}
+use Rattle.ripemd_files.specs.declared.list.Rules.{Rules}
+use Rattle.ripemd_files.specs.declared.printing.Style.{Style}
+use Rattle.ripemd_files.specs.declared.verdict.Options.{Options}
 use Rattle.rmdsum.specs.Types.{Wrong, NameSource, Run, Work, Check, Print}
 use Rattle.ripemd_files.specs.Said.{Adds}
 use Rattle.rmdsum.specs.Runs.{AreRules, Deed, Item, Extends, IsOf, Handles, IsRun, Performs, items, handled, succeeded}

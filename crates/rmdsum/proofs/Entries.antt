@@ -3,7 +3,7 @@ use Rattle.ripemd_files.proofs.Library.{inl, inr, ◌≡◌, ℕ, ◌+◌, arith
 use Rattle.rmdsum.specs.Types.{Entry, Unread, Empty, Input}
 use Rattle.rmdsum.specs.declared.names.Entry.TheVariants as entries
 use Rattle.rmdsum.specs.Names.{MayHave, NextName, IsEntry, IsNamed, Stays, Follow}
-use Rattle.ripemd_files.specs.Types.{Fault}
+use Rattle.ripemd_files.specs.declared.fault.Fault.{Fault}
 
 stays : (old : Option (List ℕ)) → Stays old old
 stays None = tt

@@ -2,7 +2,8 @@
 use Rattle.std.specs.Prelude.{◌≡◌, ℕ, ◌*◌, ◌==◌, Bool, true, false, if◌then◌else◌, List, [], ◌∷◌, ◌++◌, reverse, Option, Some, None, bytes_eq, Result, Ok, Err, ⊤}
 use Rattle.std.specs.Fmt.{decimal}
 use Rattle.ripemd_files.specs.Lines.{bits_of, size_of}
-use Rattle.ripemd_files.specs.Types.{Variant, R128, R160, R256, R320}
+use Rattle.ripemd_files.specs.declared.line.Variant.{Variant}
+use Rattle.ripemd_files.specs.declared.line.Variant.TheVariants.{R128, R160, R256, R320}
 use Rattle.rmdsum.specs.Types.{Flag, Parameter, Algorithm, FilesFrom, Switch, Found, Nothing, One, Several, Misuse, Stop, Next, Any, Operand, Value, ShortValue, Request, Settings}
 use Rattle.rmdsum.specs.declared.switches.Flag.TheVariants.{Help, Version}
 use Rattle.rmdsum.specs.declared.switches.Switch.TheVariants as switches

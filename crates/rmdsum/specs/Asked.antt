@@ -1,6 +1,10 @@
 -- What the program is asked for.
 use Rattle.std.specs.Prelude.{◌≡◌, ℕ, ◌&&◌, Bool, true, false, if◌then◌else◌, List, [], ◌∷◌, map, codes, Option, Some, None, unwrap_or, option_map, is_some, IsSome, slice_get, vec_items, ◌⊎◌}
-use Rattle.ripemd_files.specs.Types.{Variant, R160, Form, Ending, Options}
+use Rattle.ripemd_files.specs.declared.line.Variant.{Variant}
+use Rattle.ripemd_files.specs.declared.line.Variant.TheVariants.{R160}
+use Rattle.ripemd_files.specs.declared.line.Form.{Form}
+use Rattle.ripemd_files.specs.declared.line.Ending.{Ending}
+use Rattle.ripemd_files.specs.declared.verdict.Options.{Options}
 use Rattle.ripemd_files.specs.declared.line.Form.TheVariants as forms
 use Rattle.ripemd_files.specs.declared.line.Ending.TheVariants as endings
 use Rattle.rmdsum.specs.Types.{Flag, Misuse, TextWithTag, ZeroWithCheck, TagWithCheck, ModeWithCheck, OnlyWithCheck, ExtraOperand, Mode, Telling, NameSource, Operands, From, Request, Help, Version, Run, Work, Print, Check, Settings}

@@ -3,7 +3,7 @@ use Rattle.std.specs.Prelude.{◌≡◌, ◌≢◌, ◌⊎◌, ◌+◌, ℕ, len
 use Rattle.std.specs.Io.KnownBytes.{IsAtEnd}
 use Rattle.std.specs.Io.Buffered.{reader_remaining}
 use Rattle.std.specs.declared.io.buffered.BufReader.{BufReader}
-use Rattle.ripemd_files.specs.Types.{Whole, Last}
+use Rattle.ripemd_files.specs.declared.piece.Piece.TheVariants.{Whole, Last}
 use Rattle.ripemd_files.specs.Splitting.{IsPiece}
 use Rattle.rmdsum.specs.Types.{Wrong, Unread, Empty, Input, Entry}
 use Rattle.rmdsum.specs.declared.names.Entry.TheVariants as entries

@@ -1,6 +1,9 @@
 -- What a run of the program does.
 use Rattle.std.specs.Prelude.{◌≡◌, ◌≢◌, ◌⊎◌, ◌↔◌, ◌&&◌, ℕ, Bool, true, false, List, [], ◌∷◌, ◌++◌, codes, map, Option, option_to_list, is_none, Result, Ok, Err}
-use Rattle.ripemd_files.specs.Types.{Variant, Rules, Style, Options}
+use Rattle.ripemd_files.specs.declared.line.Variant.{Variant}
+use Rattle.ripemd_files.specs.declared.list.Rules.{Rules}
+use Rattle.ripemd_files.specs.declared.printing.Style.{Style}
+use Rattle.ripemd_files.specs.declared.verdict.Options.{Options}
 use Rattle.ripemd_files.specs.Said.{Adds}
 use Rattle.rmdsum.specs.Types.{Wrong, Misuse, NameSource, Request, Help, Version, Run, Work, Print, Check}
 use Rattle.rmdsum.specs.Arguments.{Reading, Answers}

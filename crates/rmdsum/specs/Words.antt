@@ -2,7 +2,7 @@
 use Rattle.std.specs.Prelude.{ℕ, Bool, false, List, [], ◌∷◌, ◌++◌, Option, Some, None, bytes_eq}
 use Rattle.std.specs.List.{list_any}
 use Rattle.std.specs.Option.{option_or}
-use Rattle.ripemd_files.specs.Types.{Variant}
+use Rattle.ripemd_files.specs.declared.line.Variant.{Variant}
 use Rattle.rmdsum.specs.Types.{Flag, Binary, Quiet, Status, Tag, Text, Warn, Mode, Telling}
 use Rattle.rmdsum.specs.Options.{flag_name}
 use Rattle.rmdsum.specs.declared.request.Mode.TheVariants as modes

@@ -2,7 +2,10 @@
 use Rattle.std.specs.Prelude.{◌≡◌, ◌↔◌, ℕ, Bool, true, false, List, [], ◌∷◌, map, codes, Some, None, Ok, Err, vec_items, Vec}
 use Rattle.std.specs.Global.{Global}
 use Rattle.rmdsum.specs.Types.{Error, Binary, IgnoreMissing, Progress, Quiet, Status, Strict, Tag, Text, Warn, Zero, Algorithm, FilesFrom, Any, Operand, TextWithTag, ZeroWithCheck, TagWithCheck, ModeWithCheck, OnlyWithCheck, ExtraOperand, Run, Help, Version, NameSource, Operands, Work, Unread, Input, Empty}
-use Rattle.ripemd_files.specs.Types.{R128, R160, R256, R320, Variant, Style, Options}
+use Rattle.ripemd_files.specs.declared.line.Variant.TheVariants.{R128, R160, R256, R320}
+use Rattle.ripemd_files.specs.declared.line.Variant.{Variant}
+use Rattle.ripemd_files.specs.declared.printing.Style.{Style}
+use Rattle.ripemd_files.specs.declared.verdict.Options.{Options}
 use Rattle.ripemd_files.specs.declared.line.Form.TheVariants as forms
 use Rattle.ripemd_files.specs.declared.line.Ending.TheVariants as endings
 use Rattle.rmdsum.specs.declared.switches.Flag.TheVariants.{Check}

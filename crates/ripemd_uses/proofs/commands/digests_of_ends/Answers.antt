@@ -1,7 +1,8 @@
 use Rattle.ripemd_block.proofs.Library.{ℕ, refl, sym, ◌∙◌, arith, List, [], ◌∷◌, ◌++◌, Bor, map-id, IfOk-weaker, IfErr-weaker}
 use Rattle.ripemd.specs.Standard.{word_bytes, ripemd160, compress, ripemd}
 use Rattle.ripemd.specs.States.{IsState, hasher_bytes}
-use Rattle.ripemd.specs.Types.{Command, New, Update, Fork, Finish}
+use Rattle.ripemd.specs.declared.replay.Command.{Command}
+use Rattle.ripemd.specs.declared.replay.Command.TheVariants.{New, Update, Fork, Finish}
 use Rattle.ripemd.specs.Replay.{Gives}
 use Rattle.ripemd.specs.ReplayLaws.{ripemd_of_new, gives_once, gives_or_stops}
 use Rattle.ripemd_block.specs.Laws.Saved.{hasher_bytes_injective}

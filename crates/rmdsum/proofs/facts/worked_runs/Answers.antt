@@ -1,6 +1,7 @@
 use Rattle.std.proofs.Common.{Bool, true, ◌&&◌, [], ◌∷◌, codes, None, refl, ap, arith, inl, inr}
 use Rattle.ripemd_files.specs.Lines.{size_of}
-use Rattle.ripemd_files.specs.Types.{R160, Style}
+use Rattle.ripemd_files.specs.declared.line.Variant.TheVariants.{R160}
+use Rattle.ripemd_files.specs.declared.printing.Style.{Style}
 use Rattle.rmdsum.specs.Types.{Work, Check, Print}
 use Rattle.rmdsum.specs.Runs.{IsRun}
 use Rattle.rmdsum.specs.Runs.Item.{Name}
