@@ -1,7 +1,7 @@
 // The callers of ripemd's README and BLOCK_FUNCTIONS.md.
 
 ghost use Rattle.std.specs.Prelude.{◌≡◌, ◌++◌};
-ghost use Rattle.ripemd.specs.Standard.{ripemd128, ripemd160, ripemd256, ripemd320, ripemd, hash, compress, padded_message, blocks};
+ghost use Rattle.ripemd.specs.Standard.{ripemd128, ripemd160, ripemd256, ripemd320, ripemd};
 
 use ripemd::{Digest, Ripemd128, Ripemd160, Ripemd256, Ripemd320};
 
@@ -46,6 +46,8 @@ pub fn has_digest(message: &[u8], expected: &[u8; 20]) -> bool
 {
     Ripemd160::digest(message) == *expected
 }
+
+ghost use Rattle.ripemd.specs.Standard.{hash};
 
 /// The digest of a prefix and then a message, by any hash function.
 pub fn prefixed_digest<D: Digest>(prefix: &[u8], message: &[u8]) -> D::Output
@@ -187,6 +189,7 @@ pub fn digest_of_reader<R: Read>(reader: &mut R, limit: u64) -> io::Result<Optio
 }
 
 ghost use Rattle.std.specs.Prelude.{◌≢◌, ◌⊎◌, ◌^◌, IsNone};
+ghost use Rattle.ripemd.specs.Standard.{compress};
 ghost use Rattle.ripemd.specs.Collisions.{IsCollision};
 
 use ripemd::block_api::Ripemd160Core;
@@ -206,6 +209,7 @@ pub fn collision_of_160(a: &[u8], b: &[u8]) -> Option<Collision<[u32; 5]>>
 }
 
 ghost use Rattle.std.specs.Prelude.{◌∷◌, ℕ, slice_index, bit_xor};
+ghost use Rattle.ripemd.specs.Standard.{padded_message, blocks};
 ghost use Rattle.ripemd.specs.Collisions.{CollideAt};
 
 use ripemd::witness::BlockFunction;

@@ -1,7 +1,7 @@
 // The callers of ripemd_mac's README.
 
 ghost use Rattle.std.specs.Prelude.{◌≡◌, ◌↔◌, ◌++◌, IsTrue};
-ghost use Rattle.ripemd.specs.Standard.{ripemd160, ripemd, hash};
+ghost use Rattle.ripemd.specs.Standard.{ripemd160, ripemd};
 ghost use Rattle.ripemd_mac.specs.Hmac.{hmac};
 
 use ripemd::Ripemd160;
@@ -25,6 +25,8 @@ pub fn has_tag(key: &[u8], text: &[u8], tag: &[u8]) -> bool
     mac.update(text);
     mac.verify(tag)
 }
+
+ghost use Rattle.ripemd.specs.Standard.{hash};
 
 use ripemd::digest::BlockDigest;
 
