@@ -3,8 +3,7 @@ use Rattle.ripemd_block.proofs.Library.{◌≡◌, ℕ, ◌<◌, refl, sym, ◌�
 use Rattle.ripemd_block.specs.States.{HashState, initial_state}
 use Rattle.ripemd_block.specs.Laws.Pieces.{fed_nothing}
 use Rattle.ripemd.specs.Types.{Command, ReplayError, OutOfMemory}
-use Rattle.ripemd.specs.Replay.{History, Machine, from_state, state, Grows, Does, Runs, Explains}
-use Rattle.ripemd.specs.Replay.{add_hasher, set_hasher, add_saved, add_digest}
+use Rattle.ripemd.specs.Replay.{History, Machine, from_state, state, Grows, Does, Runs, Explains, add_hasher, set_hasher, add_saved, add_digest}
 use Rattle.ripemd.specs.Held.{Holds}
 
 -- ---- lists with equal images

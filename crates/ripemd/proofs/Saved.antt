@@ -1,8 +1,7 @@
 -- Saved bytes of a core and a tail, put together and taken apart.
 use Rattle.ripemd_block.proofs.Library.{◌≡◌, ℕ, ◌+◌, ◌-◌, ◌<◌, suc, refl, sym, ap, ◌∙◌, arith, rules, List, [], ◌∷◌, ◌++◌, length, take, drop, get_or, replicate, length-drop, length-take-le, length-replicate, take-append-drop, drop_at, take-append_seam, drop-append_seam}
 use Rattle.ripemd_block.proofs.Absorbing.{slice_from}
-use Rattle.ripemd_block.specs.States.{HashState, IsTail, IsHashState, IsWithoutTail, with_tail}
-use Rattle.ripemd_block.specs.States.{output_and_count, tail_bytes, core_and_tail}
+use Rattle.ripemd_block.specs.States.{HashState, IsTail, IsHashState, IsWithoutTail, with_tail, output_and_count, tail_bytes, core_and_tail}
 use Rattle.ripemd_block.specs.OverLists.{IsInjectiveOutput}
 use Rattle.ripemd_block.specs.Laws.Saved.{length-output_and_count, length-core_and_tail, core_and_tail-split}
 

@@ -17,9 +17,5 @@ pub mod Messages
 pub mod Held
 -- Laws for callers: proved.
 pub mod Laws
--- Laws for loops of reads.
-pub mod Reading
--- Laws for callers who save a hasher between the pieces of a message.
-pub mod SavedLaws
 -- Laws of the machine of `replay`.
 pub mod ReplayLaws

@@ -1,6 +1,5 @@
 -- The laws of the machine of `replay`, for its callers.
-use Rattle.std.proofs.Common.{◌≡◌, ◌≢◌, ℕ, zero, suc, ◌+◌, ◌<◌, inl, inr, refl, sym, ◌∙◌, arith}
-use Rattle.std.proofs.Common.{List, [], ◌∷◌, length, take, length-append, Some}
+use Rattle.std.proofs.Common.{◌≡◌, ◌≢◌, ℕ, zero, suc, ◌+◌, ◌<◌, inl, inr, refl, sym, ◌∙◌, arith, List, [], ◌∷◌, length, take, length-append, Some}
 use Rattle.std.specs.Prelude.{⊤}
 use Rattle.std.proofs.Math.Seq.{take-length}
 use Rattle.std.proofs.lemmas.Bool.{cases_order}
@@ -11,8 +10,7 @@ use Rattle.ripemd_block.specs.Standard.{word_bytes, Parameters, compress, hash, 
 use Rattle.ripemd_block.specs.States.{HashState, initial_state, new_state}
 use Rattle.ripemd_block.specs.Laws.Pieces.{finish_fed}
 use Rattle.ripemd.specs.Types.{Command, New, Update, Reset, Finish, Fork, Save, Load, Import, ReplayError, NoHasher, NoSaved, BadState, OutOfMemory}
-use Rattle.ripemd.specs.Replay.{Machine, empty_machine, from_state, feed, digest}
-use Rattle.ripemd.specs.Replay.{Grows, Does, Runs, Gives, Explains, Stops}
+use Rattle.ripemd.specs.Replay.{Machine, empty_machine, from_state, feed, digest, Grows, Does, Runs, Gives, Explains, Stops}
 
 -- the digest of a history from a new hasher is the hash of its bytes
 pub digest_of_new : (start : List ℕ) (step : List ℕ → List ℕ → List ℕ) (output : List ℕ → List ℕ) (bytes : List ℕ)

@@ -3,7 +3,7 @@
 
 ghost use Rattle.std.specs.Prelude.{◌≡◌, ◌<◌, ℕ, List, map};
 ghost use Rattle.ripemd_block.specs.Standard.{lines_from, double_state, compress, ripemd256};
-ghost use Rattle.ripemd_block.specs.Code.Lines.{both_lines};
+ghost use Rattle.ripemd_block.specs.Code.{both_lines};
 ghost use Rattle.ripemd_batch.specs.Lanes.{HasWords, lane_of};
 
 use crate::lanes::Lanes;

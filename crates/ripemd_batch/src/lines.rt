@@ -2,7 +2,7 @@
 
 ghost use Rattle.std.specs.Prelude.{◌≡◌, ◌<◌, ◌≤◌, ◌+◌, ◌-◌, ℕ, List, Some, map, slice_index};
 ghost use Rattle.ripemd_block.specs.Standard.{boolean_function, left_line, right_line, step, registers_after, round, exchange};
-ghost use Rattle.ripemd_block.specs.Code.Lines.{both_lines};
+ghost use Rattle.ripemd_block.specs.Code.{both_lines};
 ghost use Rattle.ripemd_batch.specs.Lanes.{line_of, lane_of, HasWords};
 
 use crate::lanes::Lanes;

@@ -2,7 +2,7 @@
 use Rattle.ripemd_block.proofs.Library.{◌≡◌, ℕ, zero, suc, ◌<◌, ◌+◌, ◌-◌, ◌^◌, add-one, ap, ◌∙◌, refl, arith, List, [], ◌∷◌, Option, length, get_or, slice_get, take_all}
 use Rattle.std.specs.List.{All}
 use Rattle.ripemd_block.specs.Standard.{◌⊞◌, message_word, Line, left_line, right_line, rotation, Parameters, Lines, step, registers_after, round, word_sums, exchange, lines_after, lines_from, compress}
-use Rattle.ripemd_block.specs.Code.Lines.{both_lines, message_words, words_with, words_of_rounds}
+use Rattle.ripemd_block.specs.Code.{both_lines, message_words, words_with, words_of_rounds}
 use Rattle.ripemd_block.proofs.Tables.{value_at, entry_at}
 
 -- the message word that a step takes

@@ -1,8 +1,7 @@
 -- Vectors of two lanes.
 use Rattle.ripemd_block.proofs.Library.{◌≡◌, ℕ, zero, suc, ◌<◌, ap, ◌∙◌, arith, List, [], length, get_or, map, range_with_len, length-map, get_or-map, fill_by_all}
 use Rattle.ripemd_block.specs.Standard.{Parameters, lines_after, lines_from, compress}
-use Rattle.ripemd_block.specs.Code.Lines.{both_lines}
-use Rattle.ripemd_block.specs.Code.TwoLanes.{lane}
+use Rattle.ripemd_block.specs.Code.{both_lines, lane}
 use Rattle.ripemd_block.proofs.Stepping.{compress_from}
 
 -- what holds of lanes 0 and 1 holds of each lane

@@ -1,8 +1,6 @@
 -- Laws for callers of the cores, and those that an `impl` cites, which may cite only what stands in
 -- specs/.
-pub mod Arrays
 pub mod WordBytes
 pub mod Saved
-pub mod Walking
 pub mod Blocks
 pub mod Pieces

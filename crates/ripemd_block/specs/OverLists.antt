@@ -1,7 +1,6 @@
 -- A block function over lists of numbers, in place of states of its own (this repository's own). Over arrays, which
 -- are their lists, it is the block function itself.
-use Rattle.std.proofs.Common.{◌≡◌, ℕ, refl, ap, ◌∙◌}
-use Rattle.std.proofs.Common.{List, [], ◌∷◌, length}
+use Rattle.std.proofs.Common.{◌≡◌, ℕ, refl, ap, ◌∙◌, List, [], ◌∷◌, length}
 use Rattle.ripemd_block.specs.Standard.{padded_message, blocks, walk, hash}
 
 -- list, step and output are those of a block function

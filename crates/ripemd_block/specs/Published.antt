@@ -1,12 +1,10 @@
 -- What the authors published of the four variants, as facts that these definitions compute to:
 -- digests, the tables of the two lines, and the constants. Then hash states: finishing where the
 -- length or the count wraps, saved bytes, and which states can occur.
-use Rattle.std.specs.Prelude.{◌≡◌, ℕ, ◌+◌, ◌-◌, ◌*◌, ◌/◌, ◌%◌, ◌^◌, ◌<◌, ◌≤◌, codes}
-use Rattle.std.specs.Prelude.{List, [], ◌∷◌, ◌++◌, replicate, drop, map, slice_index}
+use Rattle.std.specs.Prelude.{◌≡◌, ℕ, ◌+◌, ◌-◌, ◌*◌, ◌/◌, ◌%◌, ◌^◌, ◌<◌, ◌≤◌, codes, List, [], ◌∷◌, ◌++◌, replicate, drop, map, slice_index}
 use Rattle.std.specs.List.{flat_map, range_with_len}
 use Rattle.ripemd_block.specs.Standard.{Line, left_line, right_line, prime, square_root_constant, cube_root_constant, word_bytes, ripemd128, ripemd160, ripemd256, ripemd320, compress, ripemd}
-use Rattle.ripemd_block.specs.States.{HashState, IsState, IsCoreState, new_state, with_tail, fed, finish}
-use Rattle.ripemd_block.specs.States.{core_bytes, hasher_bytes}
+use Rattle.ripemd_block.specs.States.{HashState, IsState, IsCoreState, new_state, with_tail, fed, finish, core_bytes, hasher_bytes}
 
 -- ---- digests
 

@@ -3,7 +3,7 @@
 ghost use Rattle.std.specs.Prelude.{◌≡◌, ◌+◌, ◌*◌, ◌%◌, ◌^◌, ◌<◌, List, [], length, ⊤, refl};
 ghost use Rattle.ripemd_block.specs.Standard.{block_size, with_padding, blocks, walk, hash};
 ghost use Rattle.ripemd_block.specs.States.{HashState, IsHashState, IsWithoutTail, output_and_count, initial_state, after_blocks, with_tail, finish};
-ghost use Rattle.ripemd_block.specs.Laws.Walking.{after_no_blocks, after_joined_blocks};
+ghost use Rattle.ripemd_block.specs.Laws.Pieces.{after_no_blocks, after_joined_blocks};
 ghost use Rattle.ripemd_block.specs.Laws.Saved.{output_and_count_injective};
 
 use crate::arrays::{ByteArray, read_count};

@@ -3,7 +3,7 @@
 
 ghost use Rattle.std.specs.Prelude.{◌≡◌};
 ghost use Rattle.ripemd_block.specs.Standard.{lines_from, joint_state, double_state, ripemd256, ripemd320};
-ghost use Rattle.ripemd_block.specs.Code.Lines.{both_lines};
+ghost use Rattle.ripemd_block.specs.Code.{both_lines};
 
 use std::simd::prelude::*;
 

@@ -2,7 +2,7 @@
 
 ghost use Rattle.std.specs.Prelude.{◌≡◌, ◌<◌, ◌+◌, ◌*◌, ℕ, length, slice_index};
 ghost use Rattle.ripemd_block.specs.Standard.{message_word};
-ghost use Rattle.ripemd_block.specs.Code.Lines.{message_words};
+ghost use Rattle.ripemd_block.specs.Code.{message_words};
 
 use std::simd::prelude::*;
 

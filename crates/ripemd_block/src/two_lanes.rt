@@ -3,8 +3,7 @@
 ghost use Rattle.std.specs.Prelude.{◌≡◌, ◌<◌, ◌≤◌, ℕ, List, Some, length, slice_index};
 ghost use Rattle.std.specs.List.{All};
 ghost use Rattle.ripemd_block.specs.Standard.{◌⊞◌, rol, boolean_function, Parameters, step, round, exchange, lines_after};
-ghost use Rattle.ripemd_block.specs.Code.Lines.{both_lines, message_words};
-ghost use Rattle.ripemd_block.specs.Code.TwoLanes.{line_of_lane, lane};
+ghost use Rattle.ripemd_block.specs.Code.{both_lines, message_words, line_of_lane, lane};
 
 use crate::message::message_words;
 use crate::textbook::{left_constant, left_number, right_constant, right_number, rotation};

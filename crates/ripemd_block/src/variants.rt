@@ -5,9 +5,8 @@ ghost use Rattle.std.proofs.Common.{rules};
 ghost use Rattle.ripemd_block.specs.Standard.{word_bytes, compress, ripemd128, ripemd160, ripemd256, ripemd320};
 ghost use Rattle.ripemd_block.specs.OverLists.{of_arrays};
 ghost use Rattle.ripemd_block.specs.States.{AreWords};
-ghost use Rattle.ripemd_block.specs.Laws.Arrays.{equal_words};
+ghost use Rattle.ripemd_block.specs.Laws.WordBytes.{equal_words, word_bytes_injective};
 ghost use Rattle.ripemd_block.specs.Laws.Saved.{word_bytes_output};
-ghost use Rattle.ripemd_block.specs.Laws.WordBytes.{word_bytes_injective};
 
 use crate::arrays::{read_words, write_words};
 use crate::block_core::BlockCore;

@@ -6,7 +6,7 @@ use Rattle.ripemd_mac.specs.Hmac.{KeyedState}
 use Rattle.ripemd_mac.specs.Saved.{IsKeyedState, hmac_bytes}
 use Rattle.ripemd_mac.specs.Laws.{length-hmac_bytes}
 use Rattle.ripemd_c.specs.KeptBytes.{cleared, cleared_hmac}
-use Rattle.ripemd.specs.SavedLaws.{length-core_and_tail}
+use Rattle.ripemd.specs.Laws.{length-core_and_tail}
 use Rattle.ripemd_c.proofs.KeptBytes.{length-cleared, same_parts, saved_is_clear}
 
 -- put together of kept hash states

@@ -72,13 +72,13 @@ pub fn prefixed_digest_160(prefix: &[u8], message: &[u8]) -> [u8; 20]
 }
 
 ghost use Rattle.std.specs.Prelude.{List, [], IfOk, IfErr};
-ghost use Rattle.ripemd.specs.SavedLaws.{IsSavedAfter};
+ghost use Rattle.ripemd.specs.Laws.{IsSavedAfter};
 
 use ripemd::digest::SerializableState;
 use ripemd::state::DeserializeStateError;
 
 /// What to save before the first piece of a message.
-#[tactic(auto, using(ripemd::specs::SavedLaws::saved_first))]
+#[tactic(auto, using(ripemd::specs::Laws::saved_first))]
 pub fn start_saved() -> [u8; 92]
     ensures { IsSavedAfter ripemd160 [] result }
 {
@@ -90,7 +90,7 @@ pub fn start_saved() -> [u8; 92]
 /// # Errors
 ///
 /// `DeserializeStateError`, only if no message leads to these bytes.
-#[tactic(auto, using(ripemd::specs::SavedLaws::saved_next, ripemd::specs::SavedLaws::saved_after_none))]
+#[tactic(auto, using(ripemd::specs::Laws::saved_next, ripemd::specs::Laws::saved_after_none))]
 pub fn update_saved(saved: &[u8; 92], piece: &[u8]) -> Result<[u8; 92], DeserializeStateError>
     ensures ok { IfOk result (λ next. (message : List ℕ)
         → IsSavedAfter ripemd160 message saved.now
@@ -108,7 +108,7 @@ pub fn update_saved(saved: &[u8; 92], piece: &[u8]) -> Result<[u8; 92], Deserial
 /// # Errors
 ///
 /// `DeserializeStateError`, only if no message leads to these bytes.
-#[tactic(auto, using(ripemd::specs::SavedLaws::saved_digest, ripemd::specs::SavedLaws::saved_after_none))]
+#[tactic(auto, using(ripemd::specs::Laws::saved_digest, ripemd::specs::Laws::saved_after_none))]
 pub fn digest_of_saved(saved: &[u8; 92]) -> Result<[u8; 20], DeserializeStateError>
     ensures ok { IfOk result (λ digest. (message : List ℕ)
         → IsSavedAfter ripemd160 message saved.now

@@ -1,8 +1,6 @@
 -- Laws of the whole blocks of bytes, and of the bytes after them.
-use Rattle.std.proofs.Common.{◌≡◌, ℕ, zero, suc, ◌+◌, ◌*◌, ◌/◌, ◌%◌, ◌<◌, ◌≤◌, refl, ap, arith, zero-add}
-use Rattle.std.proofs.Common.{List, [], ◌∷◌, ◌++◌, length, drop, length-append}
-use Rattle.std.proofs.lemmas.List.{length-drop, take_all, drop-drop, nil_from_length}
-use Rattle.std.proofs.lemmas.List.{take-append-le, drop-append-le}
+use Rattle.std.proofs.Common.{◌≡◌, ℕ, zero, suc, ◌+◌, ◌*◌, ◌/◌, ◌%◌, ◌<◌, ◌≤◌, refl, ap, arith, zero-add, List, [], ◌∷◌, ◌++◌, length, drop, length-append}
+use Rattle.std.proofs.lemmas.List.{length-drop, take_all, drop-drop, nil_from_length, take-append-le, drop-append-le}
 use Rattle.std.specs.Simd.{first_chunks}
 use Rattle.ripemd_block.specs.Standard.{blocks, partial_block}
 

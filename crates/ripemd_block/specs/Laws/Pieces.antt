@@ -1,14 +1,26 @@
 -- Laws of hash states, for every block function: however bytes come in, the state is that of all of them, and a
 -- finished state gives the hash.
-use Rattle.std.proofs.Common.{◌≡◌, ℕ, ◌+◌, ◌*◌, ◌%◌, ◌^◌, ◌<◌, refl, ap, arith}
-use Rattle.std.proofs.Common.{List, [], ◌∷◌, ◌++◌, length, replicate}
+use Rattle.std.proofs.Common.{◌≡◌, ℕ, ◌+◌, ◌*◌, ◌%◌, ◌^◌, ◌<◌, refl, ap, arith, List, [], ◌∷◌, ◌++◌, length, length-append, replicate}
 use Rattle.std.proofs.lemmas.List.{append_assoc, append-nil}
 use Rattle.std.proofs.lemmas.List.Sums.{fold-append}
 use Rattle.ripemd_block.specs.Standard.{word_bytes, eight_bytes, Parameters, compress, zero_count, with_padding, blocks, partial_block, hash, ripemd}
-use Rattle.ripemd_block.specs.Laws.Blocks.{blocks_of_short, left_over_of_short, blocks_of_one, left_over_of_one}
-use Rattle.ripemd_block.specs.Laws.Blocks.{length-blocks, length-partial_block, blocks-append, partial_block-append}
-use Rattle.ripemd_block.specs.States.{HashState, initial_state, new_state, after_blocks, with_tail, fed, finish}
-use Rattle.ripemd_block.specs.Laws.Walking.{after_joined_blocks}
+use Rattle.ripemd_block.specs.Laws.Blocks.{blocks_of_short, left_over_of_short, blocks_of_one, left_over_of_one, length-blocks, length-partial_block, blocks-append, partial_block-append}
+use Rattle.ripemd_block.specs.States.{HashState, IsWithoutTail, initial_state, new_state, after_blocks, with_tail, fed, finish}
+
+-- ---- blocks: none change nothing, and they may come in parts (`UpdateCore`)
+
+pub after_no_blocks : (step : List ℕ → List ℕ → List ℕ) (are_words : List ℕ → Type 0) (h : HashState)
+    → IsWithoutTail are_words h → after_blocks step h [] ≡ h
+after_no_blocks step are_words h valid =
+    let count : (h.count + 0) % 2 ^ 64 ≡ h.count = omega (arith, valid.state.count) in
+    rw count refl
+
+pub after_joined_blocks : (step : List ℕ → List ℕ → List ℕ) (h : HashState) (xs ys : List (List ℕ))
+    → after_blocks step (after_blocks step h xs) ys ≡ after_blocks step h (xs ++ ys)
+after_joined_blocks step h xs ys =
+    let count : ((h.count + length xs) % 2 ^ 64 + length ys) % 2 ^ 64 ≡ (h.count + length (xs ++ ys)) % 2 ^ 64 =
+    omega (arith, length-append xs ys) in
+    rw (count, fold-append step h.words xs ys) refl
 
 -- ---- bytes
 

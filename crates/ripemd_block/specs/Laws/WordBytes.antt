@@ -1,15 +1,20 @@
 -- Words and their bytes, four each: different words have different bytes.
-use Rattle.std.proofs.Common.{◌≡◌, ℕ, zero, suc, ◌+◌, ◌*◌, ◌^◌, ◌<◌, ◌≤◌, rules, refl, sym, ap, ◌∙◌, arith}
-use Rattle.std.proofs.Common.{List, [], ◌∷◌, ◌++◌, length, take, drop, get_or}
+use Rattle.std.proofs.Common.{◌≡◌, ℕ, zero, suc, ◌+◌, ◌*◌, ◌^◌, ◌<◌, ◌≤◌, rules, refl, sym, ap, ◌∙◌, arith, List, [], ◌∷◌, ◌++◌, length, take, drop, get_or, true}
 use Rattle.std.specs.Int.{w32, from_le_bytes}
+use Rattle.std.specs.Str.{bytes_eq}
 use Rattle.std.specs.List.{All}
 use Rattle.std.proofs.lemmas.List.{places, length-drop, length-take-le, get_or-drop, get_or-take}
 use Rattle.std.proofs.lemmas.List.FromFn.{fill_by_all}
 use Rattle.std.proofs.Math.Seq.{take-add}
 use Rattle.std.proofs.lemmas.List.Elements.{All-head, All-tail, All-cons}
+use Rattle.std.proofs.lemmas.Slice.Eq.{bytes_eq-Decides}
 use Rattle.std.proofs.lemmas.Nat.{le_bytes_4, from_le_bytes-to_le_bytes_4}
 use Rattle.ripemd_block.specs.Standard.{word_bytes}
 use Rattle.ripemd_block.specs.States.{AreWords}
+
+-- words that are equal by `==` are equal
+pub equal_words : (xs ys : List ℕ) → bytes_eq xs ys ≡ true → xs ≡ ys
+equal_words xs ys h = (bytes_eq-Decides xs ys).0 h
 
 pub length-word_bytes : (words : List ℕ) → length (word_bytes words) ≡ 4 * length words
 length-word_bytes [] = refl

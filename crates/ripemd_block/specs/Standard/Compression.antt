@@ -1,6 +1,5 @@
 -- The compression functions of RIPEMD-128, RIPEMD-160, RIPEMD-256 and RIPEMD-320 (1996).
-use Rattle.std.specs.Prelude.{ℕ, zero, suc, ◌-◌, Option, Some, None}
-use Rattle.std.specs.Prelude.{List, [], ◌∷◌, ◌++◌, length, take, drop, slice_get, slice_index, slice_set}
+use Rattle.std.specs.Prelude.{ℕ, zero, suc, ◌-◌, Option, Some, None, List, [], ◌∷◌, ◌++◌, length, take, drop, slice_get, slice_index, slice_set}
 use Rattle.ripemd_block.specs.Standard.Words.{◌⊞◌, rol, message_word}
 use Rattle.ripemd_block.specs.Standard.Schedule.{Line, left_line, right_line, rotation}
 

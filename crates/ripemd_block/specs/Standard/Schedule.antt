@@ -1,7 +1,6 @@
 -- What the steps of the two lines read (1996): which message word a step takes, by how many bits it
 -- rotates, and its round's constant and function. Rounds r and steps i are counted from 0.
-use Rattle.std.specs.Prelude.{ℕ, zero, suc, ◌+◌, ◌-◌, ◌*◌, ◌%◌, ◌^◌, nat_le, bit_and, bit_or, bit_xor, if◌then◌else◌}
-use Rattle.std.specs.Prelude.{List, [], ◌∷◌, slice_index, slice_index_or}
+use Rattle.std.specs.Prelude.{ℕ, zero, suc, ◌+◌, ◌-◌, ◌*◌, ◌%◌, ◌^◌, nat_le, bit_and, bit_or, bit_xor, if◌then◌else◌, List, [], ◌∷◌, slice_index, slice_index_or}
 use Rattle.std.specs.Fn.{iterate}
 use Rattle.std.specs.Int.{w32, bit_not}
 

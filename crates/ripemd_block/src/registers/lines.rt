@@ -2,7 +2,7 @@
 
 ghost use Rattle.std.specs.Prelude.{◌≡◌, ◌<◌, ◌≤◌, ◌+◌, ◌-◌, ℕ, List, Some};
 ghost use Rattle.ripemd_block.specs.Standard.{◌⊞◌, boolean_function, left_line, right_line, step, registers_after, round, exchange};
-ghost use Rattle.ripemd_block.specs.Code.Lines.{both_lines, words_with, HasWords};
+ghost use Rattle.ripemd_block.specs.Code.{both_lines, words_with, HasWords};
 
 use crate::message::message_words;
 use crate::textbook::{left_constant, left_number, right_constant, right_number, rotation};
@@ -103,7 +103,7 @@ fn words_with(block: &[u8; 64], k: u32) -> [u32; 16]
 /// The words of four rounds. Not inlined: inside the steps the compiler would add the constants last, where the next
 /// step waits for them.
 #[inline(never)]
-#[tactic(auto, unfolding(crate::specs::Code::Lines::words_of_rounds))]
+#[tactic(auto, unfolding(crate::specs::Code::words_of_rounds))]
 pub(crate) fn words_of_four_rounds(block: &[u8; 64]) -> Words<4>
     ensures { HasWords 4 result.left result.right block.now }
 {
@@ -125,7 +125,7 @@ pub(crate) fn words_of_four_rounds(block: &[u8; 64]) -> Words<4>
 
 /// The words of five rounds, not inlined either.
 #[inline(never)]
-#[tactic(auto, unfolding(crate::specs::Code::Lines::words_of_rounds))]
+#[tactic(auto, unfolding(crate::specs::Code::words_of_rounds))]
 pub(crate) fn words_of_five_rounds(block: &[u8; 64]) -> Words<5>
     ensures { HasWords 5 result.left result.right block.now }
 {

@@ -2,8 +2,7 @@ use Rattle.ripemd_block.proofs.Library.{refl, sym, ◌∙◌, ap, arith, IfOk-at
 use Rattle.ripemd_block.specs.States.{initial_state, finish}
 use Rattle.ripemd_block.specs.Laws.Pieces.{fed_twice}
 use Rattle.ripemd.specs.Replay.{from_state, imported}
-use Rattle.ripemd.proofs.Replaying.{state_new, grown, hasher_added, hasher_set, array_added, digest_added}
-use Rattle.ripemd.proofs.Replaying.{hasher_at, hasher_count, array_at, saved_count, valid_at, is_ok_unless}
+use Rattle.ripemd.proofs.Replaying.{state_new, grown, hasher_added, hasher_set, array_added, digest_added, hasher_at, hasher_count, array_at, saved_count, valid_at, is_ok_unless}
 use Rattle.ripemd.proofs.replay.apply.Goals as goal
 
 pub returns-in-New : goal.returns-in-New

@@ -1,7 +1,6 @@
 use Rattle.ripemd_block.proofs.Library.{◌≡◌, ◌≢◌, ◌+◌, ◌-◌, length, inr, refl, arith, sym, ap, ◌∙◌, false≢true}
 use Rattle.ripemd_block.specs.Standard.{padded_message, blocks, hash}
-use Rattle.ripemd.proofs.LastDifference.{state_met, state_at_end, found_before, found_now}
-use Rattle.ripemd.proofs.LastDifference.{one_end, none_found, some_found, only_found}
+use Rattle.ripemd.proofs.LastDifference.{state_met, state_at_end, found_before, found_now, one_end, none_found, some_found, only_found}
 use Rattle.ripemd.proofs.witness.collision_witness.Goals as goal
 use Rattle.ripemd.proofs.witness.collision_witness.Goals.{then-not-same_pair, else-not-same_pair}
 

@@ -1,6 +1,6 @@
 use Rattle.ripemd_block.proofs.Library.{◌∙◌, refl, arith, w8, Fits, take_all, Each1-from_get_or, below_from_Fits, get_or_wider, fill_by_all}
 use Rattle.ripemd_block.specs.Standard.{message_word}
-use Rattle.ripemd_block.specs.Code.Lines.{message_words}
+use Rattle.ripemd_block.specs.Code.{message_words}
 use Rattle.ripemd_block.proofs.Reading.{word_of_bytes}
 use Rattle.ripemd_block.proofs.message.message_words.Goals as goal
 

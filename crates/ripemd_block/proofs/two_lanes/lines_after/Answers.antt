@@ -1,6 +1,6 @@
 use Rattle.ripemd_block.proofs.Library.{◌≡◌, refl, sym, ◌∙◌, ap, add-one, arith, ℕ, suc, List, Option, Some, None, slice_get, slice_get_read, slice_get_past}
 use Rattle.ripemd_block.specs.Standard.{left_line, right_line, exchange, round, lines_after}
-use Rattle.ripemd_block.specs.Code.Lines.{both_lines, message_words}
+use Rattle.ripemd_block.specs.Code.{both_lines, message_words}
 use Rattle.ripemd_block.proofs.Stepping.{AfterRounds, next_round}
 use Rattle.ripemd_block.proofs.two_lanes.lines_after.Goals as goal
 use Rattle.ripemd_block.proofs.two_lanes.lines_after.Goals.{in-Some, in_default}

@@ -1,7 +1,7 @@
 -- The lines are those after the rounds so far.
 use Rattle.std.proofs.Common.{◌≡◌}
 use Rattle.ripemd_block.specs.Standard.{Parameters, lines_after}
-use Rattle.ripemd_block.specs.Code.Lines.{both_lines}
+use Rattle.ripemd_block.specs.Code.{both_lines}
 use Rattle.ripemd_block.proofs.two_lanes.lines_after.Given as goal
 
 abbrev pub invariant-loop-r : goal.invariant-loop-r

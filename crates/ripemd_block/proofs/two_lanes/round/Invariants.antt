@@ -1,8 +1,7 @@
 -- In each lane the registers are those after the steps so far.
 use Rattle.std.proofs.Common.{◌≡◌, ◌<◌, ℕ, List}
 use Rattle.ripemd_block.specs.Standard.{registers_after}
-use Rattle.ripemd_block.specs.Code.Lines.{message_words}
-use Rattle.ripemd_block.specs.Code.TwoLanes.{line_of_lane}
+use Rattle.ripemd_block.specs.Code.{message_words, line_of_lane}
 use Rattle.ripemd_block.proofs.two_lanes.round.Given as goal
 
 abbrev pub invariant-loop-i : goal.invariant-loop-i

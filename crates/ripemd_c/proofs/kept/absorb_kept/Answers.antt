@@ -2,7 +2,7 @@ use Rattle.ripemd_block.proofs.Library.{◌≡◌, ◌+◌, ◌-◌, [], ◌++�
 use Rattle.ripemd_block.specs.Standard.{blocks, partial_block}
 use Rattle.ripemd_block.specs.States.{HashState, IsHashState, after_blocks, fed, output_and_count, with_tail}
 use Rattle.ripemd_block.specs.Laws.Saved.{length-output_and_count}
-use Rattle.ripemd_block.specs.Laws.Walking.{after_joined_blocks}
+use Rattle.ripemd_block.specs.Laws.Pieces.{after_joined_blocks}
 use Rattle.ripemd_c.proofs.KeptBytes.{both_kept, kept_parts, with_valid}
 use Rattle.ripemd_c.proofs.kept.absorb_kept.Goals as goal
 use Rattle.ripemd_c.proofs.kept.absorb_kept.Goals.{then-len-gt0, else-len-gt0}

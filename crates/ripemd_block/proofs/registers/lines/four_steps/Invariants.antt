@@ -1,7 +1,7 @@
 -- The registers are those after the steps so far.
 use Rattle.std.proofs.Common.{◌≡◌, ℕ, ◌+◌, List}
 use Rattle.ripemd_block.specs.Standard.{left_line, right_line, registers_after}
-use Rattle.ripemd_block.specs.Code.Lines.{HasWords}
+use Rattle.ripemd_block.specs.Code.{HasWords}
 use Rattle.ripemd_block.proofs.registers.lines.four_steps.Given as goal
 
 abbrev pub invariant-loop-i : goal.invariant-loop-i

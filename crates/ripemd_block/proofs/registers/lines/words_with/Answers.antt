@@ -1,6 +1,6 @@
 use Rattle.ripemd_block.proofs.Library.{refl, zip2_splat}
 use Rattle.ripemd_block.specs.Standard.{◌⊞◌}
-use Rattle.ripemd_block.specs.Code.Lines.{message_words, words_with}
+use Rattle.ripemd_block.specs.Code.{message_words, words_with}
 use Rattle.ripemd_block.proofs.registers.lines.words_with.Goals as goal
 
 pub returns : goal.returns
