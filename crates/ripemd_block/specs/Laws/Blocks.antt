@@ -73,8 +73,5 @@ pub blocks_of_one : (a : List ℕ) → length a ≡ 64 → blocks a ≡ a ∷ []
 unfolding blocks
 blocks_of_one a h = rw (h, take_all 64 a (omega arith)) refl
 
-pub left_over_of_one : (a : List ℕ) → length a ≡ 64 → partial_block a ≡ []
-left_over_of_one a h = none_left 1 a h
-
 pub blocks_of_two : (a b : List ℕ) → length a ≡ 64 → length b ≡ 64 → blocks (a ++ b) ≡ a ∷ b ∷ []
 blocks_of_two a b ha hb = rw (blocks_joined 1 a b ha, blocks_of_one a ha, blocks_of_one b hb) refl

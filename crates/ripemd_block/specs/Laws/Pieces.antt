@@ -4,7 +4,7 @@ use Rattle.std.proofs.Common.{◌≡◌, ℕ, ◌+◌, ◌*◌, ◌%◌, ◌^◌
 use Rattle.std.proofs.lemmas.List.{append_assoc, append-nil}
 use Rattle.std.proofs.lemmas.List.Sums.{fold-append}
 use Rattle.ripemd_block.specs.Standard.{word_bytes, eight_bytes, Parameters, compress, zero_count, with_padding, blocks, partial_block, hash, ripemd}
-use Rattle.ripemd_block.specs.Laws.Blocks.{blocks_of_short, left_over_of_short, blocks_of_one, left_over_of_one, length-blocks, length-partial_block, blocks-append, partial_block-append}
+use Rattle.ripemd_block.specs.Laws.Blocks.{blocks_of_short, left_over_of_short, length-blocks, length-partial_block, blocks-append, partial_block-append}
 use Rattle.ripemd_block.specs.States.{HashState, IsWithoutTail, initial_state, new_state, after_blocks, with_tail, fed, finish}
 
 -- ---- blocks: none change nothing, and they may come in parts (`UpdateCore`)
@@ -44,12 +44,6 @@ module _ (step : List ℕ → List ℕ → List ℕ) (h : HashState) where
 
   pub fed_nothing : h.count < 2 ^ 64 → length h.tail < 64 → fed step h [] ≡ h
   fed_nothing count short = rw append-nil at (fed_short [] count (rw append-nil short))
-
-  -- bytes that fill a block
-  pub fed_block : (x : List ℕ) → length (h.tail ++ x) ≡ 64
-      → fed step h x ≡ with_tail (after_blocks step h ((h.tail ++ x) ∷ [])) []
-  unfolding fed
-  fed_block x full = rw (blocks_of_one (h.tail ++ x) full, left_over_of_one (h.tail ++ x) full) refl
 
 -- ---- the end
 
