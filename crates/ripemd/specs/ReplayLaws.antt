@@ -9,7 +9,7 @@ use Rattle.std.specs.List.{slice_get}
 use Rattle.ripemd_block.specs.Standard.{word_bytes, Parameters, compress, hash, ripemd}
 use Rattle.ripemd_block.specs.States.{HashState, initial_state, new_state}
 use Rattle.ripemd_block.specs.Laws.Pieces.{finish_fed}
-use Rattle.ripemd.specs.Types.{Command, New, Update, Reset, Finish, Fork, Save, Load, Import, ReplayError, NoHasher, NoSaved, BadState, OutOfMemory}
+use Rattle.ripemd.specs.Types.{Command, New, Update, Import, ReplayError, BadState, OutOfMemory}
 use Rattle.ripemd.specs.Replay.{Machine, empty_machine, from_state, feed, digest, Grows, Does, Runs, Gives, Explains, Stops}
 
 -- the digest of a history from a new hasher is the hash of its bytes
@@ -78,23 +78,10 @@ module _ (start : List ℕ) (step : List ℕ → List ℕ → List ℕ) (output 
       absurd (none h valid (cc))
   bad_or_refused m n place _ _ does reason = grind arith
 
-  -- the error of the command at a place, if it is bad
-  blame : ℕ → Command → ReplayError
-  blame place New = OutOfMemory
-  blame place (Load i) = NoSaved place i
-  blame place (Import x) = BadState place
-  blame place (Update i x) = NoHasher place i
-  blame place (Reset i) = NoHasher place i
-  blame place (Finish i) = NoHasher place i
-  blame place (Fork i) = NoHasher place i
-  blame place (Save i) = NoHasher place i
-
-  -- it is the only error that explains the command, apart from `OutOfMemory`
-  one_reason : (m : Machine) (place : ℕ) (c : Command) (e : ReplayError)
-      → Explains start step output is_valid state_bytes m place c e → e ≢ OutOfMemory → e ≡ blame place c
-  unfolding blame
-  one_reason m place New OutOfMemory reason bad = refl
-  one_reason m place _ _ reason bad = grind arith
+  -- a command has one bad error at a place, on any machines
+  one_reason : (m n : Machine) (place : ℕ) (c : Command) (e f : ReplayError) → Explains start step output is_valid state_bytes m place c e
+      → Explains start step output is_valid state_bytes n place c f → e ≢ OutOfMemory → f ≢ OutOfMemory → e ≡ f
+  one_reason m n place _ _ _ reason other bad too = grind arith
 
   -- the commands before an earlier place, and the one there
   run_before : (cs : List Command) (m n : Machine) (place end : ℕ) (c : Command) → place < end
@@ -152,10 +139,8 @@ module _ (start : List ℕ) (step : List ℕ → List ℕ → List ℕ) (output 
     one_error cs e f a b not_e not_f =
         elim (cases_order a.place b.place) [
           | inl same ↦
-              cc (
-                one_reason a.machine a.place a.command e a.reason not_e,
-                one_reason b.machine b.place b.command f b.reason not_f,
-              )
+              let command : b.command ≡ a.command = cc (a.command_is, b.command_is) in
+              one_reason a.machine b.machine a.place a.command e f a.reason (rw (← same, command) at b.reason) not_e not_f
           | inr (inl less) ↦ absurd (not_e (goes_on cs e a b.place b.machine less b.before))
           | inr (inr more) ↦ absurd (not_f (goes_on cs f b a.place a.machine more a.before))
         ]

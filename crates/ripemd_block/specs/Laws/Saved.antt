@@ -59,9 +59,7 @@ module _ {are_words : List ℕ → Type 0} {output : List ℕ → List ℕ} {n :
 
   pub length-output_and_count : (h : HashState) → IsHashState are_words h → length (output_and_count output h) ≡ n + 8
   unfolding output_and_count
-  length-output_and_count h valid =
-      let both = length-append (output h.words) (eight_bytes h.count) in
-      omega (arith, both, tells.size h.words valid.words)
+  length-output_and_count h valid = omega (arith, length-append {A = ℕ}, tells.size h.words valid.words)
 
   pub output_parts : (h : HashState) (bytes : List ℕ) → IsHashState are_words h → output_and_count output h ≡ bytes
       → (output h.words ≡ take n bytes) × (eight_bytes h.count ≡ drop n bytes)
@@ -82,11 +80,8 @@ module _ {are_words : List ℕ → Type 0} {output : List ℕ → List ℕ} {n :
 
   pub length-core_and_tail : (h : HashState) → IsHashState are_words h → length (core_and_tail output h) ≡ n + 8 + 64
   length-core_and_tail h valid =
-      let zeros = length-replicate {A = ℕ} (63 - length h.tail) 0 in
-      let both = length-append (length h.tail ∷ h.tail) (replicate (63 - length h.tail) 0) in
-      let tail : length (tail_bytes h.tail) ≡ 64 = omega (arith, both, zeros, valid.tail.short) in
       let all = length-append (output_and_count output h) (tail_bytes h.tail) in
-      omega (arith, ap length (core_and_tail-split output h), all, length-output_and_count h valid, tail)
+      grind (arith, ap length (core_and_tail-split output h), all, length-append {A = ℕ}, length-replicate {A = ℕ}, length-output_and_count h valid, valid.tail.short)
 
   pub core_and_tail_injective : (g h : HashState) → IsHashState are_words g → IsHashState are_words h
       → core_and_tail output g ≡ core_and_tail output h → g ≡ h
@@ -113,15 +108,13 @@ every_core v bytes size small refused =
     let n : ℕ = length v.start in
     let last : List ℕ = drop (4 * n) bytes in
     let last_size : length last ≡ 8 = omega (arith, length-drop (4 * n) bytes) in
-    let last_small : (i : ℕ) → get_or last i 0 < 256 =
-    λ i. rw (get_or-drop (4 * n) bytes i 0) (small (4 * n + i)) in
+    let last_small : (i : ℕ) → get_or last i 0 < 256 = λ i. rw (get_or-drop (4 * n) bytes i 0) (small (4 * n + i)) in
     let words = words_read n bytes (omega arith) small in
     let count = le_bytes_8 last (from_le_bytes w64 last) last_size last_small refl in
-    let no_tail : IsTail [] = record { short = omega arith; bytes = search rules } in
     let state : IsState v (record { words = words_of n bytes; count = from_le_bytes w64 last; tail = [] }) = record {
       words = words_in_range n bytes (omega arith) small;
       count = count_of_eight last last_size last_small;
-      tail = no_tail;
+      tail = record { short = omega arith; bytes = search rules };
     } in
     refused (record { words = words_of n bytes; count = from_le_bytes w64 last; tail = [] })
     (record { state = state; no_tail = refl }) (rw (words, count) (take-append-drop (4 * n) bytes))
