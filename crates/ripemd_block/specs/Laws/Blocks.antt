@@ -25,16 +25,14 @@ first_chunks-append (suc k) j a b h =
     let step : suc k + j ≡ suc (k + j) = omega arith in
     let place : suc k * 64 ≡ 64 + k * 64 = omega arith in
     let rest = first_chunks-append k j (drop 64 a) b (omega (arith, length-drop 64 a)) in
-    let fits : 64 ≤ length a = omega arith in
-    rw (step, place, take-append-le 64 a b fits, drop-append-le 64 a b fits, rest, drop-drop (k * 64) 64 a) refl
+    rw (step, place, take-append-le 64 a b (omega arith), drop-append-le 64 a b (omega arith), rest, drop-drop (k * 64) 64 a) refl
 
 -- only the bytes after the whole blocks so far count for the blocks that follow
 pub blocks-append : (a b : List ℕ) → blocks (a ++ b) ≡ blocks a ++ blocks (partial_block a ++ b)
 unfolding blocks partial_block
 blocks-append a b =
     let more = length (partial_block a ++ b) / 64 in
-    let all : length (a ++ b) / 64 ≡ length a / 64 + more =
-    omega (arith, length-append a b, length-append (partial_block a) b, length-partial_block a) in
+    let all : length (a ++ b) / 64 ≡ length a / 64 + more = omega (arith, length-append {A = ℕ}, length-partial_block a) in
     rw all (first_chunks-append (length a / 64) more a b (omega arith))
 
 -- and for what is left over in the end
@@ -43,8 +41,7 @@ unfolding partial_block
 partial_block-append a b =
     let place = length a / 64 * 64 in
     let more = length (partial_block a ++ b) / 64 * 64 in
-    let all : length (a ++ b) / 64 * 64 ≡ place + more =
-    omega (arith, length-append a b, length-append (partial_block a) b, length-partial_block a) in
+    let all : length (a ++ b) / 64 * 64 ≡ place + more = omega (arith, length-append {A = ℕ}, length-partial_block a) in
     rw (all, ← drop-drop more place (a ++ b), drop-append-le place a b (omega arith)) refl
 
 -- ---- bytes that begin with whole blocks

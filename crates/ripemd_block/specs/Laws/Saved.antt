@@ -1,12 +1,12 @@
 -- The laws of saved bytes: their number, and that different states have different ones.
-use Rattle.std.proofs.Common.{◌≡◌, ◌≢◌, ℕ, ◌+◌, ◌*◌, ◌-◌, ◌^◌, ◌<◌, rules, refl, sym, ap, ◌∙◌, arith, List, [], ◌∷◌, ◌++◌, length, take, drop, get_or, replicate, length-append, Result, Ok, Err, IfErr, IsOk}
+use Rattle.std.proofs.Common.{◌≡◌, ◌≢◌, ℕ, ◌+◌, ◌*◌, ◌-◌, ◌^◌, ◌<◌, rules, refl, sym, ap, ◌∙◌, arith, List, [], ◌++◌, length, take, drop, get_or, replicate, length-append, Result, Ok, Err, IfErr, IsOk}
 use Rattle.std.specs.Int.{w64, from_le_bytes}
 use Rattle.std.proofs.lemmas.List.{append_assoc, length-replicate, take_at, drop_at, length-drop, get_or-drop, take-append-drop}
 use Rattle.std.proofs.lemmas.List.FromFn.{fill_by_all}
 use Rattle.std.proofs.Math.Seq.{take-append_seam, drop-append_seam}
 use Rattle.std.proofs.lemmas.Nat.{le_bytes_8, from_le_bytes-to_le_bytes_8}
 use Rattle.ripemd_block.specs.Standard.{word_bytes, eight_bytes, Parameters}
-use Rattle.ripemd_block.specs.States.{HashState, AreWords, IsTail, IsHashState, IsState, IsWithoutTail, IsCoreState, output_and_count, tail_bytes, core_and_tail, core_bytes, hasher_bytes}
+use Rattle.ripemd_block.specs.States.{HashState, AreWords, IsHashState, IsState, IsWithoutTail, IsCoreState, output_and_count, tail_bytes, core_and_tail, core_bytes, hasher_bytes}
 use Rattle.ripemd_block.specs.OverLists.{IsInjectiveOutput}
 use Rattle.ripemd_block.specs.Laws.WordBytes.{words_of, words_read, words_in_range, bytes_of_words, word_bytes_injective}
 
