@@ -1,9 +1,9 @@
 -- Laws of hash states, for every block function: however bytes come in, the state is that of all of them, and a
 -- finished state gives the hash.
-use Rattle.std.proofs.Common.{◌≡◌, ℕ, ◌+◌, ◌*◌, ◌%◌, ◌^◌, ◌<◌, refl, ap, arith, List, [], ◌∷◌, ◌++◌, length, length-append, replicate}
+use Rattle.std.proofs.Common.{◌≡◌, ℕ, ◌+◌, ◌*◌, ◌%◌, ◌^◌, ◌<◌, refl, ap, arith, List, [], ◌++◌, length, length-append}
 use Rattle.std.proofs.lemmas.List.{append_assoc, append-nil}
 use Rattle.std.proofs.lemmas.List.Sums.{fold-append}
-use Rattle.ripemd_block.specs.Standard.{word_bytes, eight_bytes, Parameters, compress, zero_count, with_padding, blocks, partial_block, hash, ripemd}
+use Rattle.ripemd_block.specs.Standard.{word_bytes, Parameters, compress, zero_count, with_padding, blocks, partial_block, hash, ripemd}
 use Rattle.ripemd_block.specs.Laws.Blocks.{blocks_of_short, left_over_of_short, length-blocks, length-partial_block, blocks-append, partial_block-append}
 use Rattle.ripemd_block.specs.States.{HashState, IsWithoutTail, initial_state, new_state, after_blocks, with_tail, fed, finish}
 
@@ -28,11 +28,9 @@ module _ (step : List ℕ → List ℕ → List ℕ) (h : HashState) where
   pub fed_twice : (x y : List ℕ) → fed step (fed step h x) y ≡ fed step h (x ++ y)
   unfolding fed
   fed_twice x y =
-      let bytes : List ℕ = h.tail ++ x in
-      let rest : List ℕ = partial_block bytes ++ y in
-      let joined = after_joined_blocks step h (blocks bytes) (blocks rest) in
-      let same = ap (λ (m : HashState). with_tail m (partial_block rest)) joined in
-      rw (← append_assoc h.tail x y, blocks-append bytes y, partial_block-append bytes y) same
+      let rest : List ℕ = partial_block (h.tail ++ x) ++ y in
+      rw (← append_assoc h.tail x y, blocks-append (h.tail ++ x) y, partial_block-append (h.tail ++ x) y)
+      (ap (λ (m : HashState). with_tail m (partial_block rest)) (after_joined_blocks step h (blocks (h.tail ++ x)) (blocks rest)))
 
   -- bytes that leave the tail short of a block
   pub fed_short : (x : List ℕ) → h.count < 2 ^ 64 → length (h.tail ++ x) < 64
@@ -52,11 +50,8 @@ pub with_padding_rest : (m : List ℕ) (n : ℕ)
     → blocks (with_padding m n) ≡ blocks m ++ blocks (with_padding (partial_block m) n)
 unfolding with_padding
 with_padding_rest m n =
-    let rest : List ℕ = partial_block m in
-    let zeros : zero_count (length m) ≡ zero_count (length rest) = omega (arith, length-partial_block m) in
-    let padding : List ℕ = 0x80 ∷ replicate (zero_count (length rest)) 0 in
-    let split = blocks-append m (padding ++ eight_bytes n) in
-    rw (zeros, append_assoc m padding (eight_bytes n), append_assoc rest padding (eight_bytes n)) split
+    let zeros : zero_count (length m) ≡ zero_count (length (partial_block m)) = omega (arith, length-partial_block m) in
+    rw (zeros, append_assoc, append_assoc) (blocks-append m _)
 
 -- a state fed a whole message from the start finishes as its hash: if the count wrapped, 8 * 64 * 2 ^ 64 is a
 -- multiple of 2 ^ 64
@@ -64,11 +59,9 @@ pub finish_fed : {D : Type 0} (start : List ℕ) (step : List ℕ → List ℕ �
     (m : List ℕ) → finish step output (fed step (initial_state start) m) ≡ hash start step output m
 unfolding finish fed hash
 finish_fed start step output m =
-    let n : ℕ = 8 * length m % 2 ^ 64 in
-    let bits : 8 * (length (partial_block m) + 64 * ((0 + length (blocks m)) % 2 ^ 64)) % 2 ^ 64 ≡ n =
+    let bits : 8 * (length (partial_block m) + 64 * ((0 + length (blocks m)) % 2 ^ 64)) % 2 ^ 64 ≡ 8 * length m % 2 ^ 64 =
     omega (arith, length-partial_block m, length-blocks m) in
-    let walks = fold-append step start (blocks m) (blocks (with_padding (partial_block m) n)) in
-    rw (bits, with_padding_rest m n, walks) refl
+    rw (bits, with_padding_rest m (8 * length m % 2 ^ 64), fold-append) refl
 
 -- the digest of a message shorter than a block, from a new state with the message as its tail
 pub finish_short : (v : Parameters) (m : List ℕ)

@@ -65,7 +65,4 @@ words_in_range (suc n) bytes fits small =
     let rest = words_in_range n (drop 4 bytes) (omega (arith, length-drop 4 bytes)) (λ i. rw get_or-drop (small (4 + i))) in
     let four = fill_by_all (λ i. get_or bytes i 0) (take 4 bytes) 4 0 (length-take-le 4 bytes (omega arith)) (λ i within. get_or-take 4 bytes i 0 within) in
     let word : from_le_bytes w32 (take 4 bytes) < 2 ^ 32 = rw four (omega (arith, small 0, small 1, small 2, small 3)) in
-    record {
-      count = omega (arith, rest.count);
-      fit = All-cons (λ w. w < 2 ^ 32) (from_le_bytes w32 (take 4 bytes)) (words_of n (drop 4 bytes)) word rest.fit;
-    }
+    record { count = omega (arith, rest.count); fit = All-cons (λ w. w < 2 ^ 32) _ _ word rest.fit }
