@@ -1,5 +1,5 @@
 -- The blocks of a derived key, one U after another, and how they lie in the key.
-use Rattle.ripemd.proofs.Library.{◌≡◌, ℕ, zero, suc, ◌+◌, ◌-◌, ◌*◌, ◌<◌, ◌≤◌, inl, inr, min, arith, refl, ap, ap₂, sym, ◌∙◌, length-append, List, [], ◌∷◌, ◌++◌, length, map, replicate, take, drop, mul-le-mul_right, zip2, range_with_len, flat_map, fold, iterate, div_ceil, length-zip2, fold-append, map-range_with_len_more, cases_lt, div_ceil_times, flat_map-append, flat_map-map, append-nil, nil_from_length, take-append-le, length-take-le, take_all, length-drop, take-append_seam, take-append-add}
+use Rattle.ripemd.proofs.Library.{◌≡◌, ℕ, zero, suc, ◌+◌, ◌-◌, ◌*◌, ◌<◌, ◌≤◌, inl, inr, min, arith, refl, ap, ap₂, sym, ◌∙◌, length-append, List, [], ◌∷◌, ◌++◌, length, map, replicate, take, drop, mul-le-mul_right, zip2, range_with_len, flat_map, fold, iterate, div_ceil, length-zip2, fold-append, map-range_with_len_more, cases_lt, div_ceil_times, flat_map-append, flat_map-map, append-nil, nil_from_length, take-append-le, length-take-le, take_all, length-drop, take-append_seam, take-append-add, drop-replicate}
 use Rattle.std.specs.Int.Bits.{bit_xor}
 use Rattle.ripemd_mac.specs.Hmac.{filled}
 use Rattle.ripemd_mac.specs.Pbkdf2.{INT, U, F}
@@ -23,6 +23,10 @@ module _ (PRF : List ℕ → List ℕ → List ℕ) (P S : List ℕ) (i : ℕ) w
       ap (λ k. fold (zip2 bit_xor) (U PRF P S i 1) (map (U PRF P S i) (range_with_len 2 k))) count
       ∙ ap (fold (zip2 bit_xor) (U PRF P S i 1)) (map-range_with_len_more (U PRF P S i) 2 (c - 1) (c + 1) (omega arith))
       ∙ fold-append (zip2 bit_xor) (U PRF P S i 1) (map (U PRF P S i) (range_with_len 2 (c - 1))) (U PRF P S i (c + 1) ∷ [])
+
+-- what stays of zeros behind at most 64 bytes
+pub rest_of_zeros : (bytes : List ℕ) → bytes ++ drop (length bytes) (replicate 64 0) ≡ filled bytes
+rest_of_zeros bytes = rw (drop-replicate {X = ℕ} (length bytes) 64 0) refl
 
 -- ---- the blocks in the key
 

@@ -1,7 +1,6 @@
 -- The laws of HMAC states, for callers.
 use Rattle.std.proofs.Common.{◌≡◌, ℕ, ◌+◌, List, [], ◌++◌, length, take, drop, length-append, refl, sym, ap, ◌∙◌, arith}
-use Rattle.std.proofs.lemmas.List.{append-nil}
-use Rattle.std.proofs.Math.Seq.{take-append_seam, drop-append_seam}
+use Rattle.std.proofs.lemmas.List.{append-nil, take_at, drop_at}
 use Rattle.ripemd.specs.Standard.{hash}
 use Rattle.ripemd.specs.States.{HashState, initial_state, fed, core_and_tail}
 use Rattle.ripemd.specs.OverLists.{IsInjectiveOutput}
@@ -23,51 +22,39 @@ fed_twice step s x y = ap (λ (h : HashState). record s { inner = h }) (laws.fed
 
 module _ (start : List ℕ) (step : List ℕ → List ℕ → List ℕ) (output : List ℕ → List ℕ) (key : List ℕ) where
   -- two hash states that have taken in the masked key blocks are the state of the key
-  pub keyed_by_blocks : (state : KeyedState)
-      → state.inner ≡ fed step (initial_state start) (masked 0x36 (key_block (hash start step output) key))
-      → state.outer ≡ fed step (initial_state start) (masked 0x5c (key_block (hash start step output) key))
+  pub keyed_by_blocks : {state : KeyedState} {inner outer : List ℕ}
+      → inner ≡ masked 0x36 (key_block (hash start step output) key) → outer ≡ masked 0x5c (key_block (hash start step output) key)
+      → state.inner ≡ fed step (initial_state start) inner → state.outer ≡ fed step (initial_state start) outer
       → state ≡ keyed_state start step output key
   unfolding keyed_state
-  keyed_by_blocks state inner outer = same_states state (keyed_state start step output key) inner outer
+  keyed_by_blocks {state = state} of_inner of_outer inner outer = same_states state (keyed_state start step output key) (cc) (cc)
 
   -- no bytes leave the state of a key as it is
   pub fed_nothing : fed_text step (keyed_state start step output key) [] ≡ keyed_state start step output key
   unfolding keyed_state
-  fed_nothing =
-      let block : List ℕ = masked 0x36 (key_block (hash start step output) key) in
-      ap (λ (h : HashState). record (keyed_state start step output key) { inner = h })
-      (laws.fed_twice step (initial_state start) block [] ∙ ap (fed step (initial_state start)) (append-nil block))
+  fed_nothing = simp (laws.fed_twice, append-nil)
 
   -- after a text it gives the tag of the text
   pub tag_of_text : (text : List ℕ)
       → tag_of step output (fed_text step (keyed_state start step output key) text) ≡ hmac (hash start step output) key text
   unfolding keyed_state hmac outer_message inner_message
-  tag_of_text text =
-      let inner : List ℕ = masked 0x36 (key_block (hash start step output) key) in
-      let outer : List ℕ = masked 0x5c (key_block (hash start step output) key) in
-      let digest : List ℕ = hash start step output (inner ++ text) in
-      cc (
-        laws.fed_twice step (initial_state start) inner text,
-        laws.finish_fed start step output (inner ++ text),
-        laws.fed_twice step (initial_state start) outer digest,
-        laws.finish_fed start step output (outer ++ digest),
-      )
+  tag_of_text text = simp (laws.fed_twice, laws.finish_fed)
 
+module _ {start : List ℕ} {step : List ℕ → List ℕ → List ℕ} {output : List ℕ → List ℕ} {key : List ℕ} where
   -- states that stand for the key and a text: with no text yet, after one more piece, and their tag
   pub stands_for_nothing : {state : KeyedState} → state ≡ keyed_state start step output key
       → StandsFor start step output key [] state
-  stands_for_nothing new = record { is = new ∙ sym fed_nothing }
+  stands_for_nothing new = record { is = new ∙ sym (fed_nothing start step output key) }
 
-  pub stands_for_more : (text bytes : List ℕ) (state : KeyedState) → StandsFor start step output key text state
-      → StandsFor start step output key (text ++ bytes) (fed_text step state bytes)
-  stands_for_more text bytes state stands = record {
-    is = ap (λ (s : KeyedState). fed_text step s bytes) stands.is
-        ∙ fed_twice step (keyed_state start step output key) text bytes;
+  pub stands_for_more : {state next : KeyedState} {text : List ℕ} (bytes : List ℕ) → next ≡ fed_text step state bytes
+      → StandsFor start step output key text state → StandsFor start step output key (text ++ bytes) next
+  stands_for_more {text = text} bytes update stands = record {
+    is = update ∙ rw stands.is (fed_twice step (keyed_state start step output key) text bytes);
   }
 
-  pub tag_of_stands : (text : List ℕ) (state : KeyedState) → StandsFor start step output key text state
-      → tag_of step output state ≡ hmac (hash start step output) key text
-  tag_of_stands text state stands = ap (tag_of step output) stands.is ∙ tag_of_text text
+  pub tag_of_stands : {state : KeyedState} {text tag : List ℕ} → tag ≡ tag_of step output state
+      → StandsFor start step output key text state → tag ≡ hmac (hash start step output) key text
+  tag_of_stands {text = text} done stands = done ∙ rw stands.is (tag_of_text start step output key text)
 
 -- ---- saved bytes
 
@@ -77,18 +64,14 @@ module _ {are_words : List ℕ → Type 0} {output : List ℕ → List ℕ} {n :
   first_size = length-core_and_tail tells s.inner valid.inner
 
   pub length-hmac_bytes : length (hmac_bytes output s) ≡ (n + 8 + 64) + (n + 8 + 64)
-  length-hmac_bytes =
-      let both = length-append (core_and_tail output s.inner) (core_and_tail output s.outer) in
-      omega (arith, both, first_size, length-core_and_tail tells s.outer valid.outer)
+  length-hmac_bytes = omega (arith, length-append {A = ℕ}, first_size, length-core_and_tail tells s.outer valid.outer)
 
   -- the first are those of the inner state, and the others those of the outer one
   pub inner_part : (bytes : List ℕ) → hmac_bytes output s ≡ bytes → core_and_tail output s.inner ≡ take (n + 8 + 64) bytes
-  inner_part bytes same =
-      sym (take-append_seam (core_and_tail output s.inner) (core_and_tail output s.outer)) ∙ rw (first_size, same) refl
+  inner_part bytes same = sym (take_at _ _ (n + 8 + 64) first_size) ∙ ap (take (n + 8 + 64)) same
 
   pub outer_part : (bytes : List ℕ) → hmac_bytes output s ≡ bytes → core_and_tail output s.outer ≡ drop (n + 8 + 64) bytes
-  outer_part bytes same =
-      sym (drop-append_seam (core_and_tail output s.inner) (core_and_tail output s.outer)) ∙ rw (first_size, same) refl
+  outer_part bytes same = sym (drop_at _ _ (n + 8 + 64) first_size) ∙ ap (drop (n + 8 + 64)) same
 
 pub hmac_bytes_injective : {are_words : List ℕ → Type 0} {output : List ℕ → List ℕ} {n : ℕ} → IsInjectiveOutput are_words output n
     → (s t : KeyedState) → IsKeyedState are_words s → IsKeyedState are_words t

@@ -210,6 +210,7 @@ impl<F: ResumableFunction> Hmac<BlockHasher<F>> {
 }
 
 /// Whether bytes are equal. If their lengths are, it compares all bytes, whatever they are.
+#[tactic(auto, using(crate::proofs::Differences::difference_more, crate::proofs::Differences::same_or_none))]
 pub fn all_equal(a: &[u8], b: &[u8]) -> bool
     ensures { IsTrue result ↔ (a.now ≡ b.now) }
 {
@@ -247,6 +248,7 @@ pub fn masked_keys<D: BlockDigest>(key: &[u8]) -> MaskedKeys
     }
 }
 
+#[tactic(auto, unfolding(crate::specs::Hmac::key_block))]
 fn key_block<D: BlockDigest>(key: &[u8]) -> [u8; 64]
     ensures { result ≡ key_block (hash D.start D.step D.output) key.now }
 {
@@ -260,6 +262,7 @@ fn key_block<D: BlockDigest>(key: &[u8]) -> [u8; 64]
 
 /// At most 64 bytes, filled with zeros to a block.
 #[inline(always)]
+#[tactic(auto, using(crate::proofs::Deriving::rest_of_zeros))]
 pub fn filled(bytes: &[u8]) -> [u8; 64]
     requires { length bytes.now ≤ 64 }
     ensures { result ≡ filled bytes.now }

@@ -1,4 +1,4 @@
-use Rattle.std.proofs.Common.{◌≡◌, ◌≢◌, ℕ, List, length, Result, Ok, Err, IfErr, sym, ap, ◌∙◌, arith, take-append-drop}
+use Rattle.std.proofs.Common.{◌≡◌, ◌≢◌, ℕ, List, length, Result, Ok, Err, IfErr, sym, ap, ◌∙◌, arith, rules}
 use Rattle.ripemd.specs.OverLists.{IsInjectiveOutput}
 use Rattle.ripemd_mac.specs.Hmac.{KeyedState}
 use Rattle.ripemd_mac.specs.Saved.{IsKeyedState, hmac_bytes}
@@ -39,9 +39,7 @@ returns-clause-text g c key text saved =
     let inner = c.in_ok-load_slice in
     let outer = c.in_ok-load_slice-2 in
     let state : KeyedState = record { inner = inner.field-0; outer = outer.field-0 } in
-    let bytes : hmac_bytes g.F.ListBlockFunction.output state ≡ c.args.bytes.now =
-    rw (inner.ensures.ok, outer.ensures.ok, c.split_at.ensures.front, c.split_at.ensures.back)
-    (take-append-drop c.LEN-2.result c.args.bytes.now) in
+    let bytes : hmac_bytes g.F.ListBlockFunction.output state ≡ c.args.bytes.now = search rules in
     record {
       is = hmac_bytes_injective tells state saved.state (record { inner = inner.ensures.valid; outer = outer.ensures.valid })
           saved.valid (bytes ∙ sym saved.saved)

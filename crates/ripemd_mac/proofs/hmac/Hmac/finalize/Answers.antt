@@ -1,10 +1,6 @@
-use Rattle.std.proofs.Common.{rules, sym, subst}
-use Rattle.ripemd_mac.specs.Hmac.{StandsFor}
+use Rattle.std.proofs.Common.{rules}
 use Rattle.ripemd_mac.specs.Laws.{tag_of_stands}
 use Rattle.ripemd_mac.proofs.hmac.Hmac.finalize.Goals as goal
 
 pub returns-clause-text : goal.returns-clause-text
-returns-clause-text g c key text stands =
-    let d = g.D.Digest in
-    let state = subst (StandsFor d.start d.step d.output key text) (sym c.self.view_is) stands in
-    search (rules, tag_of_stands d.start d.step d.output key text _ state)
+returns-clause-text g c key text stands = tag_of_stands (search rules) stands
