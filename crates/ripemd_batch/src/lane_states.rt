@@ -90,7 +90,7 @@ fn select_each<V: Lanes, const N: usize>(live: V, new: [V; N], old: [V; N]) -> [
     states
 }
 
-#[tactic(auto, using(crate::proofs::DigestWords::padded_size))]
+#[tactic(auto, using(crate::proofs::DigestWords::padded_size, crate::proofs::DigestWords::has_padded_words))]
 #[inline(always)]
 fn last_words_of<V: Lanes, const N: usize>(states: [V; N]) -> [V; 16]
     requires { N ≤ 13 }

@@ -74,6 +74,7 @@ pub trait Lanes: Copy {
 }
 
 /// The new word where that in `live` has all bits set, and the old one where it is 0.
+#[tactic(auto, using(crate::proofs::Factored::selects_new, crate::proofs::Factored::selects_old))]
 #[inline(always)]
 pub(crate) fn select<V: Lanes>(live: V, new: V, old: V) -> V
     ensures taken { (j : ℕ) → j < V.COUNT → slice_index (V.words live) j ≡ 0xffff_ffff

@@ -118,6 +118,7 @@ fn function<V: Lanes>(side: Side, rounds: usize, r: usize, x: V, y: V, z: V) -> 
 
 // Boolean function `k` of the words of each message (1996, Boolean functions), in few operations: 1 and 3 are factored,
 // 2 and 4 are complements.
+#[tactic(auto, using(ripemd_block::proofs::Factoring::f1_factored, crate::proofs::Factored::f3_factored, crate::proofs::Factored::f4_complemented))]
 #[inline(always)]
 fn boolean_function<V: Lanes>(k: usize, x: V, y: V, z: V) -> V
     requires { k < 5 }

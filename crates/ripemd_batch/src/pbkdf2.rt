@@ -167,7 +167,8 @@ impl<'a> KeyBlocks<'a> {
     ) -> [[u8; 64]; 8]
         requires inside { k < total self.now }
         requires lanes { (j : ℕ) → j < 8 → k + j < total self.now → j < S.Vector.COUNT }
-        ensures { HasBlocks D.OUTPUT_SIZE (hmac (hash D.start D.step D.output)) self.now k result }
+        ensures { (from : ℕ) → from ≡ k
+            → HasBlocks D.OUTPUT_SIZE (hmac (hash D.start D.step D.output)) self.now from result }
     {
         let live = (self.total() - k).min(8);
         let start = S::splat(D::Function::start());

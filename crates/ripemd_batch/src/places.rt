@@ -25,6 +25,7 @@ impl<O: ByteArray> Places<O> for Arrays {
 
     ghost list = { λ arrays. map O.bytes arrays };
 
+    #[tactic(auto, using(crate::proofs::Placing::putting))]
     fn put(arrays: &mut [O], i: usize, output: O) {
         arrays[i] = output;
     }

@@ -16,8 +16,7 @@ loop-j-preserved g c =
           ≡ made (list_at (targets messages) j) =
           rw (← c.self.view_is, ← same.same_step, ← same.same_output)
           (c.walk_messages-states.ensures j (omega (arith, c.requires.few)) (omega arith)) in
-          rw (w.places-is, w.put.ensures) (put_next made messages _ _ j _ (g.D.Output.ByteArray.bytes w.digest_of-output.result)
-          c.requires.room (omega arith) (w.digest_of-output.ensures ∙ last) c.loop-j.invariant)
+          rw w.places-is (put_next _ _ _ _ c.requires.room (omega arith) (w.digest_of-output.ensures ∙ last) w.put.ensures c.loop-j.invariant)
       | else-j-messages w ↦
-          rw w.places-is (put_no_more made messages _ _ j _ (omega arith) c.loop-j.invariant)
+          rw w.places-is (put_no_more _ _ _ _ (omega arith) c.loop-j.invariant)
     ]

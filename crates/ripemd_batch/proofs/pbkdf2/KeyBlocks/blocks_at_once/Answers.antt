@@ -39,7 +39,7 @@ loop-j-preserved g c i h = next (cases_lt i c.loop-j.j)
         c.chain_at-chain.ensures.block
 
 pub returns : goal.returns
-returns g c j h live =
+returns g c from is = rw is (λ j h live.
     let same = g.met.D.BatchDigest in
     let f = g.D.Function.ListBlockFunction in
     let words = g.S.LaneStates.words_of in
@@ -50,4 +50,4 @@ returns g c j h live =
     c.combined_tags-sums.ensures j (c.requires.lanes j h live)
     ∙ rw (same.same_step, same.same_output, rounds) (c.loop-j.invariant j (search (rules, arith, live))) in
     let size = c.digest_size.ensures in
-    rw (← size.size, size.array, ← sums) (c.blocks_of.ensures j h (search (rules, arith, live)))
+    rw (← size.size, size.array, ← sums) (c.blocks_of.ensures j h (search (rules, arith, live))))
