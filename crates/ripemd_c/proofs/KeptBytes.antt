@@ -1,5 +1,5 @@
 -- The bytes that hash states are kept as, composed and taken apart.
-use Rattle.ripemd_block.proofs.Library.{◌≡◌, ℕ, ◌+◌, ◌-◌, ◌<◌, suc, refl, sym, ap, ◌∙◌, arith, rules, List, All, [], ◌∷◌, ◌++◌, length, take, drop, get_or, length-append, length-take, length-drop, length-take-le, length-replicate, take_at, drop_at, take-append-drop}
+use Rattle.ripemd_block.proofs.Library.{◌≡◌, ◌≢◌, ℕ, ◌+◌, ◌-◌, ◌<◌, suc, refl, sym, ap, ◌∙◌, arith, rules, List, All, [], ◌∷◌, ◌++◌, length, take, drop, get_or, length-append, length-take, length-drop, length-take-le, length-replicate, take_at, drop_at, take-append-drop}
 use Rattle.ripemd.specs.States.{HashState, IsHashState, IsWithoutTail, with_tail, output_and_count, tail_bytes, core_and_tail}
 use Rattle.ripemd.specs.OverLists.{IsInjectiveOutput}
 use Rattle.ripemd_block.specs.Laws.Saved.{length-output_and_count, length-core_and_tail, core_and_tail-split}
@@ -72,9 +72,11 @@ module _ {are_words : List ℕ → Type 0} {output : List ℕ → List ℕ} {siz
       (sym (core_and_tail-split output h) ∙ rw (front_is, back_is) same) in
       (λ tail. parts.0, kept_tail h.tail back (omega (arith, ap length back_is, length-drop n kept)) valid.tail.short parts.1)
 
+  -- so the first bytes are those of a core
   pub kept_core : {front : List ℕ} → front ≡ take mid kept
-      → IsWithoutTail are_words (with_tail h []) × (output_and_count output (with_tail h []) ≡ front)
-  kept_core is = (record { state = with_valid valid (omega arith) (search rules); no_tail = refl }, (kept_parts is refl).0 [])
+      → ¬ ((core : HashState) → IsWithoutTail are_words core → output_and_count output core ≢ front)
+  kept_core is none =
+      none (with_tail h []) (record { state = with_valid valid (omega arith) (search rules); no_tail = refl }) ((kept_parts is refl).0 [])
 
   -- a search finds this by the saved bytes
   pub kept_length : {back : List ℕ} → back ≡ drop mid kept

@@ -1,7 +1,7 @@
 -- Records of one size that lie one after another in some bytes, and what calls over records and lists do.
 use Rattle.std.specs.Prelude.{◌≡◌, ℕ, ◌+◌, ◌*◌, ◌/◌, Bool, List, length, map, slice_range}
 use Rattle.std.specs.List.{flat_map, range_with_len}
-use Rattle.ripemd.specs.Standard.{Parameters, ripemd}
+use Rattle.ripemd.specs.Standard.{ripemd}
 use Rattle.ripemd_mac.specs.Hmac.{hmac}
 use Rattle.ripemd_c.specs.Variants.{ByVariant, Writes, digest_size}
 
@@ -29,24 +29,15 @@ FillsEach width output_of bytes size old new done =
     Writes ((length old ≡ length old / width * width) × (length bytes ≡ length old / width * size))
     (flat_map output_of (records 0 (length old / width) size bytes)) old new done
 
--- a call does so by the variant of a number
-abbrev pub WritesList : (bits : ℕ) → (output_of : Parameters → List ℕ → List ℕ) → (messages : List (List ℕ))
-    → (old new : List ℕ) → Bool → Type 0
-WritesList bits output_of messages = ByVariant bits (λ v. FillsList (digest_size v) (output_of v) messages)
-
-abbrev pub WritesEach : (bits : ℕ) → (output_of : Parameters → List ℕ → List ℕ) → (bytes : List ℕ) → (size : ℕ)
-    → (old new : List ℕ) → Bool → Type 0
-WritesEach bits output_of bytes size = ByVariant bits (λ v. FillsEach (digest_size v) (output_of v) bytes size)
-
--- digests, and tags under a key
+-- calls do so with digests, and with tags under a key, by the variant of a number
 abbrev pub WritesDigests : (bits : ℕ) → (messages : List (List ℕ)) → (old new : List ℕ) → Bool → Type 0
-WritesDigests bits = WritesList bits ripemd
+WritesDigests bits messages = ByVariant bits (λ v. FillsList (digest_size v) (ripemd v) messages)
 
 abbrev pub WritesTags : (bits : ℕ) → (key : List ℕ) → (texts : List (List ℕ)) → (old new : List ℕ) → Bool → Type 0
-WritesTags bits key = WritesList bits (λ v. hmac (ripemd v) key)
+WritesTags bits key texts = ByVariant bits (λ v. FillsList (digest_size v) (hmac (ripemd v) key) texts)
 
 abbrev pub WritesEachDigest : (bits : ℕ) → (bytes : List ℕ) → (size : ℕ) → (old new : List ℕ) → Bool → Type 0
-WritesEachDigest bits = WritesEach bits ripemd
+WritesEachDigest bits bytes size = ByVariant bits (λ v. FillsEach (digest_size v) (ripemd v) bytes size)
 
 abbrev pub WritesEachTag : (bits : ℕ) → (key bytes : List ℕ) → (size : ℕ) → (old new : List ℕ) → Bool → Type 0
-WritesEachTag bits key = WritesEach bits (λ v. hmac (ripemd v) key)
+WritesEachTag bits key bytes size = ByVariant bits (λ v. FillsEach (digest_size v) (hmac (ripemd v) key) bytes size)

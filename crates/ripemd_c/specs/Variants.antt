@@ -38,16 +38,12 @@ pub record Writes (Fits : Type 0) (output old new : List ℕ) (done : Bool) : Ty
   pub written : IsTrue done → new ≡ output
   pub unchanged : IsFalse done → new ≡ old
 
--- a call writes the output of the variant of a number to a place of its size
-abbrev pub WritesOutput : (bits : ℕ) → (output_of : Parameters → List ℕ) → (old new : List ℕ) → Bool → Type 0
-WritesOutput bits output_of = ByVariant bits (λ v old. Writes (length old ≡ digest_size v) (output_of v) old)
-
--- the digest of a message, and the tag of a text under a key
+-- a call writes the digest of a message, or the tag of a text under a key, to a place of its size
 abbrev pub WritesDigest : (bits : ℕ) → (message old new : List ℕ) → Bool → Type 0
-WritesDigest bits message = WritesOutput bits (λ v. ripemd v message)
+WritesDigest bits message = ByVariant bits (λ v old. Writes (length old ≡ digest_size v) (ripemd v message) old)
 
 abbrev pub WritesTag : (bits : ℕ) → (key text old new : List ℕ) → Bool → Type 0
-WritesTag bits key text = WritesOutput bits (λ v. hmac (ripemd v) key text)
+WritesTag bits key text = ByVariant bits (λ v old. Writes (length old ≡ digest_size v) (hmac (ripemd v) key text) old)
 
 -- a call answers whether some bytes are that tag, all of them; there is none where there is no such variant
 abbrev pub VerifiesTag : (bits : ℕ) → (key text tag : List ℕ) → Bool → Type 0

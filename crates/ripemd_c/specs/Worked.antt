@@ -1,6 +1,6 @@
 -- Worked calls: what these definitions say that calls do with some values. The outputs are those that the authors
 -- and RFC 2286 published, and for keys, records and lists those that OpenSSL gives.
-use Rattle.std.specs.Prelude.{◌≡◌, ℕ, ◌+◌, ◌-◌, ◌*◌, ◌^◌, codes, List, [], ◌∷◌, ◌++◌, length, replicate, take, drop, Bool, IsTrue, IsFalse}
+use Rattle.std.specs.Prelude.{◌≡◌, ◌≤◌, ◌↔◌, ℕ, ◌+◌, ◌-◌, ◌*◌, ◌^◌, codes, List, [], ◌∷◌, ◌++◌, length, replicate, take, drop, Bool, IsTrue, IsFalse}
 use Rattle.std.specs.List.{range_with_len}
 use Rattle.ripemd.specs.Published.{hexadecimal}
 use Rattle.ripemd_mac.specs.Worked.{saved_inner, saved_outer}
@@ -50,11 +50,8 @@ tag = 0x24 ∷ 0xcb ∷ 0x4b ∷ 0xd6 ∷ 0x7d ∷ 0x20 ∷ 0xfc ∷ 0x1a ∷ 0x
 pub record WorkedTags : Type 0 where
   pub whole : Gives (WritesTag 160 key (codes "Hi There")) 20 (hexadecimal tag)
   pub long : RefusesRoom (WritesTag 160 key (codes "Hi There")) 21
-  pub verified : (answer : Bool) → VerifiesTag 160 key (codes "Hi There") tag answer → IsTrue answer
+  pub verified : (bytes : List ℕ) (answer : Bool) → VerifiesTag 160 key (codes "Hi There") bytes answer → IsTrue answer ↔ (bytes ≡ tag)
   pub wrong : (answer : Bool) → VerifiesTag 160 key (codes "Hi there") tag answer → IsFalse answer
-  pub part : (answer : Bool) → VerifiesTag 160 key (codes "Hi There") (take 10 tag) answer → IsFalse answer
-  pub nothing : (answer : Bool) → VerifiesTag 160 key (codes "Hi There") [] answer → IsFalse answer
-  pub longer : (answer : Bool) → VerifiesTag 160 key (codes "Hi There") (tag ++ 0 ∷ []) answer → IsFalse answer
   pub no_variant : (answer : Bool) → VerifiesTag 0 key (codes "Hi There") tag answer → IsFalse answer
 
 -- ---- keys
@@ -157,11 +154,8 @@ pub record WorkedHmacStates : Type 0 where
   pub short : RefusesRoom (FinalizesHmac (kept_hmac saved_inner saved_outer)) 19
   pub not_finalized : RefusesRoom (FinalizesHmac (kept_hmac saved_inner forged)) 20
   pub other_kind : (answer : Bool) → VerifiesHmac (20 ∷ (saved_inner ++ saved_outer) ++ replicate 40 0) tag answer → IsFalse answer
-  pub verified : (answer : Bool) → VerifiesHmac (kept_hmac saved_inner saved_outer) tag answer → IsTrue answer
-  pub wrong : (answer : Bool) → VerifiesHmac (kept_hmac saved_inner saved_outer) (replicate 20 0) answer → IsFalse answer
-  pub nothing : (answer : Bool) → VerifiesHmac (kept_hmac saved_inner saved_outer) [] answer → IsFalse answer
-  pub part : (answer : Bool) → VerifiesHmac (kept_hmac saved_inner saved_outer) (take 10 tag) answer → IsFalse answer
-  pub longer : (answer : Bool) → VerifiesHmac (kept_hmac saved_inner saved_outer) (tag ++ 0 ∷ []) answer → IsFalse answer
+  pub verified : (bytes : List ℕ) (answer : Bool) → VerifiesHmac (kept_hmac saved_inner saved_outer) bytes answer
+      → IsTrue answer ↔ (bytes ≡ tag)
   pub not_verified : (some : List ℕ) (answer : Bool) → VerifiesHmac (kept_hmac saved_inner forged) some answer
       → IsFalse answer
   pub not_updated : (piece new : List ℕ) (done : Bool) → UpdatesHmac (kept_hmac saved_inner forged) piece new done
@@ -212,8 +206,7 @@ pub record WorkedKeyLists : Type 0 where
   pub no_rounds_of_none : RefusesRoom (DerivesKeys 160 [] [] 0 20) 0
   pub list : Gives (Keys 2 25) 50
       (codes "768dcc27b7bfdef794a1ff9d935090fcf598555e66913180b9d92ac58575f940a39c429575de3180045194d5488ed8de5ccd")
-  pub no_passwords : Gives (DerivesKeys 160 [] [] 1 20) 0 []
-  pub longest_of_none : Gives (DerivesKeys 160 [] [] 1 (20 * (2 ^ 32 - 1))) 0 []
+  pub no_passwords : (size : ℕ) → size ≤ 20 * (2 ^ 32 - 1) → Gives (DerivesKeys 160 [] [] 1 size) 0 []
   pub too_long_of_none : RefusesRoom (DerivesKeys 160 [] [] 1 (20 * (2 ^ 32 - 1) + 1)) 0
   pub other_room : RefusesRoom (Keys 2 25) 49
   pub one_salt : RefusesRoom (DerivesKeys 160 (codes "password" ∷ codes "secret" ∷ []) (codes "salt" ∷ []) 2 25) 50

@@ -1,4 +1,4 @@
-use Rattle.ripemd_block.proofs.Library.{◌≡◌, ℕ, ◌*◌, List, [], Some, Bool, IsTrue, length, get_or, refl, rules, arith, ◌∙◌, length-range_with_len}
+use Rattle.ripemd_block.proofs.Library.{◌≡◌, ℕ, ◌*◌, List, [], Some, Bool, IsTrue, get_or, refl, rules, arith, ◌∙◌, length-range_with_len}
 use Rattle.ripemd.specs.Published.{hexadecimal}
 use Rattle.ripemd.specs.Standard.{Parameters, ripemd128, ripemd160, ripemd256, ripemd320, registers_after, lines_after, compress, with_padding, blocks, hash, ripemd}
 use Rattle.ripemd.specs.States.{new_state}
@@ -39,11 +39,8 @@ unfolding registers_after lines_after compress with_padding blocks hash key_bloc
 returns-clause-tags c = record {
   whole = λ new done does. written refl refl does;
   long = λ new done does. refused done (λ fits. absurd (omega (arith, fits))) does;
-  verified = λ answer does. does.1 refl;
+  verified = λ bytes answer does. does;
   wrong = λ answer does. differs (λ bytes. get_or bytes 0 0) answer does.0 (λ same. omega (arith, same));
-  part = λ answer does. differs (λ bytes. length bytes) answer does.0 (λ same. omega (arith, same));
-  nothing = λ answer does. differs (λ bytes. length bytes) answer does.0 (λ same. omega (arith, same));
-  longer = λ answer does. differs (λ bytes. length bytes) answer does.0 (λ same. omega (arith, same));
   no_variant = λ answer does. does;
 }
 

@@ -27,8 +27,7 @@ unfolding registers_after lines_after compress with_padding blocks hash key_bloc
 returns-clause-keys c = record {
   no_rounds_of_none = λ new done does. refused done (λ fits. absurd (fits.0.0 refl)) does;
   list = λ new done does. written ((search rules, omega arith), refl, refl) refl does;
-  no_passwords = λ new done does. written ((search rules, omega arith), refl, refl) refl does;
-  longest_of_none = λ new done does. written ((search rules, omega arith), refl, refl) refl does;
+  no_passwords = λ size few new done does. written ((search rules, omega (arith, few)), refl, search rules) refl does;
   too_long_of_none = λ new done does. refused done (λ fits. absurd (omega (arith, fits.0.1))) does;
   other_room = λ new done does. refused done (λ fits. absurd (omega (arith, fits.2))) does;
   one_salt = λ new done does. refused done (λ fits. absurd (omega (arith, fits.1))) does;

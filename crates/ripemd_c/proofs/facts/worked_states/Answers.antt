@@ -11,7 +11,7 @@ use Rattle.ripemd_c.specs.KeptStates.{IsSavedState, IsSavedHmac}
 use Rattle.ripemd_c.specs.Worked.{forged, key, saved_bytes, soiled, soiled_bytes}
 use Rattle.ripemd_c.specs.KeptBytes.{cleared}
 use Rattle.ripemd_c.proofs.KeptBytes.{saved_is_clear}
-use Rattle.ripemd_c.proofs.Working.{written, refused, differs}
+use Rattle.ripemd_c.proofs.Working.{written, refused}
 use Rattle.ripemd_c.proofs.facts.worked_states.Goals as goal
 
 -- the message, and its hash state
@@ -107,11 +107,7 @@ returns-clause-hmac_states c =
       short = λ new done does. refused done (λ fits. absurd (omega (arith, fits))) (does.message key there text);
       not_finalized = λ new done does. does.refused none;
       other_kind = λ answer does. does;
-      verified = λ answer does. (does.message key there text).1 refl;
-      wrong = λ answer does. differs (λ bytes. get_or bytes 0 0) answer (does.message key there text).0 (λ same. omega (arith, same));
-      nothing = λ answer does. differs (λ bytes. length bytes) answer (does.message key there text).0 (λ same. omega (arith, same));
-      part = λ answer does. differs (λ bytes. length bytes) answer (does.message key there text).0 (λ same. omega (arith, same));
-      longer = λ answer does. differs (λ bytes. length bytes) answer (does.message key there text).0 (λ same. omega (arith, same));
+      verified = λ bytes answer does. does.message key there text;
       not_verified = λ some answer does. does.refused none;
       not_updated = λ piece new done does. let unfit = does.kept.refused.1 none in (unfit, does.unchanged unfit);
       short_saved = λ new done does. refused done (λ fits. absurd (omega (arith, fits))) (does.state after text);

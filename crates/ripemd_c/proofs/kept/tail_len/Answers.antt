@@ -1,4 +1,4 @@
-use Rattle.std.proofs.Common.{◌≡◌, ◌+◌, ◌-◌, ◌∙◌, [], refl, length, take, drop, get_or, arith, length-drop, length-take-le}
+use Rattle.std.proofs.Common.{◌≡◌, ◌+◌, ◌-◌, ◌∙◌, refl, length, take, drop, get_or, arith, length-drop, length-take-le}
 use Rattle.ripemd.specs.States.{with_tail, output_and_count}
 use Rattle.ripemd_block.specs.Laws.Saved.{core_and_tail-split}
 use Rattle.ripemd_c.proofs.KeptBytes.{cleared_front, kept_core, with_valid}
@@ -8,10 +8,8 @@ use Rattle.ripemd_c.proofs.kept.tail_len.Goals as goal
 pub returns-in_default-clause-none : goal.returns-in_default-clause-none
 returns-in_default-clause-none g c h valid same =
     let r = g.met.F.ResumableFunction in
-    let core =
     kept_core r.injective_output r.saved_core_size valid c.args.kept.now (c.requires ∙ r.saved_hasher_size) same c.LEN.ensures
-    c.split_at.ensures.front in
-    c.in_default.ensures.err (with_tail h []) core.0 core.1
+    c.split_at.ensures.front c.in_default.ensures.err
 
 pub returns-clause-some : goal.returns-clause-some
 unfolding output_and_count

@@ -1,5 +1,4 @@
-use Rattle.std.proofs.Common.{◌∙◌, []}
-use Rattle.ripemd.specs.States.{with_tail}
+use Rattle.std.proofs.Common.{◌∙◌}
 use Rattle.ripemd_c.proofs.KeptBytes.{kept_core}
 use Rattle.ripemd_c.proofs.kept.BlockHasherKept.load_kept.Goals as goal
 
@@ -7,7 +6,5 @@ use Rattle.ripemd_c.proofs.kept.BlockHasherKept.load_kept.Goals as goal
 pub returns-in_default-clause-none : goal.returns-in_default-clause-none
 returns-in_default-clause-none g c h valid same =
     let r = g.met.F.ResumableFunction in
-    let core =
     kept_core r.injective_output r.saved_core_size valid c.args.kept.now (c.requires ∙ r.saved_hasher_size) same c.LEN.ensures
-    c.split_at.ensures.front in
-    c.in_default.ensures.err (with_tail h []) core.0 core.1
+    c.split_at.ensures.front c.in_default.ensures.err
