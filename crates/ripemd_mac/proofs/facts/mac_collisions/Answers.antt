@@ -7,9 +7,7 @@ use Rattle.ripemd_mac.proofs.facts.mac_collisions.Goals as goal
 pub returns : goal.returns
 unfolding with_padding blocks hash key_block inner_message outer_message
 returns c = record {
-  agree = refl;
   agree_again = refl;
-  differ = λ same. omega (arith, ap (λ (bytes : List ℕ). slice_index bytes 0) same);
   inner = (
     refl,
     record {
