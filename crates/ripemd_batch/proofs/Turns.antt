@@ -16,9 +16,6 @@ module _ (step : List ℕ → List ℕ → List ℕ) (output : List ℕ → List
     pub again : (state : S) → outer ≡ Some state → most < i
         → output words ≡ hash_after 64 (list state) step output (output (walk step first bs))
 
-  pub none_turned : (outer : Option S) (words : List ℕ) → words ≡ first → Turned outer 0 words
-  none_turned outer words is = record { walked = λ _. is; again = λ state some h. absurd (omega arith) }
-
   pub turn_on : (outer : Option S) (default second : S) (i : ℕ) (before after : List ℕ) → length bs ≤ most
       → i < turns_of outer most → second ≡ unwrap_or outer default
       → (i < most → i < length bs → after ≡ step before (get_or bs i []))

@@ -156,35 +156,35 @@ pub(crate) fn count_blocks(messages: &[&[u8]]) -> (usize, usize) {
 }
 
 // The digest of a message after `before` bytes, which led to the state `first`.
-pub(crate) fn digest_one<D: BatchDigest>(
-    first: StateOf<D>,
+#[tactic(auto, unfolding(crate::specs::Lanes::hash_after))]
+pub(crate) fn digest_one<F: ListBlockFunction>(
+    first: F::State,
     before: u64,
     message: &[u8],
-) -> D::Output
-    requires { D.Function.is_state first }
-    ensures { D.bytes_of result
-        ≡ hash_after before (D.Function.list first) D.step D.output message.now }
+) -> F::Digest
+    requires { F.is_state first }
+    ensures { F.Digest.bytes result ≡ hash_after before (F.list first) F.step F.output message.now }
 {
-    D::Function::output(walk_message::<D::Function>(first, before, message))
+    F::output(walk_message::<F>(first, before, message))
 }
 
 // The digest of a digest after one block, which led to the state `first`.
 #[inline(always)]
-pub(crate) fn digest_of_digest<D: BatchDigest>(first: StateOf<D>, digest: &[u8]) -> D::Output
-    requires { D.Function.is_state first }
-    ensures { D.bytes_of result ≡ hash_after 64 (D.Function.list first) D.step D.output digest.now }
+pub(crate) fn digest_of_digest<F: ListBlockFunction>(first: F::State, digest: &[u8]) -> F::Digest
+    requires { F.is_state first }
+    ensures { F.Digest.bytes result ≡ hash_after 64 (F.list first) F.step F.output digest.now }
 {
-    D::Function::output(state_of_digest::<D>(first, digest))
+    F::output(state_of_digest::<F>(first, digest))
 }
 
 // The state that gives the output of `digest_of_digest`.
+#[tactic(auto, unfolding(crate::specs::Lanes::hash_after))]
 #[inline(always)]
-pub(crate) fn state_of_digest<D: BatchDigest>(first: StateOf<D>, digest: &[u8]) -> StateOf<D>
-    requires { D.Function.is_state first }
-    ensures { D.output (D.Function.list result)
-        ≡ hash_after 64 (D.Function.list first) D.step D.output digest.now }
+pub(crate) fn state_of_digest<F: ListBlockFunction>(first: F::State, digest: &[u8]) -> F::State
+    requires { F.is_state first }
+    ensures { F.output (F.list result) ≡ hash_after 64 (F.list first) F.step F.output digest.now }
 {
-    walk_digest::<D::Function>(first, 64, digest)
+    walk_digest::<F>(first, 64, digest)
 }
 
 #[inline(always)]

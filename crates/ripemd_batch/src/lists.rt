@@ -12,7 +12,7 @@ use crate::groups::{
 };
 use crate::lane_states::LaneStates;
 use crate::places::{Arrays, Bytes, Places};
-use ripemd_block::block_api::{BlockFunction, walk};
+use ripemd_block::block_api::{BlockFunction, ByteArray, ListBlockFunction, walk};
 use ripemd_mac::hmac::masked_keys;
 use std::marker::Model;
 
@@ -93,9 +93,9 @@ impl<D: BatchDigest> ListHasher<D> {
     {
         let keys = masked_keys::<D>(key);
         ListHasher {
-            first: state_after::<D>(keys.inner),
+            first: state_after::<D::Function>(keys.inner),
             before: 64,
-            outer: Some(state_after::<D>(keys.outer)),
+            outer: Some(state_after::<D::Function>(keys.outer)),
             by_fours: false,
         }
     }
@@ -140,7 +140,8 @@ impl<D: BatchDigest> ListHasher<D> {
     #[inline(always)]
     fn put_each<P: Places<D::Output>>(&self, messages: &[&[u8]], places: &mut [P::Element])
         requires { length (P.list places.old) ≡ length messages.now }
-        ensures { P.list places.new ≡ map (made_by D.step D.output self.now) (targets messages.now) }
+        ensures { P.list places.new
+            ≡ map (made_by D.Function.step D.Function.output self.now) (targets messages.now) }
     {
         if messages.len() <= 2 {
             self.put_one_by_one::<P>(messages, 0, places);
@@ -160,8 +161,8 @@ impl<D: BatchDigest> ListHasher<D> {
     )
         requires fits { at + length messages.now < 2 ^ 64 }
         requires room { at + length messages.now ≤ length (P.list places.old) }
-        ensures { PutFrom at (map (made_by D.step D.output self.now) (targets messages.now))
-            (P.list places.old) (P.list places.new) }
+        ensures { PutFrom at (map (made_by D.Function.step D.Function.output self.now)
+            (targets messages.now)) (P.list places.old) (P.list places.new) }
     {
         for g in 0..messages.len().div_ceil(8) {
             let end = group_end(messages.len(), 8 * g, 8);
@@ -179,8 +180,8 @@ impl<D: BatchDigest> ListHasher<D> {
         requires few { length messages.now ≤ 8 }
         requires fits { at + length messages.now < 2 ^ 64 }
         requires room { at + length messages.now ≤ length (P.list places.old) }
-        ensures { PutFrom at (map (made_by D.step D.output self.now) (targets messages.now))
-            (P.list places.old) (P.list places.new) }
+        ensures { PutFrom at (map (made_by D.Function.step D.Function.output self.now)
+            (targets messages.now)) (P.list places.old) (P.list places.new) }
     {
         if !self.by_fours {
             let (all, longest) = count_blocks(messages);
@@ -205,8 +206,8 @@ impl<D: BatchDigest> ListHasher<D> {
         requires few { length messages.now ≤ 4 }
         requires fits { at + length messages.now < 2 ^ 64 }
         requires room { at + length messages.now ≤ length (P.list places.old) }
-        ensures { PutFrom at (map (made_by D.step D.output self.now) (targets messages.now))
-            (P.list places.old) (P.list places.new) }
+        ensures { PutFrom at (map (made_by D.Function.step D.Function.output self.now)
+            (targets messages.now)) (P.list places.old) (P.list places.new) }
     {
         let (all, longest) = count_blocks(messages);
         if all > longest.saturating_mul(FOR_FOUR) {
@@ -226,8 +227,8 @@ impl<D: BatchDigest> ListHasher<D> {
         requires few { length messages.now ≤ S.Vector.COUNT }
         requires fits { at + length messages.now < 2 ^ 64 }
         requires room { at + length messages.now ≤ length (P.list places.old) }
-        ensures { PutFrom at (map (made_by D.step D.output self.now) (targets messages.now))
-            (P.list places.old) (P.list places.new) }
+        ensures { PutFrom at (map (made_by D.Function.step D.Function.output self.now)
+            (targets messages.now)) (P.list places.old) (P.list places.new) }
     {
         let states: S = walk_messages(self.first, self.before, self.outer, messages);
         // Eight turns: so the compiler knows the lane of each.
@@ -248,8 +249,8 @@ impl<D: BatchDigest> ListHasher<D> {
     )
         requires fits { at + length messages.now < 2 ^ 64 }
         requires room { at + length messages.now ≤ length (P.list places.old) }
-        ensures { PutFrom at (map (made_by D.step D.output self.now) (targets messages.now))
-            (P.list places.old) (P.list places.new) }
+        ensures { PutFrom at (map (made_by D.Function.step D.Function.output self.now)
+            (targets messages.now)) (P.list places.old) (P.list places.new) }
     {
         for j in 0..messages.len() {
             let output = self.hash_one(message_at(messages, j));
@@ -259,20 +260,21 @@ impl<D: BatchDigest> ListHasher<D> {
 
     #[inline(always)]
     fn hash_one(&self, message: &[u8]) -> D::Output
-        ensures { D.bytes_of result ≡ made_by D.step D.output self.now message.now }
+        ensures { D.Output.bytes result
+            ≡ made_by D.Function.step D.Function.output self.now message.now }
     {
-        let digest = digest_one::<D>(self.first, self.before, message);
+        let digest = digest_one::<D::Function>(self.first, self.before, message);
         match self.outer {
-            Some(outer) => digest_of_digest::<D>(outer, D::output_bytes(&digest)),
+            Some(outer) => digest_of_digest::<D::Function>(outer, digest.as_bytes()),
             None => digest,
         }
     }
 }
 
 // The state after a block, from the start.
-pub(crate) fn state_after<D: BatchDigest>(block: [u8; 64]) -> StateOf<D>
-    ensures value { D.Function.list result ≡ D.step D.start block }
-    ensures valid { D.Function.is_state result }
+pub(crate) fn state_after<F: ListBlockFunction>(block: [u8; 64]) -> F::State
+    ensures value { F.list result ≡ F.step (F.list F.start_of) block }
+    ensures valid { F.is_state result }
 {
-    walk::<D::Function>(D::Function::start(), &[block])
+    walk::<F>(F::start(), &[block])
 }

@@ -236,11 +236,11 @@ fn chain_of<D: BatchDigest>(password: &[u8], salt: &[u8], number: u32) -> Chain<
 {
     let keys = masked_keys::<D>(password);
     let digest = inner_digest::<D>(&keys.inner, salt, number);
-    let outer = state_after::<D>(keys.outer);
+    let outer = state_after::<D::Function>(keys.outer);
     Chain {
-        inner: state_after::<D>(keys.inner),
+        inner: state_after::<D::Function>(keys.inner),
         outer,
-        first: state_of_digest::<D>(outer, D::output_bytes(&digest)),
+        first: state_of_digest::<D::Function>(outer, D::output_bytes(&digest)),
     }
 }
 
@@ -266,8 +266,8 @@ fn one_by_one<D: BatchDigest>(chain: Chain<D>, rounds: u32) -> [u8; 64]
     let mut tag = D::Function::output(chain.first);
     let mut sum = filled(D::output_bytes(&tag));
     for k in 1..rounds {
-        let inner = digest_of_digest::<D>(chain.inner, D::output_bytes(&tag));
-        let next = digest_of_digest::<D>(chain.outer, D::output_bytes(&inner));
+        let inner = digest_of_digest::<D::Function>(chain.inner, D::output_bytes(&tag));
+        let next = digest_of_digest::<D::Function>(chain.outer, D::output_bytes(&inner));
         tag = next;
         sum = combined(&sum, &filled(D::output_bytes(&next)));
     }

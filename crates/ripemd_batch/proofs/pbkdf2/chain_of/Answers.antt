@@ -6,10 +6,15 @@ pub returns-clause-block : goal.returns-clause-block
 returns-clause-block g c rounds =
     let d = g.D.Digest in
     let keys = c.masked_keys-keys.result in
+    let same = g.met.D.BatchDigest in
     rw (
+      ← same.same_output,
       c.state_of_digest.ensures,
       c.state_after.ensures.value,
       c.state_after-outer.ensures.value,
+      same.same_output,
+      same.same_step,
+      same.same_start,
       c.output_bytes.ensures.bytes,
       c.inner_digest-digest.ensures,
     )

@@ -16,13 +16,20 @@ loop-k-init g c =
 pub loop-k-preserved : goal.loop-k-preserved
 loop-k-preserved g c =
     let d = g.D.Digest in
+    let same = g.met.D.BatchDigest in
     let list = g.D.Function.ListBlockFunction.list in
     let tag_of : List ℕ → List ℕ = tag_after d.step d.output (list c.args.chain.inner) (list c.args.chain.outer) in
     let first : List ℕ = d.output (list c.args.chain.first) in
     let k : ℕ = c.loop-k.k in
     let sum : List ℕ = combined_tags tag_of k first in
     let next : List ℕ = iterate tag_of (k + 1 - 1) first in
-    let tag : g.D.OutputSizeUser.bytes_of c.digest_of_digest-next.result ≡ next = cc (next_tag tag_of first k c.loop-k.auto.k) in
+    let tag : g.D.OutputSizeUser.bytes_of c.digest_of_digest-next.result ≡ next = cc (
+      next_tag tag_of first k c.loop-k.auto.k,
+      same.same_bytes c.digest_of_digest-inner.result,
+      same.same_bytes c.digest_of_digest-next.result,
+      same.same_step,
+      same.same_output,
+    ) in
     let added = next_combined tag_of first k c.loop-k.auto.k in
-    let same : length sum ≡ length next = cc in
-    record { tag = tag; sum = cc (added, combined_filled sum next same); size = cc (added, length-combined sum next same) }
+    let many : length sum ≡ length next = cc in
+    record { tag = tag; sum = cc (added, combined_filled sum next many); size = cc (added, length-combined sum next many) }

@@ -6,6 +6,7 @@ pub returns : goal.returns
 returns g c =
     let d = g.D.Digest in
     let keys = c.masked_keys-keys.result in
-    rw (c.state_after.ensures.value, c.state_after-2.ensures.value)
+    let same = g.met.D.BatchDigest in
+    rw (c.state_after.ensures.value, c.state_after-2.ensures.value, same.same_step, same.same_start)
     (tags d.start d.step d.output c.args.key.now keys.inner keys.outer (search rules) (search rules) c.masked_keys-keys.ensures.inner
     c.masked_keys-keys.ensures.outer)

@@ -6,4 +6,5 @@ use Rattle.ripemd_batch.proofs.lists.ListHasher.put_groups.Given as goal
 
 abbrev pub invariant-loop-g : goal.invariant-loop-g
 invariant-loop-g g l =
-    Put (made_by g.D.Digest.step g.D.Digest.output l.self) l.messages (g.P.Places.list l.fn.places) l.at (8 * l.g) (g.P.Places.list l.places)
+    let f = g.D.Function.ListBlockFunction in
+    Put (made_by f.step f.output l.self) l.messages (g.P.Places.list l.fn.places) l.at (8 * l.g) (g.P.Places.list l.places)

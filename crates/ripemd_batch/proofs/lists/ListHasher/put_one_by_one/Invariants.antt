@@ -5,4 +5,5 @@ use Rattle.ripemd_batch.proofs.lists.ListHasher.put_one_by_one.Given as goal
 
 abbrev pub invariant-loop-j : goal.invariant-loop-j
 invariant-loop-j g l =
-    Put (made_by g.D.Digest.step g.D.Digest.output l.self) l.messages (g.P.Places.list l.fn.places) l.at l.j (g.P.Places.list l.places)
+    let f = g.D.Function.ListBlockFunction in
+    Put (made_by f.step f.output l.self) l.messages (g.P.Places.list l.fn.places) l.at l.j (g.P.Places.list l.places)
