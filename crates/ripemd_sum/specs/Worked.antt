@@ -3,7 +3,7 @@
 use Rattle.std.specs.Prelude.{◌≡◌, ℕ, Bool, true, false, List, [], ◌∷◌, Option, None, Some, codes, replicate}
 use Rattle.ripemd_sum.specs.Types.{Error, Variant, R128, R160, R256, R320, Read, TooLong, Write, Tracked, RunFault}
 use Rattle.ripemd_sum.specs.Arguments.{Chooses, IsKeyText, ChoosesMac, HasKey, AsksNothing}
-use Rattle.ripemd_sum.specs.Runs.{digest_line, tag_line, GivesAll, FailsToGive, GivesTooMuch, Gets}
+use Rattle.ripemd_sum.specs.Runs.{digest_line, tag_line, GivesAll, Gets}
 use Rattle.ripemd_sum.specs.Faults.{message_of, ExplainsRun}
 
 -- ---- lines
@@ -66,7 +66,6 @@ pub record LinesOfErrors : Type 0 where
 
 -- keys have at most 128 digits, and never an odd number of them
 pub record LengthsOfKeys : Type 0 where
-  pub none : IsKeyText [] 0
   pub most : IsKeyText (replicate 128 0x30) 64
   pub odd : (count : ℕ) → ¬ IsKeyText (replicate 129 0x30) count
   pub too_long : (count : ℕ) → ¬ IsKeyText (replicate 130 0x30) count
@@ -96,23 +95,6 @@ pub record RunsToTheEnd : Type 0 where
   pub not_counted : ¬ GivesAbc (tracked [] false 2) 3
   pub failed : ¬ GivesAbc (tracked [] true 3) 3
 
--- a reader gives so many bytes, under the limit of 10, and fails or not
-abbrev pub Fails : ℕ → Bool → Type 0
-Fails taken failed = FailsToGive unknown (tracked [] false 0) (tracked [] failed taken) 10
-
-abbrev pub Exceeds : ℕ → Bool → Type 0
-Exceeds taken failed = GivesTooMuch unknown (tracked [] false 0) (tracked [] failed taken) 10
-
-pub record RunsThatStop : Type 0 where
-  pub fails : Fails 10 true
-  pub fails_past_the_limit : ¬ Fails 11 true
-  pub does_not_fail : ¬ Fails 10 false
-  pub exceeds : Exceeds 11 false
-  pub exceeds_by_a_read : Exceeds 4106 false
-  pub within_the_limit : ¬ Exceeds 10 false
-  pub reads_on : ¬ Exceeds 4107 false
-  pub fails_instead : ¬ Exceeds 11 true
-
 -- a writer that had got "a" gets "bc"
 abbrev pub GetsBc : List ℕ → Bool → Type 0
 GetsBc bytes failed = Gets known (tracked (codes "a") false 0) (tracked bytes failed 0) (codes "bc")
@@ -129,8 +111,12 @@ Stops reader writer fault = ExplainsRun unknown (tracked [] false 0) reader (tra
 pub record WorkedErrors (error : Error) : Type 0 where
   pub read : Stops (tracked [] true 10) (tracked [] false 0) (Read error)
   pub read_of_a_reader_that_works : ¬ Stops (tracked [] false 10) (tracked [] false 0) (Read error)
+  pub read_past_the_limit : ¬ Stops (tracked [] true 11) (tracked [] false 0) (Read error)
   pub read_after_writing : ¬ Stops (tracked [] true 10) (tracked (codes "a") false 0) (Read error)
   pub too_long : Stops (tracked [] false 11) (tracked [] false 0) TooLong
+  pub too_long_by_a_read : Stops (tracked [] false 4106) (tracked [] false 0) TooLong
+  pub too_long_by_more : ¬ Stops (tracked [] false 4107) (tracked [] false 0) TooLong
+  pub too_long_of_a_reader_that_fails : ¬ Stops (tracked [] true 11) (tracked [] false 0) TooLong
   pub too_long_within_the_limit : ¬ Stops (tracked [] false 10) (tracked [] false 0) TooLong
   pub too_long_after_writing : ¬ Stops (tracked [] false 11) (tracked (codes "a") false 0) TooLong
   pub write : Stops (tracked [] false 10) (tracked (codes "a") true 0) (Write error)

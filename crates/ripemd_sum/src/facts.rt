@@ -3,7 +3,7 @@
 ghost use Rattle.std.specs.Prelude.{◌≡◌};
 ghost use Rattle.ripemd_sum.specs.Types.{Error};
 ghost use Rattle.ripemd_sum.specs.Runs.{most_bytes, most_bytes_under_a_key};
-ghost use Rattle.ripemd_sum.specs.Worked.{LinesOfAbc, LineOfATag, LinesOfErrors, AskForDigests, AskForTags, AskForNothing, LengthsOfKeys, RunsToTheEnd, RunsThatStop, Writings, WorkedErrors};
+ghost use Rattle.ripemd_sum.specs.Worked.{LinesOfAbc, LineOfATag, LinesOfErrors, AskForDigests, AskForTags, AskForNothing, LengthsOfKeys, RunsToTheEnd, Writings, WorkedErrors};
 
 /// The lines of published digests of each variant, of a published tag, and of the errors.
 pub fn worked_lines()
@@ -19,7 +19,7 @@ pub fn worked_arguments()
     ensures nothing { AskForNothing }
 {}
 
-/// The least and the greatest length of keys, and the next ones; the greatest lengths of the input.
+/// The greatest length of keys, and the next ones; the greatest lengths of the input.
 pub fn worked_limits()
     ensures keys { LengthsOfKeys }
     ensures input { most_bytes ≡ 2305843009213693951 }
@@ -29,7 +29,6 @@ pub fn worked_limits()
 /// What a run says of its reader and writer: true runs, and others that lack one part.
 pub fn worked_runs()
     ensures ends { RunsToTheEnd }
-    ensures stops { RunsThatStop }
     ensures writes { Writings }
     ensures errors { (error : Error) → WorkedErrors error }
 {}
