@@ -1,13 +1,12 @@
 -- What a reader gave so far, call by call; and hashers, which begin with nothing.
 use Rattle.ripemd.proofs.Library.{◌≡◌, ℕ, ◌+◌, ◌≤◌, Option, List, ◌++◌, length, take, length-append, Result, Ok, Err, IfOk, arith, length-take-le, Consumes, Consumes-trans}
 use Rattle.ripemd_sum.specs.Types.{Tracked}
-use Rattle.ripemd_sum.specs.Track.{inner_of, taken_of}
 use Rattle.ripemd_sum.specs.Runs.{Gives}
 
 -- the bytes so far, and those of a read of n bytes into a buffer
 pub Gives_more : {R : Type 0} {remaining : R → Option (List ℕ)} {old now next : Tracked R} {message : List ℕ} (n : ℕ) (buffer : List ℕ)
-    → Gives remaining old now message → Consumes (remaining (inner_of now)) (remaining (inner_of next)) (take n buffer)
-    → n ≤ length buffer → taken_of next ≡ taken_of now + n → Gives remaining old next (message ++ take n buffer)
+    → Gives remaining old now message → Consumes (remaining now.inner) (remaining next.inner) (take n buffer)
+    → n ≤ length buffer → next.taken ≡ now.taken + n → Gives remaining old next (message ++ take n buffer)
 Gives_more {message = message} n buffer before given most counted = record {
   given = Consumes-trans _ _ _ message (take n buffer) before.given given;
   counted = omega (arith, length-append message (take n buffer), length-take-le n buffer most);

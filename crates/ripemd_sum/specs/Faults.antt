@@ -2,7 +2,6 @@
 use Rattle.std.specs.Prelude.{◌≡◌, ℕ, List, true, codes, Option, Result, MatchResult}
 use Rattle.ripemd_sum.specs.Types.{ReadFault, RunFault, Read, TooLong, Write, Tracked}
 use Rattle.ripemd_sum.specs.declared.fault.ReadFault.TheVariants as reading
-use Rattle.ripemd_sum.specs.Track.{has_failed}
 use Rattle.ripemd_sum.specs.Runs.{GivesAll, FailsToGive, GivesTooMuch, Gets}
 
 -- the line that the program prints for an error
@@ -27,7 +26,7 @@ abbrev pub ExplainsRun : {R W : Type 0} → (R → Option (List ℕ)) → Tracke
 ExplainsRun remaining old new writer written limit (Read e) = FailsToGive remaining old new limit × (written ≡ writer)
 ExplainsRun remaining old new writer written limit TooLong = GivesTooMuch remaining old new limit × (written ≡ writer)
 ExplainsRun remaining old new writer written limit (Write e) =
-    ((message : List ℕ) × GivesAll remaining old new limit message) × (has_failed written ≡ true)
+    ((message : List ℕ) × GivesAll remaining old new limit message) × (written.failed ≡ true)
 
 -- a run with this limit and this outcome: the writer got the line of what the reader gave, or the error says how far
 -- they came

@@ -6,5 +6,3 @@ pub mod Runs
 pub mod Faults
 -- Worked cases of these.
 pub mod Worked
--- What a `Tracked` shows.
-pub mod Track

@@ -5,7 +5,6 @@ use Rattle.hex.specs.Hex.{encode_lower}
 use Rattle.ripemd.specs.Standard.{Parameters, ripemd128, ripemd160, ripemd256, ripemd320, ripemd}
 use Rattle.ripemd_mac.specs.Hmac.{hmac}
 use Rattle.ripemd_sum.specs.Types.{Tracked, Variant, R128, R160, R256, R320}
-use Rattle.ripemd_sum.specs.Track.{inner_of, has_failed, taken_of}
 
 -- the variant of the definitions that a variant of the program names
 abbrev pub parameters_of : Variant → Parameters
@@ -30,25 +29,31 @@ most_bytes = 2 ^ 61 - 1
 abbrev pub most_bytes_under_a_key : ℕ
 most_bytes_under_a_key = most_bytes - 64
 
+-- before a run: neither the reader nor the writer has failed, and the reader has given nothing yet
+pub record Ready {R W : Type 0} (reader : Tracked R) (writer : Tracked W) : Type 0 where
+  pub reader_works : reader.failed ≡ false
+  pub reader_fresh : reader.taken ≡ 0
+  pub writer_works : writer.failed ≡ false
+
 -- the reader gave these bytes between two of its states, and they were counted
 pub record Gives {R : Type 0} (remaining : R → Option (List ℕ)) (old new : Tracked R) (bytes : List ℕ) : Type 0 where
-  pub given : Consumes (remaining (inner_of old)) (remaining (inner_of new)) bytes
-  pub counted : taken_of new ≡ taken_of old + length bytes
+  pub given : Consumes (remaining old.inner) (remaining new.inner) bytes
+  pub counted : new.taken ≡ old.taken + length bytes
 
 -- the reader gave this message, within the limit, to its end, and did not fail
 pub record GivesAll {R : Type 0} (remaining : R → Option (List ℕ)) (old new : Tracked R) (limit : ℕ)
     (message : List ℕ) : Type 0 where
   pub gives : Gives remaining old new message
   pub within : length message ≤ limit
-  pub ended : IsAtEnd (remaining (inner_of new))
-  pub works : has_failed new ≡ false
+  pub ended : IsAtEnd (remaining new.inner)
+  pub works : new.failed ≡ false
 
 -- the reader failed, after no more bytes than the limit
 pub record FailsToGive {R : Type 0} (remaining : R → Option (List ℕ)) (old new : Tracked R) (limit : ℕ) : Type 0 where
   pub bytes : List ℕ
   pub gives : Gives remaining old new bytes
   pub within : length bytes ≤ limit
-  pub fails : has_failed new ≡ true
+  pub fails : new.failed ≡ true
 
 -- by how many bytes a run may read past its limit
 abbrev pub most_past_limit : ℕ
@@ -60,9 +65,9 @@ pub record GivesTooMuch {R : Type 0} (remaining : R → Option (List ℕ)) (old 
   pub gives : Gives remaining old new bytes
   pub over : limit < length bytes
   pub near : length bytes ≤ limit + most_past_limit
-  pub works : has_failed new ≡ false
+  pub works : new.failed ≡ false
 
 -- the writer got these bytes and no others, and did not fail
 pub record Gets {W : Type 0} (contents : W → Option (List ℕ)) (old new : Tracked W) (bytes : List ℕ) : Type 0 where
-  pub written : Appends (contents (inner_of old)) (contents (inner_of new)) bytes
-  pub works : has_failed new ≡ false
+  pub written : Appends (contents old.inner) (contents new.inner) bytes
+  pub works : new.failed ≡ false

@@ -4,8 +4,7 @@ ghost use Rattle.std.specs.Prelude.{◌≡◌, ◌+◌, ◌*◌, ◌≤◌, ◌+
 ghost use Rattle.hex.specs.Hex.{encode_lower};
 ghost use Rattle.ripemd.specs.Standard.{hash};
 ghost use Rattle.ripemd_mac.specs.Hmac.{hmac};
-ghost use Rattle.ripemd_sum.specs.Track.{Ready, has_failed, taken_of};
-ghost use Rattle.ripemd_sum.specs.Runs.{digest_line, tag_line, GivesAll, Gets};
+ghost use Rattle.ripemd_sum.specs.Runs.{digest_line, tag_line, Ready, GivesAll, Gets};
 ghost use Rattle.ripemd_sum.specs.Faults.{ExplainsReading, ExplainsRun, IsRun};
 
 use crate::any_hasher::AnyHasher;
@@ -123,8 +122,8 @@ pub fn hash_reader<D: Digest, R: Read>(
     reader: &mut Tracked<R>,
     limit: u64,
 ) -> Result<D::Output, ReadFault>
-    requires works { has_failed reader.old ≡ false }
-    requires fresh { taken_of reader.old ≡ 0 }
+    requires works { reader.old.failed ≡ false }
+    requires fresh { reader.old.taken ≡ 0 }
     ensures ok { IfOk result (λ digest. (message : List ℕ)
         × GivesAll R.remaining reader.old reader.new limit message
         × (D.bytes_of digest ≡ hash D.start D.step D.output message)) }
@@ -139,8 +138,8 @@ fn read_to_end<S: Incremental, R: Read>(
     reader: &mut Tracked<R>,
     limit: u64,
 ) -> Result<<S::Hash as OutputSizeUser>::Output, ReadFault>
-    requires works { has_failed reader.old ≡ false }
-    requires fresh { taken_of reader.old ≡ 0 }
+    requires works { reader.old.failed ≡ false }
+    requires fresh { reader.old.taken ≡ 0 }
     ensures ok { IfOk result (λ output. (message : List ℕ)
         × GivesAll R.remaining reader.old reader.new limit message
         × ((o : S.Origin) → state ≡ S.new_state o → S.Hash.bytes_of output ≡ S.whole o message)) }
@@ -163,9 +162,9 @@ fn read_to_end<S: Incremental, R: Read>(
 // Writes bytes in hexadecimal, as a line.
 fn write_line<W: Write>(bytes: &[u8], writer: &mut Tracked<W>) -> io::Result<()>
     requires fits { 2 * length bytes.now + 1 ≤ 81 }
-    requires works { has_failed writer.old ≡ false }
+    requires works { writer.old.failed ≡ false }
     ensures ok { OnOk result (Gets W.contents writer.old writer.new (encode_lower bytes.now ++ codes "\n")) }
-    ensures err { IfErr result (λ _. has_failed writer.new ≡ true) }
+    ensures err { IfErr result (λ _. writer.new.failed ≡ true) }
 {
     let mut buffer = [0; LONGEST_LINE];
     let line = &mut buffer[..2 * bytes.len() + 1];

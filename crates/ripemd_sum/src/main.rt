@@ -12,9 +12,8 @@ mod tracked;
 mod variant;
 
 ghost use Rattle.std.specs.Prelude.{◌≡◌, ◌↔◌, ℕ, List, IsNone, IfNone, IfSome, false, map, string_bytes};
-ghost use Rattle.ripemd_sum.specs.Track.{Ready};
 ghost use Rattle.ripemd_sum.specs.Arguments.{Chooses, ChoosesMac, HasKey, AsksNothing};
-ghost use Rattle.ripemd_sum.specs.Runs.{digest_line, tag_line, most_bytes, most_bytes_under_a_key};
+ghost use Rattle.ripemd_sum.specs.Runs.{Ready, digest_line, tag_line, most_bytes, most_bytes_under_a_key};
 ghost use Rattle.ripemd_sum.specs.Faults.{IsRun};
 ghost use Rattle.ripemd_sum.specs.Types.{Variant};
 

@@ -18,13 +18,11 @@ pub struct Tracked<T> {
 }
 
 impl<T> Tracked<T> {
-    ghost use Rattle.ripemd_sum.specs.Track.{inner_of, has_failed, taken_of};
-
     /// Begins without a failure, and with nothing given.
     pub fn new(inner: T) -> Tracked<T>
-        ensures inner { inner_of result ≡ inner }
-        ensures failed { has_failed result ≡ false }
-        ensures taken { taken_of result ≡ 0 }
+        ensures inner { result.inner ≡ inner }
+        ensures failed { result.failed ≡ false }
+        ensures taken { result.taken ≡ 0 }
     {
         Tracked {
             inner,
@@ -35,7 +33,7 @@ impl<T> Tracked<T> {
 
     /// The reader or writer itself.
     pub fn into_inner(self) -> T
-        ensures { result ≡ inner_of self }
+        ensures { result ≡ self.inner }
     {
         let Tracked {
             inner,
@@ -47,33 +45,31 @@ impl<T> Tracked<T> {
 
     /// Whether a call has failed.
     pub fn failed(&self) -> bool
-        ensures { result ≡ has_failed self.now }
+        ensures { result ≡ self.now.failed }
     {
         self.failed
     }
 
     /// How many bytes it has given, at most 2^128 - 1.
     pub fn taken(&self) -> u128
-        ensures { result ≡ taken_of self.now }
+        ensures { result ≡ self.now.taken }
     {
         self.taken
     }
 }
 
 impl<R: Read> Tracked<R> {
-    ghost use Rattle.ripemd_sum.specs.Track.{inner_of, has_failed, taken_of};
-
     /// One call of the reader's `read`.
     pub fn read(&mut self, buffer: &mut [u8]) -> io::Result<usize>
         ensures bound { ReadsAtMost result buffer.new }
-        ensures bytes { ReadConsumes (R.remaining (inner_of self.old))
-            (R.remaining (inner_of self.new)) result buffer.new }
+        ensures bytes { ReadConsumes (R.remaining self.old.inner)
+            (R.remaining self.new.inner) result buffer.new }
         ensures failed { MatchResult result
-            (λ _. has_failed self.new ≡ has_failed self.old)
-            (λ _. has_failed self.new ≡ true) }
+            (λ _. self.new.failed ≡ self.old.failed)
+            (λ _. self.new.failed ≡ true) }
         ensures taken { MatchResult result
-            (λ n. taken_of self.new ≡ min (taken_of self.old + n) (2 ^ 128 - 1))
-            (λ _. taken_of self.new ≡ taken_of self.old) }
+            (λ n. self.new.taken ≡ min (self.old.taken + n) (2 ^ 128 - 1))
+            (λ _. self.new.taken ≡ self.old.taken) }
     {
         let outcome = self.inner.read(buffer);
         match &outcome {
@@ -85,16 +81,14 @@ impl<R: Read> Tracked<R> {
 }
 
 impl<W: Write> Tracked<W> {
-    ghost use Rattle.ripemd_sum.specs.Track.{inner_of, has_failed, taken_of};
-
     /// One call of the writer's `write_all`.
     pub fn write_all(&mut self, bytes: &[u8]) -> io::Result<()>
         ensures bytes { OnOk result
-            (Appends (W.contents (inner_of self.old)) (W.contents (inner_of self.new)) bytes.now) }
+            (Appends (W.contents self.old.inner) (W.contents self.new.inner) bytes.now) }
         ensures failed { MatchResult result
-            (λ _. has_failed self.new ≡ has_failed self.old)
-            (λ _. has_failed self.new ≡ true) }
-        ensures taken { taken_of self.new ≡ taken_of self.old }
+            (λ _. self.new.failed ≡ self.old.failed)
+            (λ _. self.new.failed ≡ true) }
+        ensures taken { self.new.taken ≡ self.old.taken }
     {
         let outcome = self.inner.write_all(bytes);
         if outcome.is_err() {
