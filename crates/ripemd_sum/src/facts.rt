@@ -13,6 +13,7 @@ pub fn worked_lines()
 {}
 
 /// Arguments that ask for a digest or a tag, and some near them that ask for nothing.
+#[tactic(auto, unfolding(hex::specs::Hex::decode_pairs))]
 pub fn worked_arguments()
     ensures digests { AskForDigests }
     ensures tags { AskForTags }

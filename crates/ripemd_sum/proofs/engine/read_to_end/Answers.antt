@@ -1,6 +1,16 @@
-use Rattle.std.proofs.Common.{◌++◌, take, ap, ◌∙◌, arith}
-use Rattle.ripemd_sum.proofs.Reading.{Gives_more}
+use Rattle.ripemd.proofs.Library.{◌≡◌, ℕ, ◌+◌, ◌≤◌, Option, List, ◌++◌, length, take, ap, ◌∙◌, length-append, arith, length-take-le, Consumes, Consumes-trans}
+use Rattle.ripemd_sum.specs.Types.{Tracked}
+use Rattle.ripemd_sum.specs.Runs.{Gives}
 use Rattle.ripemd_sum.proofs.engine.read_to_end.Goals as goal
+
+-- the bytes so far, and those of a read of n bytes into a buffer
+Gives_more : {R : Type 0} {remaining : R → Option (List ℕ)} {old now next : Tracked R} {message : List ℕ} (n : ℕ) (buffer : List ℕ)
+    → Gives remaining old now message → Consumes (remaining now.inner) (remaining next.inner) (take n buffer)
+    → n ≤ length buffer → next.taken ≡ now.taken + n → Gives remaining old next (message ++ take n buffer)
+Gives_more {message = message} n buffer before given most counted = record {
+  given = Consumes-trans _ _ _ message (take n buffer) before.given given;
+  counted = omega (arith, length-append message (take n buffer), length-take-le n buffer most);
+}
 
 pub reads-preserved : goal.reads-preserved
 reads-preserved g c =
