@@ -55,16 +55,12 @@ pub record FailsToGive {R : Type 0} (remaining : R → Option (List ℕ)) (old n
   pub within : length bytes ≤ limit
   pub fails : new.failed ≡ true
 
--- by how many bytes a run may read past its limit
-abbrev pub most_past_limit : ℕ
-most_past_limit = 4096
-
--- the reader gave more bytes than the limit, but not many more, and did not fail
+-- the reader gave more bytes than the limit, by at most 4096, and did not fail
 pub record GivesTooMuch {R : Type 0} (remaining : R → Option (List ℕ)) (old new : Tracked R) (limit : ℕ) : Type 0 where
   pub bytes : List ℕ
   pub gives : Gives remaining old new bytes
   pub over : limit < length bytes
-  pub near : length bytes ≤ limit + most_past_limit
+  pub near : length bytes ≤ limit + 4096
   pub works : new.failed ≡ false
 
 -- the writer got these bytes and no others, and did not fail

@@ -72,10 +72,7 @@ pub record LengthsOfKeys : Type 0 where
 
 -- ---- runs
 
--- a reader or a writer whose bytes are known, and one that tells nothing of them
-abbrev pub known : List ℕ → Option (List ℕ)
-known bytes = Some bytes
-
+-- a reader or a writer that tells nothing of its bytes; of one whose bytes are known these are `Some`
 abbrev pub unknown : List ℕ → Option (List ℕ)
 unknown bytes = None
 
@@ -85,19 +82,19 @@ tracked bytes failed taken = record { inner = bytes; failed = failed; taken = ta
 
 -- a reader of "abc" gives all of it, within a limit
 abbrev pub GivesAbc : Tracked (List ℕ) → ℕ → Type 0
-GivesAbc new limit = GivesAll known (tracked (codes "abc") false 0) new limit (codes "abc")
+GivesAbc new limit = GivesAll Some (tracked (codes "abc") false 0) new limit (codes "abc")
 
 pub record RunsToTheEnd : Type 0 where
   pub whole : GivesAbc (tracked [] false 3) 3
   pub too_long : ¬ GivesAbc (tracked [] false 3) 2
-  pub not_ended : ¬ GivesAll known (tracked (codes "abcd") false 0) (tracked (codes "d") false 3) 3 (codes "abc")
-  pub other_bytes : ¬ GivesAll known (tracked (codes "abd") false 0) (tracked [] false 3) 3 (codes "abc")
+  pub not_ended : ¬ GivesAll Some (tracked (codes "abcd") false 0) (tracked (codes "d") false 3) 3 (codes "abc")
+  pub other_bytes : ¬ GivesAll Some (tracked (codes "abd") false 0) (tracked [] false 3) 3 (codes "abc")
   pub not_counted : ¬ GivesAbc (tracked [] false 2) 3
   pub failed : ¬ GivesAbc (tracked [] true 3) 3
 
 -- a writer that had got "a" gets "bc"
 abbrev pub GetsBc : List ℕ → Bool → Type 0
-GetsBc bytes failed = Gets known (tracked (codes "a") false 0) (tracked bytes failed 0) (codes "bc")
+GetsBc bytes failed = Gets Some (tracked (codes "a") false 0) (tracked bytes failed 0) (codes "bc")
 
 pub record Writings : Type 0 where
   pub once : GetsBc (codes "abc") false
