@@ -56,12 +56,6 @@ alone [] = Nothing
 alone (switch ∷ []) = One switch
 alone (switch ∷ other ∷ rest) = Several
 
--- the answer when these are candidates too
-abbrev pub joined : Found → List Switch → Found
-joined Nothing more = alone more
-joined (One switch) more = alone (switch ∷ more)
-joined Several more = Several
-
 -- The only option whose name begins so. No name here begins another, so that a whole name is one.
 unfoldable pub by_name : List ℕ → Found
 by_name name = alone (filter (begins name) switches_in_order)

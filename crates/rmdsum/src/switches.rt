@@ -1,7 +1,7 @@
 //! The options by their names.
 
-ghost use Rattle.std.specs.Prelude.{◌≡◌, option_copied, List, ◌∷◌, filter};
-ghost use Rattle.rmdsum.specs.Options.{flag_name, parameter_name, long_name, by_letter, by_name, begins, alone, joined};
+ghost use Rattle.std.specs.Prelude.{◌≡◌, option_copied, filter};
+ghost use Rattle.rmdsum.specs.Options.{flag_name, parameter_name, long_name, by_letter, by_name, begins, alone};
 ghost use Rattle.rmdsum.specs.Arguments.{before_equals, after_equals};
 
 /// An option without a value.
@@ -61,17 +61,6 @@ pub enum Found {
     Nothing,
     One(Switch),
     Several,
-}
-
-impl Found {
-    fn and(self, switch: Switch) -> Found
-        ensures { (more : List Switch) → joined result more ≡ joined self (switch ∷ more) }
-    {
-        match self {
-            Found::Nothing => Found::One(switch),
-            Found::One(_) | Found::Several => Found::Several,
-        }
-    }
 }
 
 impl Flag {
@@ -152,7 +141,10 @@ fn find_begun(name: &[u8], switches: &[Switch]) -> Found
         if !switch.long_name().as_bytes().starts_with(name) {
             continue;
         }
-        found = found.and(*switch);
+        found = match found {
+            Found::Nothing => Found::One(*switch),
+            Found::One(_) | Found::Several => Found::Several,
+        };
     }
     found
 }
