@@ -1,26 +1,10 @@
 -- The names that a file has, as they are read.
-use Rattle.ripemd_files.proofs.Library.{inl, inr, ◌≡◌, ℕ, ◌+◌, arith, length, List, [], ◌∷◌, ◌++◌, Option, Some, None, refl, subst, map, vec_items, Global, append_assoc, IfOk, OnOk, Result, Ok, Err, Vec, length-append, map-append}
-use Rattle.rmdsum.specs.Types.{Entry, Unread, Empty, Input}
-use Rattle.rmdsum.specs.declared.names.Entry.TheVariants as entries
-use Rattle.rmdsum.specs.Names.{MayHave, NextName, IsEntry, IsNamed, Stays, Follow}
-use Rattle.ripemd_files.specs.declared.fault.Fault.{Fault}
+use Rattle.ripemd_files.proofs.Library.{inl, inr, ◌≡◌, ℕ, ◌+◌, arith, length, List, [], ◌∷◌, ◌++◌, Option, Some, None, refl, map, vec_items, Global, append_assoc, Vec, length-append, map-append}
+use Rattle.rmdsum.specs.Names.{MayHave, NextName, Stays, Follow}
 
 stays : (old : Option (List ℕ)) → Stays old old
 stays None = tt
 stays (Some bytes) = refl
-
-pub entry_of : (file : List ℕ) (count now : ℕ) (old new : Option (List ℕ)) (name : List ℕ) (entry : Result Entry Fault) → NextName old name new
-    → IfOk entry (IsNamed file count name) → OnOk entry (now ≡ count + 1) → IfOk entry (IsEntry file count now old new)
-entry_of file count now old new name (Err error) next named counted = tt
-entry_of file count now old new name (Ok (entries.Name same)) next named counted = rw named.0 (next, named.1, counted)
-entry_of file count now old new name (Ok (entries.Wrong (Unread error))) next named counted = absurd named
-entry_of file count now old new name (Ok (entries.Wrong (Empty number))) next named counted =
-    ((subst (λ text. NextName old text new) named.0 next, named.1), counted)
-entry_of file count now old new name (Ok (entries.Wrong Input)) next named counted =
-    ((subst (λ text. NextName old text new) named.0 next, named.1), counted)
-entry_of file count now old new name (Ok entries.End) next named counted = absurd named
-
--- ---- some names
 
 stays_then : (old now new : Option (List ℕ)) (name : List ℕ) → Stays old now → NextName now name new → NextName old name new
 stays_then None now new name stays (inl whole) = inl (tt, whole.1)

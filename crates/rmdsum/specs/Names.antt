@@ -25,33 +25,19 @@ MayHave file name = (name ≢ []) × (file ≡ codes "-" → name ≢ codes "-")
 abbrev pub Stays : Option (List ℕ) → Option (List ℕ) → Type 0
 Stays old new = IfSome old (λ bytes. new ≡ Some bytes)
 
--- what is wrong after so many names: nothing, and no more was read; or a read failed, and the file is read no more; or the next name
-abbrev pub Ends : List ℕ → ℕ → Option (List ℕ) → Option (List ℕ) → Option Wrong → Type 0
-Ends file count old new None = Stays old new
-Ends file count old new (Some (Unread error)) = IsAtEnd new
-Ends file count old new (Some (Empty number)) = NextName old [] new × (number ≡ count + 1)
-Ends file count old new (Some Input) = NextName old (codes "-") new × (file ≡ codes "-")
-
--- how many names that takes: a wrong name counts, a failed read does not
-abbrev pub wrong_names : Option Wrong → ℕ
-wrong_names None = 0
-wrong_names (Some (Unread error)) = 0
-wrong_names (Some (Empty number)) = 1
-wrong_names (Some Input) = 1
+-- What is wrong after so many names: nothing, and no more was read; or a read failed, and the file is read no more; or the next name.
+-- And how many were read then: a wrong name counts, a failed read does not.
+abbrev pub Ends : List ℕ → ℕ → ℕ → Option (List ℕ) → Option (List ℕ) → Option Wrong → Type 0
+Ends file count now old new None = Stays old new × (now ≡ count)
+Ends file count now old new (Some (Unread error)) = IsAtEnd new × (now ≡ count)
+Ends file count now old new (Some (Empty number)) = NextName old [] new × (number ≡ count + 1) × (now ≡ number)
+Ends file count now old new (Some Input) = NextName old (codes "-") new × (file ≡ codes "-") × (now ≡ count + 1)
 
 -- what comes after so many names: a name, what is wrong, or the end; and how many were read then
 abbrev pub IsEntry : List ℕ → ℕ → ℕ → Option (List ℕ) → Option (List ℕ) → Entry → Type 0
 IsEntry file count now old new (entries.Name name) = NextName old name.items new × MayHave file name.items × (now ≡ count + 1)
-IsEntry file count now old new (entries.Wrong wrong) = Ends file count old new (Some wrong) × (now ≡ count + wrong_names (Some wrong))
-IsEntry file count now old new entries.End = Stays old new × IsAtEnd new × (now ≡ count)
-
--- what the name after so many others is: one that the file may have, or a wrong one
-abbrev pub IsNamed : List ℕ → ℕ → List ℕ → Entry → Type 0
-IsNamed file count name (entries.Name same) = (same.items ≡ name) × MayHave file name
-IsNamed file count name (entries.Wrong (Unread error)) = ⊥
-IsNamed file count name (entries.Wrong (Empty number)) = (name ≡ []) × (number ≡ count + 1)
-IsNamed file count name (entries.Wrong Input) = (name ≡ codes "-") × (file ≡ codes "-")
-IsNamed file count name entries.End = ⊥
+IsEntry file count now old new (entries.Wrong wrong) = Ends file count now old new (Some wrong)
+IsEntry file count now old new entries.End = Ends file count now old new None × IsAtEnd new
 
 -- these names were read, one after another
 abbrev pub Follow : List ℕ → Option (List ℕ) → List (List ℕ) → Option (List ℕ) → Type 0
@@ -65,6 +51,5 @@ pub record Continues (file : List ℕ) (count now : ℕ) (old new : Option (List
   pub between : Option (List ℕ)
   pub all : names ≡ given ++ read
   pub follow : Follow file old read between
-  pub ends : Ends file (count + length read) between new wrong
-  pub counted : now ≡ count + length read + wrong_names wrong
+  pub ends : Ends file (count + length read) now between new wrong
   pub last : names ≡ [] → wrong ≡ None → IsAtEnd new

@@ -1,9 +1,9 @@
 //! The names of files, as they come.
 
-ghost use Rattle.std.specs.Prelude.{◌≡◌, ◌+◌, [], ℕ, true, false, IfOk, OnOk, IfSome, IsSome, IsSomeAnd, None, is_none, map, vec_items, Vec};
+ghost use Rattle.std.specs.Prelude.{◌≡◌, [], ℕ, List, Option, true, false, IfOk, OnOk, IfSome, IsSome, IsSomeAnd, None, is_none, map, vec_items, Vec};
 ghost use Rattle.std.specs.Global.{Global};
 ghost use Rattle.rmdsum.specs.Types.{From, Operands};
-ghost use Rattle.rmdsum.specs.Names.{left_in, Continues, IsEntry, IsNamed};
+ghost use Rattle.rmdsum.specs.Names.{left_in, NextName, Continues, IsEntry};
 
 use crate::messages::{Message, say};
 use crate::request;
@@ -176,8 +176,8 @@ impl<R: Read + Drop> Names<R> {
 
     // Counts a name that was read, and checks it.
     fn entry(&mut self, name: Vec<u8>) -> Result<Entry, Fault>
-        ensures name { IfOk result (IsNamed self.old.file.items self.old.number name.items) }
-        ensures number { OnOk result (self.new.number ≡ self.old.number + 1) }
+        ensures entry { IfOk result (λ entry. (old new : Option (List ℕ)) → NextName old name.items new
+            → IsEntry self.old.file.items self.old.number self.new.number old new entry) }
         ensures reader { self.new.reader ≡ self.old.reader }
         ensures given { self.new.given ≡ self.old.given }
         ensures file { self.new.file ≡ self.old.file }
