@@ -85,19 +85,13 @@ abbrev pub after_equals : List ℕ → Option (List ℕ)
 after_equals [] = None
 after_equals (byte ∷ text) = if byte == 61 then Some text else after_equals text
 
-abbrev pub flag_with : Flag → Option (List ℕ) → Reading
-flag_with flag None = flag_says flag
-flag_with flag (Some value) = Stops (UnwantedValue flag)
-
-abbrev pub parameter_with : Parameter → Option (List ℕ) → Reading
-parameter_with parameter None = Goes [] (Value parameter)
-parameter_with parameter (Some value) = value_says parameter value
-
 abbrev pub switch_says : List ℕ → Found → Option (List ℕ) → Reading
 switch_says text Nothing value = Stops (UnknownLong text)
 switch_says text Several value = Stops (Ambiguous text)
-switch_says text (One (switches.Flag flag)) value = flag_with flag value
-switch_says text (One (switches.Parameter parameter)) value = parameter_with parameter value
+switch_says text (One (switches.Flag flag)) None = flag_says flag
+switch_says text (One (switches.Flag flag)) (Some value) = Stops (UnwantedValue flag)
+switch_says text (One (switches.Parameter parameter)) None = Goes [] (Value parameter)
+switch_says text (One (switches.Parameter parameter)) (Some value) = value_says parameter value
 
 -- what stands after `--`
 abbrev pub long_says : List ℕ → Reading

@@ -1,5 +1,5 @@
 -- What a run of the program does.
-use Rattle.std.specs.Prelude.{◌≡◌, ◌≢◌, ◌⊎◌, ◌↔◌, ◌&&◌, ℕ, Bool, true, false, List, [], ◌∷◌, ◌++◌, codes, map, Option, option_to_list, is_none, Result, Ok, Err}
+use Rattle.std.specs.Prelude.{◌≡◌, ◌≢◌, ◌⊎◌, ◌↔◌, ◌&&◌, ℕ, Bool, true, false, List, [], ◌∷◌, ◌++◌, codes, map, Option, option_to_list, is_none, Result, MatchResult}
 use Rattle.ripemd_files.specs.declared.line.Variant.{Variant}
 use Rattle.ripemd_files.specs.declared.list.Rules.{Rules}
 use Rattle.ripemd_files.specs.declared.printing.Style.{Style}
@@ -86,11 +86,7 @@ Performs Version deeds success = (deeds ≡ ShowsVersion ∷ []) × (success ≡
 Performs (Run work names progress) deeds success = ((deeds ≡ Opens names progress false ∷ []) × (success ≡ false))
     ⊎ ((more : List Deed) × (deeds ≡ Opens names progress true ∷ more) × IsRun work more success)
 
--- the arguments are refused, or what they ask for is performed
-abbrev pub Fulfils : Result Request Misuse → List Deed → Bool → Type 0
-Fulfils (Ok request) deeds success = Performs request deeds success
-Fulfils (Err misuse) deeds success = (deeds ≡ Refuses misuse ∷ []) × (success ≡ false)
-
--- arguments that read so are answered, and that answer is acted on
+-- arguments that read so are refused, or what they ask for is performed
 abbrev pub DoesAsked : Reading → List Deed → Bool → Type 0
-DoesAsked given deeds success = (answer : Result Request Misuse) × Answers given answer × Fulfils answer deeds success
+DoesAsked given deeds success = (answer : Result Request Misuse) × Answers given answer × MatchResult answer
+    (λ request. Performs request deeds success) (λ misuse. (deeds ≡ Refuses misuse ∷ []) × (success ≡ false))
