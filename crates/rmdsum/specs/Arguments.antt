@@ -1,5 +1,5 @@
 -- What the program's arguments say, by the rules of `getopt_long`.
-use Rattle.std.specs.Prelude.{◌≡◌, ℕ, ◌*◌, ◌==◌, Bool, true, false, if◌then◌else◌, List, [], ◌∷◌, ◌++◌, reverse, Option, Some, None, bytes_eq, Result, Ok, Err, ⊤}
+use Rattle.std.specs.Prelude.{◌≡◌, ℕ, ◌*◌, ◌==◌, Bool, true, false, if◌then◌else◌, List, [], ◌∷◌, ◌++◌, reverse, Option, Some, None, option_map, unwrap_or, bytes_eq, Result, Ok, Err, ⊤}
 use Rattle.std.specs.Fmt.{decimal}
 use Rattle.ripemd_files.specs.Lines.{bits_of, size_of}
 use Rattle.ripemd_files.specs.declared.line.Variant.{Variant}
@@ -67,12 +67,8 @@ flag_says Help = Stops AsksHelp
 flag_says Version = Stops AsksVersion
 flag_says flag = Goes (Sets flag ∷ []) Any
 
-abbrev pub or_unknown : List ℕ → Option Variant → Reading
-or_unknown value (Some variant) = Goes (Hashes variant ∷ []) Any
-or_unknown value None = Stops (UnknownVariant value)
-
 abbrev pub value_says : Parameter → List ℕ → Reading
-value_says Algorithm value = or_unknown value (variant_named value)
+value_says Algorithm value = unwrap_or (option_map (λ variant. Goes (Hashes variant ∷ []) Any) (variant_named value)) (Stops (UnknownVariant value))
 value_says FilesFrom value = Goes (NamedIn value ∷ []) Any
 
 -- what stands before the first equals sign

@@ -7,30 +7,20 @@ use Rattle.ripemd_files.specs.declared.line.Ending.{Ending}
 use Rattle.ripemd_files.specs.declared.verdict.Options.{Options}
 use Rattle.ripemd_files.specs.declared.line.Form.TheVariants as forms
 use Rattle.ripemd_files.specs.declared.line.Ending.TheVariants as endings
-use Rattle.rmdsum.specs.Types.{Flag, Misuse, TextWithTag, ZeroWithCheck, TagWithCheck, ModeWithCheck, OnlyWithCheck, ExtraOperand, Mode, Telling, NameSource, Operands, From, Request, Help, Version, Run, Work, Print, Check, Settings}
+use Rattle.rmdsum.specs.Types.{Flag, Misuse, TextWithTag, ZeroWithCheck, TagWithCheck, ModeWithCheck, OnlyWithCheck, ExtraOperand, NameSource, Operands, From, Request, Help, Version, Run, Work, Print, Check, Settings}
 use Rattle.rmdsum.specs.declared.switches.Flag.TheVariants as flags
-use Rattle.rmdsum.specs.declared.request.Mode.TheVariants.{Binary, Text}
-use Rattle.rmdsum.specs.declared.request.Telling.TheVariants.{Quiet, Status, Warn}
-use Rattle.rmdsum.specs.Words.{Said, gives, last, names_of, hash_in, file_in, mode_in, telling_in}
+use Rattle.rmdsum.specs.Words.{Said, is, gives, last, names_of, hash_in, file_in, mode_in, telling_in}
 
 -- ---- options that exclude one another
 
-abbrev pub is_text : Option Mode → Bool
-is_text (Some Text) = true
-is_text (Some Binary) = false
-is_text None = false
-
 -- an option that only a check has a use for
-abbrev pub needs_check : Bool → Option Telling → Bool → Option Flag
+abbrev pub needs_check : Bool → Option Flag → Bool → Option Flag
 needs_check true telling strict = Some flags.IgnoreMissing
-needs_check false (Some Status) strict = Some flags.Status
-needs_check false (Some Warn) strict = Some flags.Warn
-needs_check false (Some Quiet) strict = Some flags.Quiet
-needs_check false None true = Some flags.Strict
-needs_check false None false = None
+needs_check false (Some flag) strict = Some flag
+needs_check false None strict = if strict then Some flags.Strict else None
 
 -- an option that a check excludes
-abbrev pub excluded : Bool → Bool → Option Mode → Option Misuse
+abbrev pub excluded : Bool → Bool → Option Flag → Option Misuse
 excluded zero tag mode =
     if zero then Some ZeroWithCheck
     else if tag then Some TagWithCheck
@@ -40,7 +30,7 @@ excluded zero tag mode =
 -- in the order in which `sha256sum` looks
 abbrev pub conflict : List Said → Option Misuse
 conflict words =
-    if gives flags.Tag words && is_text (last mode_in words) then Some TextWithTag
+    if gives flags.Tag words && is flags.Text (last mode_in words) then Some TextWithTag
     else if gives flags.Check words then excluded (gives flags.Zero words) (gives flags.Tag words) (last mode_in words)
     else option_map OnlyWithCheck (needs_check (gives flags.IgnoreMissing words) (last telling_in words) (gives flags.Strict words))
 
@@ -56,31 +46,17 @@ abbrev pub AreNames : Option (List ℕ) → List (List ℕ) → NameSource → T
 AreNames file names (Operands operands) = (file ≡ None) × (map vec_items operands.items ≡ or_input names)
 AreNames file names (From from) = (file ≡ Some from.items) × (names ≡ [])
 
-abbrev pub form_of : Bool → Option Mode → Form
+abbrev pub form_of : Bool → Option Flag → Form
 form_of true mode = forms.Tagged
-form_of false (Some Binary) = forms.Binary
-form_of false (Some Text) = forms.Text
-form_of false None = forms.Text
-
-abbrev pub is_quiet : Option Telling → Bool
-is_quiet (Some Quiet) = true
-is_quiet _ = false
-
-abbrev pub is_status : Option Telling → Bool
-is_status (Some Status) = true
-is_status _ = false
-
-abbrev pub is_warn : Option Telling → Bool
-is_warn (Some Warn) = true
-is_warn _ = false
+form_of false mode = if is flags.Binary mode then forms.Binary else forms.Text
 
 abbrev pub options_of : List Said → Options
 options_of words = record {
   ignore_missing = gives flags.IgnoreMissing words;
-  quiet = is_quiet (last telling_in words);
-  status = is_status (last telling_in words);
+  quiet = is flags.Quiet (last telling_in words);
+  status = is flags.Status (last telling_in words);
   strict = gives flags.Strict words;
-  warn = is_warn (last telling_in words);
+  warn = is flags.Warn (last telling_in words);
 }
 
 abbrev pub ending_of : Bool → Ending

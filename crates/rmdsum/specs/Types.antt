@@ -8,13 +8,11 @@ pub use Rattle.rmdsum.specs.declared.names.Wrong.{Wrong}
 pub use Rattle.rmdsum.specs.declared.names.Wrong.TheVariants.{Empty, Input, Unread}
 pub use Rattle.rmdsum.specs.declared.refusals.Misuse.{Misuse}
 pub use Rattle.rmdsum.specs.declared.refusals.Misuse.TheVariants.{ExtraOperand, ModeWithCheck, OnlyWithCheck, TagWithCheck, TextWithTag, ZeroWithCheck}
-pub use Rattle.rmdsum.specs.declared.request.Mode.{Mode}
 pub use Rattle.rmdsum.specs.declared.request.NameSource.{NameSource}
 pub use Rattle.rmdsum.specs.declared.request.NameSource.TheVariants.{From, Operands}
 pub use Rattle.rmdsum.specs.declared.request.Request.{Request}
 pub use Rattle.rmdsum.specs.declared.request.Request.TheVariants.{Help, Run, Version}
 pub use Rattle.rmdsum.specs.declared.request.Settings.{Settings}
-pub use Rattle.rmdsum.specs.declared.request.Telling.{Telling}
 pub use Rattle.rmdsum.specs.declared.request.Work.{Work}
 pub use Rattle.rmdsum.specs.declared.request.Work.TheVariants.{Check, Print}
 pub use Rattle.rmdsum.specs.declared.switches.Flag.{Flag}

@@ -3,10 +3,8 @@ use Rattle.std.specs.Prelude.{ℕ, Bool, false, List, [], ◌∷◌, ◌++◌, O
 use Rattle.std.specs.List.{list_any}
 use Rattle.std.specs.Option.{option_or}
 use Rattle.ripemd_files.specs.declared.line.Variant.{Variant}
-use Rattle.rmdsum.specs.Types.{Flag, Binary, Quiet, Status, Tag, Text, Warn, Mode, Telling}
+use Rattle.rmdsum.specs.Types.{Flag, Binary, Quiet, Status, Tag, Text, Warn}
 use Rattle.rmdsum.specs.Options.{flag_name}
-use Rattle.rmdsum.specs.declared.request.Mode.TheVariants as modes
-use Rattle.rmdsum.specs.declared.request.Telling.TheVariants as tellings
 
 -- an option without a value, a hash, the name of a file that has names, the name of a file
 pub data Said : Type 0 where
@@ -15,12 +13,14 @@ pub data Said : Type 0 where
   NamedIn : List ℕ → Said
   Names : List ℕ → Said
 
--- this option is set, which its name tells
-abbrev pub sets : Flag → Said → Bool
-sets flag (Sets other) = bytes_eq (flag_name flag) (flag_name other)
-sets flag (Hashes variant) = false
-sets flag (NamedIn file) = false
-sets flag (Names name) = false
+-- this is the option, which its name tells
+abbrev pub is : Flag → Option Flag → Bool
+is flag None = false
+is flag (Some other) = bytes_eq (flag_name flag) (flag_name other)
+
+abbrev pub flag_in : Said → Option Flag
+flag_in (Sets flag) = Some flag
+flag_in _ = None
 
 abbrev pub hash_in : Said → Option Variant
 hash_in (Hashes variant) = Some variant
@@ -34,24 +34,24 @@ abbrev pub name_in : Said → List (List ℕ)
 name_in (Names name) = name ∷ []
 name_in _ = []
 
--- `--tag` is binary mode, too
-abbrev pub mode_in : Said → Option Mode
-mode_in (Sets Binary) = Some modes.Binary
-mode_in (Sets Tag) = Some modes.Binary
-mode_in (Sets Text) = Some modes.Text
+-- the mode, by its option: `--tag` is binary mode, too
+abbrev pub mode_in : Said → Option Flag
+mode_in (Sets Binary) = Some Binary
+mode_in (Sets Tag) = Some Binary
+mode_in (Sets Text) = Some Text
 mode_in _ = None
 
 -- of `--quiet`, `--status` and `--warn` the last counts
-abbrev pub telling_in : Said → Option Telling
-telling_in (Sets Quiet) = Some tellings.Quiet
-telling_in (Sets Status) = Some tellings.Status
-telling_in (Sets Warn) = Some tellings.Warn
+abbrev pub telling_in : Said → Option Flag
+telling_in (Sets Quiet) = Some Quiet
+telling_in (Sets Status) = Some Status
+telling_in (Sets Warn) = Some Warn
 telling_in _ = None
 
 -- ---- what some words say, of which the last comes first
 
 abbrev pub gives : Flag → List Said → Bool
-gives flag words = list_any (sets flag) words
+gives flag words = list_any (λ word. is flag (flag_in word)) words
 
 abbrev pub last : {A : Type 0} → (Said → Option A) → List Said → Option A
 last pick [] = None

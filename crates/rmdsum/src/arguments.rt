@@ -6,7 +6,7 @@ ghost use Rattle.rmdsum.specs.Types.{Any};
 ghost use Rattle.rmdsum.specs.Arguments.{variant_named, Answers, Reads, reading, says, long_says, letters_say, flag_says, value_says};
 
 use crate::refusals::Misuse;
-use crate::request::{Mode, Request, Settings, Telling};
+use crate::request::{Request, Settings};
 use crate::switches::{Flag, Found, Parameter, Switch, around_equals, find_long, find_short};
 use ripemd_files::Variant;
 use std::alloc::{AllocError, Global};
@@ -198,17 +198,14 @@ fn add_flag(flag: Flag, settings: &mut Settings) -> Result<Next, Stop>
         Flag::Version => return Err(Stop::Version),
         Flag::Check => settings.check = true,
         Flag::IgnoreMissing => settings.ignore_missing = true,
-        Flag::Quiet => settings.telling = Some(Telling::Quiet),
-        Flag::Status => settings.telling = Some(Telling::Status),
-        Flag::Warn => settings.telling = Some(Telling::Warn),
+        Flag::Quiet | Flag::Status | Flag::Warn => settings.telling = Some(flag),
         Flag::Strict => settings.strict = true,
         Flag::Tag => {
             settings.tag = true;
-            settings.mode = Some(Mode::Binary);
+            settings.mode = Some(Flag::Binary);
         }
         Flag::Zero => settings.zero = true,
-        Flag::Binary => settings.mode = Some(Mode::Binary),
-        Flag::Text => settings.mode = Some(Mode::Text),
+        Flag::Binary | Flag::Text => settings.mode = Some(flag),
         Flag::Progress => settings.progress = true,
     }
     Ok(Next::Any)

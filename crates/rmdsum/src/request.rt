@@ -1,7 +1,7 @@
 //! What the program is to do, by what its arguments say.
 
 ghost use Rattle.std.specs.Prelude.{◌≡◌, List, [], ◌∷◌, IfOk, MatchResult, map, option_map, vec_items, codes};
-ghost use Rattle.rmdsum.specs.Words.{Said};
+ghost use Rattle.rmdsum.specs.Words.{Said, is};
 ghost use Rattle.rmdsum.specs.Asked.{Holds, Asks, IsRefused, IsExtra, conflict, excluded, needs_check, form_of, options_of, AreNames, or_input};
 
 use crate::refusals::Misuse;
@@ -52,30 +52,17 @@ pub enum NameSource {
     From(Vec<u8>),
 }
 
-/// The mode that a line shows. Files are read alike in both.
-#[derive(Clone, Copy, PartialEq, Eq)]
-pub enum Mode {
-    Text,
-    Binary,
-}
-
-/// Which of `--quiet`, `--status` and `--warn` came last.
-#[derive(Clone, Copy, PartialEq, Eq)]
-pub enum Telling {
-    Quiet,
-    Status,
-    Warn,
-}
-
 /// What was said together.
 #[derive(Drop)]
 pub struct Settings {
     pub variant: Option<Variant>,
     pub check: bool,
-    pub mode: Option<Mode>,
+    /// The mode that a line shows, by its option. Files are read alike in both.
+    pub mode: Option<Flag>,
     pub tag: bool,
     pub zero: bool,
-    pub telling: Option<Telling>,
+    /// Which of `--quiet`, `--status` and `--warn` came last.
+    pub telling: Option<Flag>,
     pub ignore_missing: bool,
     pub strict: bool,
     pub progress: bool,
@@ -107,7 +94,7 @@ impl Settings {
     fn conflict(&self) -> Option<Misuse>
         ensures { (words : List Said) → Holds words self.now → result ≡ conflict words }
     {
-        if self.tag && self.mode == Some(Mode::Text) {
+        if self.tag && is(Flag::Text, self.mode) {
             Some(Misuse::TextWithTag)
         } else if self.check {
             self.conflict_with_check()
@@ -138,13 +125,7 @@ impl Settings {
         if self.ignore_missing {
             return Some(Flag::IgnoreMissing);
         }
-        match self.telling {
-            Some(Telling::Status) => Some(Flag::Status),
-            Some(Telling::Warn) => Some(Flag::Warn),
-            Some(Telling::Quiet) => Some(Flag::Quiet),
-            None if self.strict => Some(Flag::Strict),
-            None => None,
-        }
+        self.telling.or(self.strict.then_some(Flag::Strict))
     }
 
     fn options(&self) -> Options
@@ -152,10 +133,10 @@ impl Settings {
     {
         Options {
             ignore_missing: self.ignore_missing,
-            quiet: self.telling == Some(Telling::Quiet),
-            status: self.telling == Some(Telling::Status),
+            quiet: is(Flag::Quiet, self.telling),
+            status: is(Flag::Status, self.telling),
             strict: self.strict,
-            warn: self.telling == Some(Telling::Warn),
+            warn: is(Flag::Warn, self.telling),
         }
     }
 
@@ -163,11 +144,11 @@ impl Settings {
         ensures { result ≡ form_of self.now.tag self.now.mode }
     {
         if self.tag {
-            return Form::Tagged;
-        }
-        match self.mode {
-            Some(Mode::Binary) => Form::Binary,
-            Some(Mode::Text) | None => Form::Text,
+            Form::Tagged
+        } else if is(Flag::Binary, self.mode) {
+            Form::Binary
+        } else {
+            Form::Text
         }
     }
 
@@ -206,6 +187,16 @@ impl Settings {
             }),
             Err(misuse) => Err(misuse),
         })
+    }
+}
+
+// Whether this is the option, by its name.
+fn is(flag: Flag, given: Option<Flag>) -> bool
+    ensures { result ≡ is flag given }
+{
+    match given {
+        Some(other) => flag.long_name() == other.long_name(),
+        None => false,
     }
 }
 
