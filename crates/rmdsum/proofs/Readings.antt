@@ -1,7 +1,7 @@
 -- What arguments say, one after another.
 use Rattle.ripemd_files.proofs.Library.{List, [], Result, Ok, Err, IsErr, append_assoc, arith, IfOk, MatchResult, reverse, append-nil, reverse-append}
 use Rattle.rmdsum.specs.Types.{Next, Stop, Misuse, Request, Settings}
-use Rattle.rmdsum.specs.Words.{Said}
+use Rattle.rmdsum.specs.Options.{Said}
 use Rattle.rmdsum.specs.Asked.{Asks, Holds, IsRefused}
 use Rattle.rmdsum.specs.Arguments.{Reading, then_reads, Answers, Reads}
 use Rattle.rmdsum.specs.Arguments.Reading.{Goes, Stops}

@@ -10,9 +10,8 @@ use Rattle.rmdsum.specs.declared.switches.Switch.TheVariants as switches
 use Rattle.rmdsum.specs.declared.refusals.Misuse.TheVariants as misuses
 use Rattle.rmdsum.specs.declared.arguments.Stop.TheVariants as stops
 use Rattle.rmdsum.specs.declared.request.Request.TheVariants as requests
-use Rattle.rmdsum.specs.Options.{by_letter, by_name}
-use Rattle.rmdsum.specs.Words.{Said}
-use Rattle.rmdsum.specs.Words.Said.{Sets, Hashes, NamedIn, Names}
+use Rattle.rmdsum.specs.Options.{by_letter, by_name, Said}
+use Rattle.rmdsum.specs.Options.Said.{Sets, Hashes, NamedIn, Names}
 use Rattle.rmdsum.specs.Asked.{Asks, IsRefused, Holds}
 
 -- ---- the names of the variants

@@ -9,7 +9,7 @@ use Rattle.ripemd_files.specs.declared.line.Form.TheVariants as forms
 use Rattle.ripemd_files.specs.declared.line.Ending.TheVariants as endings
 use Rattle.rmdsum.specs.Types.{Flag, Misuse, TextWithTag, ZeroWithCheck, TagWithCheck, ModeWithCheck, OnlyWithCheck, ExtraOperand, NameSource, Operands, From, Request, Help, Version, Run, Work, Print, Check, Settings}
 use Rattle.rmdsum.specs.declared.switches.Flag.TheVariants as flags
-use Rattle.rmdsum.specs.Words.{Said, is, gives, last, names_of, hash_in, file_in, mode_in, telling_in}
+use Rattle.rmdsum.specs.Options.{Said, is, gives, last, names_of, hash_in, file_in, mode_in, telling_in}
 
 -- ---- options that exclude one another
 

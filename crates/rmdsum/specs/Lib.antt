@@ -2,7 +2,6 @@
 pub mod Types
 -- What the arguments ask for.
 pub mod Options
-pub mod Words
 pub mod Asked
 pub mod Arguments
 pub mod Worked

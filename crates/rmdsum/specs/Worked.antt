@@ -9,8 +9,8 @@ use Rattle.ripemd_files.specs.declared.verdict.Options.{Options}
 use Rattle.ripemd_files.specs.declared.line.Form.TheVariants as forms
 use Rattle.ripemd_files.specs.declared.line.Ending.TheVariants as endings
 use Rattle.rmdsum.specs.declared.switches.Flag.TheVariants.{Check}
-use Rattle.rmdsum.specs.Words.{gives, last, names_of, file_in, mode_in}
-use Rattle.rmdsum.specs.Words.Said.{Sets, Hashes, NamedIn, Names}
+use Rattle.rmdsum.specs.Options.{gives, last, names_of, file_in, mode_in}
+use Rattle.rmdsum.specs.Options.Said.{Sets, Hashes, NamedIn, Names}
 use Rattle.rmdsum.specs.Arguments.{reading, Answers}
 use Rattle.rmdsum.specs.Arguments.Reading.{Goes, Stops}
 use Rattle.rmdsum.specs.Arguments.Why.{AsksHelp, AsksVersion, UnknownLong, Ambiguous, UnwantedValue, MissingValue, UnknownShort, MissingShortValue, UnknownVariant}

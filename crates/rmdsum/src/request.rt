@@ -1,7 +1,7 @@
 //! What the program is to do, by what its arguments say.
 
 ghost use Rattle.std.specs.Prelude.{◌≡◌, List, [], ◌∷◌, IfOk, MatchResult, map, option_map, vec_items, codes};
-ghost use Rattle.rmdsum.specs.Words.{Said, is};
+ghost use Rattle.rmdsum.specs.Options.{Said, is};
 ghost use Rattle.rmdsum.specs.Asked.{Holds, Asks, IsRefused, IsExtra, conflict, excluded, needs_check, form_of, options_of, AreNames, or_input};
 
 use crate::refusals::Misuse;
