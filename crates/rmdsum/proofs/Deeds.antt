@@ -1,5 +1,5 @@
 -- Deeds of a run, one after another.
-use Rattle.ripemd_files.proofs.Library.{◌≡◌, ◌≢◌, ◌<◌, ◌+◌, ℕ, Bool, true, false, ◌&&◌, List, [], ◌∷◌, ◌++◌, length, take, get_or, map, Option, Some, None, vec_items, Global, refl, inl, inr, sym, append_assoc, arith, Vec, is_none, and-true, append-nil, map-append, take_more}
+use Rattle.ripemd_files.proofs.Library.{◌≡◌, ◌≢◌, ◌<◌, ◌+◌, ℕ, Bool, true, ◌&&◌, List, [], ◌∷◌, ◌++◌, length, take, get_or, map, Option, Some, None, vec_items, Global, refl, inl, inr, sym, append_assoc, arith, Vec, is_none, and-true, append-nil, map-append, take_more}
 use Rattle.ripemd_files.specs.declared.line.Variant.{Variant}
 use Rattle.ripemd_files.specs.declared.list.Rules.{Rules}
 use Rattle.ripemd_files.specs.declared.printing.Style.{Style}
@@ -8,17 +8,13 @@ use Rattle.rmdsum.specs.Types.{Wrong, NameSource, Run, Work, Check, Print}
 use Rattle.ripemd_files.specs.Said.{Adds}
 use Rattle.rmdsum.specs.Runs.{AreRules, Deed, Item, Extends, IsOf, Handles, IsRun, Performs, items, handled, succeeded}
 use Rattle.rmdsum.specs.Runs.Item.{Name}
-use Rattle.rmdsum.specs.Runs.Deed.{Refuses, ShowsHelp, ShowsVersion, Opens, Gets, Prints, Checks, Says}
+use Rattle.rmdsum.specs.Runs.Deed.{Opens, Gets, Prints, Checks, Says}
 
 adds_both : (a b c : Option (List Deed)) (xs ys : List Deed) → Adds a b xs → Adds b c ys → Adds a c (xs ++ ys)
-adds_both None b c xs ys first second = tt
-adds_both (Some a) None c xs ys first second = absurd first
-adds_both (Some a) (Some b) None xs ys first second = absurd second
-adds_both (Some a) (Some b) (Some c) xs ys first second = rw (second, first) (append_assoc a xs ys)
+adds_both a b c xs ys first second = grind (arith, append_assoc)
 
 and_both : (a b c : Bool) → ((a && b) && c) ≡ (a && (b && c))
-and_both true b c = refl
-and_both false b c = refl
+and_both a b c = grind arith
 
 -- deeds are added that handle such items
 abbrev Grows : Work → List Item → Bool → Option (List Deed) → Option (List Deed) → Type 0
@@ -34,14 +30,10 @@ both work a b c items more all others first second = (
 
 one_deed : (work : Work) (deed : Deed) (a b : Option (List Deed)) → IsOf work deed → Adds a b (deed ∷ [])
     → Grows work (handled deed) (succeeded deed) a b
-one_deed work (Refuses misuse) a b of adds = absurd of
-one_deed work ShowsHelp a b of adds = absurd of
-one_deed work ShowsVersion a b of adds = absurd of
-one_deed work (Opens names progress answer) a b of adds = absurd of
-one_deed work (Gets names wrong) a b of adds = absurd of
 one_deed work (Prints style names answer) a b of adds = (_, adds, λ later deeds rest run. (later, rest, of, refl, refl, run))
 one_deed work (Checks rules options name answer) a b of adds = (_, adds, λ later deeds rest run. (later, rest, of, refl, refl, run))
 one_deed work (Says wrong answer) a b of adds = (_, adds, λ later deeds rest run. (later, rest, of, refl, refl, run))
+one_deed work _ a b of adds = absurd of
 
 -- no names were printed
 pub no_names : (work : Work) (a : Option (List Deed)) (names : List (Vec ℕ Global)) → length names ≡ 0
@@ -101,8 +93,7 @@ ended work a b c (name ∷ names) wrong success none nothing so_far gave = absur
 -- something comes
 pub something : (names : List (Vec ℕ Global)) (wrong : Option Wrong) → ¬ ((length names ≡ 0) × (is_none wrong ≡ true))
     → items (map vec_items names) wrong ≢ []
-something [] None some = λ none. some (refl, refl)
-something [] (Some wrong) some = λ none. cc none
+something [] wrong some = grind arith
 something (name ∷ names) wrong some = λ none. cc none
 
 -- what has the names was opened, and a run went over them

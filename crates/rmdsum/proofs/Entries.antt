@@ -1,15 +1,12 @@
 -- The names that a file has, as they are read.
-use Rattle.ripemd_files.proofs.Library.{inl, inr, ◌≡◌, ℕ, ◌+◌, arith, length, List, [], ◌∷◌, ◌++◌, Option, Some, None, refl, map, vec_items, Global, append_assoc, Vec, length-append, map-append}
+use Rattle.ripemd_files.proofs.Library.{◌≡◌, ℕ, ◌+◌, arith, length, List, [], ◌∷◌, ◌++◌, Option, map, vec_items, Global, append_assoc, Vec, length-append, map-append}
 use Rattle.rmdsum.specs.Names.{MayHave, NextName, Stays, Follow}
 
 stays : (old : Option (List ℕ)) → Stays old old
-stays None = tt
-stays (Some bytes) = refl
+stays old = grind arith
 
 stays_then : (old now new : Option (List ℕ)) (name : List ℕ) → Stays old now → NextName now name new → NextName old name new
-stays_then None now new name stays (inl whole) = inl (tt, whole.1)
-stays_then None now new name stays (inr last) = inr (tt, tt, last.2, last.3)
-stays_then (Some bytes) now new name stays next = rw stays at next
+stays_then old now new name stays next = grind arith
 
 -- a name more was read
 pub one_more_name : (file : List ℕ) (old now new : Option (List ℕ)) (read : List (List ℕ)) (name : List ℕ) → Follow file old read now

@@ -1,5 +1,5 @@
 -- What arguments say, one after another.
-use Rattle.ripemd_files.proofs.Library.{List, [], Result, Ok, Err, IsErr, append_assoc, arith, IfOk, MatchResult, reverse, append-nil, reverse-append}
+use Rattle.ripemd_files.proofs.Library.{List, [], Result, Ok, IsErr, append_assoc, arith, IfOk, MatchResult, reverse, append-nil, reverse-append}
 use Rattle.rmdsum.specs.Types.{Next, Stop, Misuse, Request, Settings}
 use Rattle.rmdsum.specs.Options.{Said}
 use Rattle.rmdsum.specs.Asked.{Asks, Holds, IsRefused}
@@ -25,7 +25,5 @@ pub asked : {E : Type 0} (given : Reading) (before after : Settings) (next : Nex
     → Reads given before after (Ok next) → Holds [] before
     → ((words : List Said) → Holds words after → IfOk result (λ answer. MatchResult answer (Asks words) (IsRefused words)))
     → IfOk result (Answers given)
-asked (Goes words last) before after next (Ok (Ok request)) reads holds asks = asks (reverse words) (rw append-nil at (reads.1 [] holds))
-asked (Goes words last) before after next (Ok (Err misuse)) reads holds asks = asks (reverse words) (rw append-nil at (reads.1 [] holds))
-asked (Stops why) before after next (Ok answer) reads holds asks = absurd (grind arith)
-asked given before after next (Err error) reads holds asks = tt
+asked (Goes words last) before after next result reads holds asks = grind (arith, asks (reverse words) (rw append-nil at (reads.1 [] holds)))
+asked (Stops why) before after next result reads holds asks = grind arith
