@@ -7,8 +7,7 @@ import re
 import pytest
 from conftest import ROOT, VARIANTS, need, run
 
-WORKED = "".join((ROOT / "crates/ripemd_files/specs" / name).read_text("utf-8")
-                 for name in ("Worked.antt", "WorkedLists.antt"))
+WORKED = (ROOT / "crates/ripemd_files/specs/Worked.antt").read_text("utf-8")
 # The facts of each record, by name.
 FACTS = {(record, name): fact
          for record, facts in re.findall(r"^pub record (\w+) : Type 0 where\n((?:  pub .*\n)+)", WORKED, re.MULTILINE)

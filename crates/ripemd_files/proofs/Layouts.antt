@@ -4,8 +4,7 @@ use Rattle.hex.specs.Hex.{is_hex_digit}
 use Rattle.hex.proofs.HexLemmas.{decode_of-digits}
 use Rattle.ripemd_files.specs.Types.{Variant, Layout, Standard, Reversed}
 use Rattle.ripemd_files.specs.Lines.{size_of}
-use Rattle.ripemd_files.specs.Reading.{Found, skip_blanks, strip_mark, strip_label, variant_of, untagged_at}
-use Rattle.ripemd_files.specs.Layouts.{has_digits, is_wanted_length, layout_at, layout_of, HasLayout}
+use Rattle.ripemd_files.specs.Reading.{Found, skip_blanks, strip_mark, strip_label, variant_of, untagged_at, has_digits, is_wanted_length, layout_at, layout_of, HasLayout}
 use Rattle.ripemd_files.proofs.Bodies.{no_label, skip_blanks-sound, digits_of, starts-form, untagged_at-sound, untagged_at-form}
 use Rattle.ripemd_files.proofs.Sayings.{marked-front, strip_mark-sound}
 

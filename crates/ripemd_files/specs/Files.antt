@@ -1,9 +1,9 @@
 -- What reading a file to its end comes to.
-use Rattle.std.specs.Prelude.{◌≡◌, ℕ, ◌^◌, ◌<◌, ◌≤◌, ◌⊎◌, List, length, take, Option, None, ⊤}
+use Rattle.std.specs.Prelude.{◌≡◌, ℕ, ◌^◌, ◌<◌, ◌≤◌, ◌⊎◌, List, [], length, take, Option, None, ⊤}
 use Rattle.std.specs.List.{AllZip}
 use Rattle.std.specs.Io.KnownBytes.{Consumes, IsAtEnd}
 use Rattle.std.specs.IoError.{error_kind}
-use Rattle.ripemd_files.specs.Types.{Error, Variant, R128, R160, R256, R320, Outcome, Digest, Refused, Broken}
+use Rattle.ripemd_files.specs.Types.{Error, Variant, R128, R160, R256, R320, Content, Short, Read, Outcome, Digest, Refused, Broken}
 use Rattle.std.specs.declared.io.ErrorKind.TheVariants.{FileTooLarge}
 use Rattle.ripemd.specs.Standard.{Parameters, ripemd128, ripemd160, ripemd256, ripemd320}
 
@@ -60,3 +60,26 @@ pub record OfFirst {A B : Type 0} (R : A → B → Type 0) (items : List A) (fou
   pub some : 0 < length items → 0 < length found
   pub within : length found ≤ length items
   pub each : AllZip R (take (length found) items) found
+
+-- ---- what a file gave, as it is read
+
+-- the outcome is this digest
+abbrev pub IsDigest : Outcome → List ℕ → Type 0
+IsDigest (Digest digest) bytes = digest.items ≡ bytes
+IsDigest (Refused error) bytes = ⊥
+IsDigest (Broken error) bytes = ⊥
+
+-- the file of a name has this content
+abbrev pub IsContent : {File : Type 0} → Place File → (hash : List ℕ → List ℕ) → List ℕ → Content → Type 0
+IsContent place hash name (Short message) = Gives (place.opens name) place.left message.items
+IsContent place hash name (Read outcome) = ComesTo place hash name outcome
+
+-- the message of a short file; of all others the empty one
+abbrev pub message_in : Content → List ℕ
+message_in (Short message) = message.items
+message_in (Read outcome) = []
+
+-- what came of a file with this content
+abbrev pub Follows : (hash : List ℕ → List ℕ) → Content → Outcome → Type 0
+Follows hash (Short message) outcome = IsDigest outcome (hash message.items)
+Follows hash (Read read) outcome = outcome ≡ read

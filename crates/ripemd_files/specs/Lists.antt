@@ -8,7 +8,7 @@ use Rattle.ripemd_files.specs.Types.{Variant, Layout, Standard, Rules, Outcome, 
 use Rattle.ripemd_files.specs.declared.log.Complaint.TheVariants as complaints
 use Rattle.ripemd_files.specs.Lines.{IsLine}
 use Rattle.std.specs.Option.{option_or}
-use Rattle.ripemd_files.specs.Layouts.{layout_of}
+use Rattle.ripemd_files.specs.Reading.{layout_of}
 use Rattle.ripemd_files.specs.Splitting.{lines_of, IsEnded, IsOneLine, IsWhole, ListState}
 use Rattle.ripemd_files.specs.Files.{Place, ComesTo, parameters_of}
 use Rattle.ripemd_files.specs.Said.{Item, Stops, Tells, Told, about_list}

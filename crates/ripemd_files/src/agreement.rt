@@ -7,7 +7,7 @@ ghost use Rattle.ripemd.specs.Standard.{ripemd};
 ghost use Rattle.ripemd_files.specs.Types.{Form, Layout, Variant, Rules, Verdict, Differs, Matches};
 ghost use Rattle.ripemd_files.specs.Checking.{checked, verdict_of_digest};
 ghost use Rattle.ripemd_files.specs.Lists.{IsEventOn, IsTaken};
-ghost use Rattle.ripemd_files.specs.Printed.{IsCollisionOf, IsPrinted, printed_line};
+ghost use Rattle.ripemd_files.specs.Printing.{IsCollisionOf, IsPrinted, printed_line};
 ghost use Rattle.ripemd_files.specs.Files.{Gives, parameters_of};
 
 use crate::folder::Folder;

@@ -6,7 +6,7 @@ ghost use Rattle.std.specs.declared.io.Error.{Error};
 ghost use Rattle.ripemd_files.specs.Types.{Outcome, Layout, Rules, Style, Options, Tally, Ended};
 ghost use Rattle.ripemd_files.specs.Determined.{IsKnown, Print, Report, Start};
 ghost use Rattle.ripemd_files.specs.Said.{Item};
-ghost use Rattle.ripemd_files.specs.Contents.{IsDigest};
+ghost use Rattle.ripemd_files.specs.Files.{IsDigest};
 ghost use Rattle.ripemd_files.specs.Checking.{Event};
 ghost use Rattle.ripemd_files.specs.WorkedChecks.{DigestVerdicts, ErrorVerdicts, ItemsOfEvents, LinesOfEvents, RemarksOnEvents, Tallies, OtherTallies, LongCounts, ClosingRemarks, Answers, OptionLaws, PassedOver, Bodies, NextLayouts, Wanted, PrintedLines, PrintedErrors, KnownFolders};
 
@@ -58,7 +58,7 @@ pub fn option_laws()
 {}
 
 /// Which lines are passed over, what others say, and the layout of lists.
-#[tactic(auto, unfolding(crate::specs::Reading::skip_blanks, crate::specs::Reading::split_blank, crate::specs::Reading::strip_label, crate::specs::Reading::untagged_at, crate::specs::Layouts::layout_at))]
+#[tactic(auto, unfolding(crate::specs::Reading::skip_blanks, crate::specs::Reading::split_blank, crate::specs::Reading::strip_label, crate::specs::Reading::untagged_at, crate::specs::Reading::layout_at))]
 pub fn worked_lists()
     ensures passed { PassedOver }
     ensures bodies { Bodies }

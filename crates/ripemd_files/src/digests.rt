@@ -7,9 +7,8 @@ ghost use Rattle.std.specs.Io.KnownBytes.{Consumes, IsAtEnd};
 ghost use Rattle.ripemd_block.specs.Standard.{hash};
 ghost use Rattle.ripemd.specs.Standard.{ripemd};
 ghost use Rattle.ripemd_batch.specs.Lanes.{targets};
-ghost use Rattle.ripemd_files.specs.Files.{Gives, Gave, Breaks, ComesTo, OfFirst, Place, parameters_of};
+ghost use Rattle.ripemd_files.specs.Files.{Breaks, ComesTo, Follows, Gave, Gives, IsContent, OfFirst, Place, message_in, parameters_of};
 ghost use Rattle.std.specs.List.{AllZip};
-ghost use Rattle.ripemd_files.specs.Contents.{Follows, IsContent, message_in};
 
 use crate::folder::Folder;
 use crate::line::Variant;

@@ -3,8 +3,7 @@
 ghost use Rattle.std.specs.Prelude.{◌≡◌};
 ghost use Rattle.std.specs.List.{list_all};
 ghost use Rattle.hex.specs.Hex.{is_hex_digit};
-ghost use Rattle.ripemd_files.specs.Reading.{untagged_at};
-ghost use Rattle.ripemd_files.specs.Layouts.{has_digits, is_wanted_length, untagged_layout};
+ghost use Rattle.ripemd_files.specs.Reading.{has_digits, is_wanted_length, untagged_at, untagged_layout};
 
 use crate::line::{Layout, Variant};
 use crate::reading::untagged_parts;

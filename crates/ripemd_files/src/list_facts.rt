@@ -3,9 +3,9 @@
 
 ghost use Rattle.std.specs.Prelude.{◌≡◌, ◌≢◌, ℕ, List, [], ◌∷◌, ◌++◌, Option, Some};
 ghost use Rattle.ripemd_files.specs.Types.{Variant, Layout, Standard, Reversed};
-ghost use Rattle.ripemd_files.specs.Layouts.{layout_of, HasLayout};
+ghost use Rattle.ripemd_files.specs.Reading.{layout_of, HasLayout};
 ghost use Rattle.ripemd_files.specs.Splitting.{lines_of, IsOneLine};
-ghost use Rattle.ripemd_files.specs.WorkedLists.{SplitLists, StandardLayouts, ReversedLayouts, NoLayouts};
+ghost use Rattle.ripemd_files.specs.Worked.{SplitLists, StandardLayouts, ReversedLayouts, NoLayouts};
 
 /// How a list is split into lines.
 #[tactic(auto, using(crate::proofs::Cutting::lines_first, crate::proofs::Cutting::lines_last), unfolding(crate::specs::Splitting::lines_of))]
@@ -18,7 +18,7 @@ pub fn split_lists()
 {}
 
 /// In which layout lines stand.
-#[tactic(auto, unfolding(crate::specs::Reading::skip_blanks, crate::specs::Reading::split_blank, crate::specs::Reading::strip_label, crate::specs::Reading::untagged_at, crate::specs::Layouts::layout_at))]
+#[tactic(auto, unfolding(crate::specs::Reading::skip_blanks, crate::specs::Reading::split_blank, crate::specs::Reading::strip_label, crate::specs::Reading::untagged_at, crate::specs::Reading::layout_at))]
 pub fn list_layouts()
     ensures standard { StandardLayouts }
     ensures reversed { ReversedLayouts }

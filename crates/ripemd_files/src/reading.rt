@@ -3,8 +3,7 @@
 ghost use Rattle.std.specs.Prelude.{◌≡◌, ℕ, List, false, IfOk, IfSome, option_map, unwrap_or};
 ghost use Rattle.ripemd_files.specs.Types.{Variant, Form, Standard, Ending};
 ghost use Rattle.ripemd_files.specs.Lines.{is_blank, IsLine, Says, RoundTrips, line_of};
-ghost use Rattle.ripemd_files.specs.Layouts.{layout_at, layout_of};
-ghost use Rattle.ripemd_files.specs.Reading.{strip, skip_blanks, split_blank, split_close, variant_of, strip_bits, strip_label, text_at, untagged_at, skip_space, tagged_at, found_at, digest_at, meant_by, unescaped, name_at, strip_mark, said_by, found_of, said_of};
+ghost use Rattle.ripemd_files.specs.Reading.{strip, skip_blanks, split_blank, split_close, variant_of, strip_bits, strip_label, text_at, untagged_at, skip_space, tagged_at, found_at, digest_at, meant_by, unescaped, name_at, strip_mark, said_by, found_of, said_of, layout_at, layout_of};
 ghost use Rattle.std.specs.Option.{option_or};
 
 use crate::layout::layout_of_untagged;
@@ -170,7 +169,7 @@ fn tagged_parts(variant: Variant, text: &[u8]) -> Option<Parts<'_>>
 }
 
 // The parts of a line, tagged or not. An untagged line decides the layout of its list, if none is known.
-#[tactic(auto, unfolding(crate::specs::Reading::found_at, crate::specs::Layouts::layout_at))]
+#[tactic(auto, unfolding(crate::specs::Reading::found_at, crate::specs::Reading::layout_at))]
 fn either_parts<'a>(
     only: Option<Variant>,
     layout: &mut Option<Layout>,

@@ -1,6 +1,6 @@
 use Rattle.std.proofs.Common.{◌≡◌, take, map}
 use Rattle.ripemd_batch.specs.Lanes.{targets}
-use Rattle.ripemd_files.specs.Contents.{message_in}
+use Rattle.ripemd_files.specs.Files.{message_in}
 use Rattle.ripemd_files.proofs.digests.messages_of.Given as goal
 
 abbrev pub invariant-loop-content : goal.invariant-loop-content

@@ -1,6 +1,6 @@
 use Rattle.std.specs.List.{AllZip}
 use Rattle.ripemd_block.specs.Standard.{hash}
-use Rattle.ripemd_files.specs.Contents.{Follows}
+use Rattle.ripemd_files.specs.Files.{Follows}
 use Rattle.ripemd_files.proofs.digests.outcomes_of.Given as goal
 
 abbrev pub invariant-loop-content : goal.invariant-loop-content

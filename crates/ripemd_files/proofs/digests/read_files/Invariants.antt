@@ -1,7 +1,7 @@
 use Rattle.ripemd_block.proofs.Library.{◌<◌, take, length, AllZip}
 use Rattle.ripemd_block.specs.Standard.{hash}
 use Rattle.ripemd_batch.specs.Lanes.{targets}
-use Rattle.ripemd_files.specs.Contents.{IsContent}
+use Rattle.ripemd_files.specs.Files.{IsContent}
 use Rattle.ripemd_files.proofs.digests.read_files.Given as goal
 
 abbrev pub invariant-loop-name : goal.invariant-loop-name

@@ -1,7 +1,6 @@
 use Rattle.std.proofs.Common.{ℕ, List, subst, sym}
 use Rattle.ripemd_files.specs.Types.{Content, Short, Read, Outcome, Digest}
-use Rattle.ripemd_files.specs.Files.{Place, ComesTo}
-use Rattle.ripemd_files.specs.Contents.{Follows, IsContent}
+use Rattle.ripemd_files.specs.Files.{ComesTo, Follows, IsContent, Place}
 use Rattle.ripemd_files.proofs.Zips.{all_first, first_through}
 use Rattle.ripemd_files.proofs.digests.read_group.Goals as goal
 
