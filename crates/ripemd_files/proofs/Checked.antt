@@ -216,32 +216,27 @@ module _ {File : Type 0} {place : Place File} {options : Options} {kinds : Rules
             report_on next.left reads.reads.bytes reads.rest (lines_of reads.reads.bytes) [] found next.stage next_tally reads.reads.consumed ends
             (sym (append-nil (lines_of reads.reads.bytes))) reported (reached next.stage (rw reads.stage reads.ended)) counted_all
 
-        pub checks_over : {e : Told} {success : Bool} (stage : Stage) → group.stage ≡ stage → stage ≢ Among
-            → Tells d e (last_remarks stage options next_tally) → success ≡ succeeds stage options next_tally
-            → ChecksList place options kinds first.layout after.layout old next a e success
-        checks_over {e} stage is over said answer =
-            let same : next.stage ≡ stage = reads.stage ∙ is in
-            record {
-              items = _;
-              tally = next_tally;
-              report = report_over;
-              layout = layout_over;
-              is_over = rw same over;
-              tells = tells_more a d e _ _ told_on (rw same said);
-              answer = rw same answer;
-            }
+        pub checks_over : {e : Told} {success : Bool} → group.stage ≢ Among → Tells d e (last_remarks group.stage options next_tally)
+            → success ≡ succeeds group.stage options next_tally → ChecksList place options kinds first.layout after.layout old next a e success
+        checks_over {e} over said answer = record {
+          items = _;
+          tally = next_tally;
+          report = report_over;
+          layout = layout_over;
+          is_over = rw reads.stage over;
+          tells = tells_more a d e _ _ told_on (rw reads.stage said);
+          answer = rw reads.stage answer;
+        }
 
-        pub stops_over : {e : Told} {fault : Fault} (stage : Stage) → group.stage ≡ stage → Stops ⊥ d e (last_remarks stage options next_tally) fault
+        pub stops_over : {e : Told} {fault : Fault} → Stops ⊥ d e (last_remarks group.stage options next_tally) fault
             → StopsList place options kinds first.layout old next.left a e fault
-        stops_over {e} {fault} stage is stops =
-            let same : next.stage ≡ stage = reads.stage ∙ is in
-            record {
-              stage = next.stage;
-              items = _;
-              tally = next_tally;
-              report = report_over;
-              stops = stops_for _ a e _ fault (stops_after ⊥ a d e _ _ fault told_on (rw same stops));
-            }
+        stops_over {e} {fault} stops = record {
+          stage = next.stage;
+          items = _;
+          tally = next_tally;
+          report = report_over;
+          stops = stops_for _ a e _ fault (stops_after ⊥ a d e _ _ fault told_on (rw reads.stage stops));
+        }
 
 -- there is no memory for the first
 pub stops_at_once : {File : Type 0} (place : Place File) (options : Options) (kinds : Rules) (layout : Option Layout) (list : Option (List ℕ)) (told : Told)

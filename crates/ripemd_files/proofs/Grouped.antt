@@ -7,7 +7,7 @@ use Rattle.ripemd_files.specs.Files.{Place}
 use Rattle.ripemd_files.specs.Splitting.{IsPiece, IsWhole, ListState, ReadsOn, lines_of, stage_after}
 use Rattle.ripemd_files.specs.Checking.{Event, IsEventOf, misformatted}
 use Rattle.ripemd_files.specs.Lists.{Entry, IsEventOn, Reports, entries_of, entry_of, is_passed_over, layout_after, layout_behind}
-use Rattle.ripemd_files.specs.Groups.{ExplainsReading, ReadsGroup, ReadsLines, Meaning, Means, StopsReading, Takes, misformatted_events, meanings}
+use Rattle.ripemd_files.specs.Groups.{EndsAs, ExplainsReading, ReadsGroup, ReadsLines, Meaning, Means, StopsReading, Takes, misformatted_events, meanings}
 use Rattle.ripemd_files.specs.Groups.Meaning.{names, nothing}
 use Rattle.ripemd_files.proofs.Cutting.{cut, ended_since, lines_first, lines_last, whole_more}
 use Rattle.ripemd_files.proofs.Zips.{all_zip_append, all_zip_take, all_zip_through}
@@ -200,6 +200,20 @@ module _ (kinds : Rules) (old now : Option (List ℕ)) (state : ListState) (befo
   goes_on piece (inr is) among given after others takes step = absurd (grind arith)
 
   module _ (group : Group) where
+    -- the group ends as the piece does
+    ends_so : (piece : Piece) → state.stage ≡ stage_after piece → group.stage ≡ stage_after piece → (after : Cursor) (rest : List ℕ)
+        → (reads : ReadsLines kinds old state.left before after group.lines.items group.misformatted rest)
+        → EndsAs (stage_after piece) old state.left reads.bytes rest
+        → (stage_after piece ≡ Among → (before.number < after.number) × (after.number < 2 ^ 64)) → ReadsGroup kinds old state before after group
+    ends_so piece stage ends after rest reads ended on = record {
+      rest = rest;
+      reads = reads;
+      ended = rw ends ended;
+      stage = stage ∙ sym ends;
+      advanced = λ among. (on (sym ends ∙ among)).0;
+      bounded = λ among. (on (sym ends ∙ among)).1;
+    }
+
     -- a line that ends the group
     pub line_ends : before.number ≤ cursor.number → (piece : Piece) → (piece ≡ pieces.Whole) ⊎ (piece ≡ pieces.Last)
         → IsPiece 10 now state.left text piece → state.stage ≡ stage_after piece → group.stage ≡ stage_after piece → (after : Cursor)
@@ -207,24 +221,11 @@ module _ (kinds : Rules) (old now : Option (List ℕ)) (state : ListState) (befo
         → ReadsGroup kinds old state before after group
     line_ends behind piece (inl is) given stage ends after takes step bound =
         let (reads, all) = reads_line _ _ _ _ _ _ _ so_far whole after text _ _ takes step (rw is at given) in
-        record {
-          rest = [];
-          reads = reads;
-          ended = rw (ends, is) (all, refl);
-          stage = stage ∙ sym ends;
-          advanced = λ _. omega (arith, step, behind);
-          bounded = λ _. bound;
-        }
+        ends_so piece stage ends after [] reads (rw is (all, refl)) (λ _. (omega (arith, step, behind), bound))
     line_ends behind piece (inr is) given stage ends after takes step bound =
         let last = rw is at given in
-        record {
-          rest = [];
-          reads = reads_last _ _ _ _ _ _ _ so_far whole after text _ _ takes step last;
-          ended = rw (ends, is) (refl, ended_since _ _ _ _ (taken _ _ _ state.left _ _ _ so_far whole) last.1);
-          stage = stage ∙ sym ends;
-          advanced = λ _. omega (arith, step, behind);
-          bounded = λ _. bound;
-        }
+        ends_so piece stage ends after [] (reads_last _ _ _ _ _ _ _ so_far whole after text _ _ takes step last)
+        (rw is (refl, ended_since _ _ _ _ (taken _ _ _ state.left _ _ _ so_far whole) last.1)) (λ _. (omega (arith, step, behind), bound))
 
     -- no line
     pub none_ends : (piece : Piece) → (piece ≡ pieces.Nothing) ⊎ ((error : Error) × (piece ≡ pieces.Failed error))
@@ -233,21 +234,9 @@ module _ (kinds : Rules) (old now : Option (List ℕ)) (state : ListState) (befo
     unfolding reads_no_more
     none_ends piece (inl is) given stage ends same none =
         let nothing = rw is at given in
-        record {
-          rest = [];
-          reads = reads_no_more _ _ _ _ _ _ _ so_far whole _ _ same none [] nothing.0;
-          ended = rw (ends, is) (refl, ended_since _ _ _ _ (taken _ _ _ state.left _ _ _ so_far whole) nothing.1);
-          stage = stage ∙ sym ends;
-          advanced = λ among. grind arith;
-          bounded = λ among. grind arith;
-        }
+        ends_so piece stage ends cursor [] (reads_no_more _ _ _ _ _ _ _ so_far whole _ _ same none [] nothing.0)
+        (rw is (refl, ended_since _ _ _ _ (taken _ _ _ state.left _ _ _ so_far whole) nothing.1)) (λ among. absurd (ends_list piece (inl is) among))
     none_ends piece (inr (error, is)) given stage ends same none =
         let front = rw is at given in
-        record {
-          rest = text;
-          reads = reads_no_more _ _ _ _ _ _ _ so_far whole _ _ same none text front.0;
-          ended = rw (ends, is) (whole, front.1);
-          stage = stage ∙ sym ends;
-          advanced = λ among. grind arith;
-          bounded = λ among. grind arith;
-        }
+        ends_so piece stage ends cursor text (reads_no_more _ _ _ _ _ _ _ so_far whole _ _ same none text front.0) (rw is (whole, front.1))
+        (λ among. absurd (ends_list piece (inr (error, is)) among))

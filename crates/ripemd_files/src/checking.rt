@@ -6,9 +6,9 @@ ghost use Rattle.ripemd_batch.specs.Lanes.{targets};
 ghost use Rattle.ripemd_files.specs.Types.{Among};
 ghost use Rattle.ripemd_files.specs.Files.{OfFirst};
 ghost use Rattle.ripemd_files.specs.Said.{Pends, Stops, Tells, about_list, written};
-ghost use Rattle.ripemd_files.specs.Lists.{ChecksList, StopsList};
+ghost use Rattle.ripemd_files.specs.Lists.{ChecksList, StopsList, last_remarks, succeeds};
 ghost use Rattle.ripemd_files.specs.Groups.{ChecksFirst, ChecksLines, misformatted_events};
-ghost use Rattle.ripemd_files.specs.Checking.{Event, IsNamed, IsOutcomeOf, IsTally, checked, closing_remarks, count_remarks, has_lines, is_success, items_of_event, line_of_event, remark_where, remarks_on_verdict, report_of, shown};
+ghost use Rattle.ripemd_files.specs.Checking.{Event, IsNamed, IsOutcomeOf, IsTally, checked, count_remarks, has_lines, items_of_event, line_of_event, remark_where, remarks_on_verdict, report_of, shown};
 
 use crate::digests::read_digests;
 use crate::fault::Fault;
@@ -107,13 +107,9 @@ fn check_groups<F: Folder, R: ReadList, L: Log>(
         check_misformatted(options, group.misformatted, &mut tally, log)?;
         match group.stage {
             Stage::Among => {}
-            Stage::Ended => {
-                let success = close(options, &tally, log)?;
+            stage => {
+                let success = close(options, stage, &tally, log)?;
                 return Ok(success);
-            }
-            Stage::Failed => {
-                remark(log, Complaint::Unreadable)?;
-                return Ok(false);
             }
         }
     }
@@ -139,20 +135,22 @@ fn check_misformatted<L: Log>(
     remark_if(log, options.warn, Complaint::Misformatted(number))
 }
 
-// Remarks on the counts. Whether the check succeeds.
+// Remarks on the counts, or that the list was not read to its end. Whether the check succeeds.
 #[tactic(auto, using(crate::proofs::Telling::telling))]
-fn close<L: Log>(options: Options, tally: &Tally, log: &mut L) -> Result<bool, Fault>
+fn close<L: Log>(options: Options, stage: Stage, tally: &Tally, log: &mut L) -> Result<bool, Fault>
     requires told { (L.told log.old).failure ≡ None }
-    ensures told { OnOk result (Tells (L.told log.old) (L.told log.new) (closing_remarks options tally.now)) }
-    ensures success { IfOk result (λ success. success ≡ is_success options tally.now) }
-    ensures err { IfErr result (Stops ⊥ (L.told log.old) (L.told log.new) (closing_remarks options tally.now)) }
+    ensures told { OnOk result (Tells (L.told log.old) (L.told log.new) (last_remarks stage options tally.now)) }
+    ensures success { IfOk result (λ success. success ≡ succeeds stage options tally.now) }
+    ensures err { IfErr result (Stops ⊥ (L.told log.old) (L.told log.new) (last_remarks stage options tally.now)) }
 {
-    if !tally.checked {
-        remark(log, Complaint::NoLines)?;
-    } else if !options.status {
-        remark_counts(options, tally, log)?;
+    match stage {
+        Stage::Among => {}
+        Stage::Ended if !tally.checked => remark(log, Complaint::NoLines)?,
+        Stage::Ended if options.status => {}
+        Stage::Ended => remark_counts(options, tally, log)?,
+        Stage::Failed => remark(log, Complaint::Unreadable)?,
     }
-    Ok(tally.is_success(options))
+    Ok(stage == Stage::Ended && tally.is_success(options))
 }
 
 // Remarks on counts other than 0, and that nothing was verified.
@@ -272,8 +270,7 @@ fn read_files_of<F: Folder>(
 {
     let variant = lines[0].variant;
     let names = names_of(alloc, variant, lines)?;
-    let outcomes = read_digests(alloc, folder, variant, names.as_slice(), buffer)?;
-    Ok(outcomes)
+    read_digests(alloc, folder, variant, names.as_slice(), buffer)
 }
 
 // The names of the first lines, up to another variant.

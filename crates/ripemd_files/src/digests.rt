@@ -225,8 +225,7 @@ fn read_group<D: BatchDigest, F: Folder>(
     let mut digests = vec![in alloc; D::Output::zeros(); messages.len()]?;
     digest_each::<D>(messages.as_slice(), digests.as_mut_slice());
     drop(messages);
-    let outcomes = outcomes_of::<D>(alloc, contents, digests.as_slice())?;
-    Ok(outcomes)
+    outcomes_of::<D>(alloc, contents, digests.as_slice())
 }
 
 /// Reads and hashes the files of the first names, in order: one, or up to eight [short](Folder::is_short) ones. Each

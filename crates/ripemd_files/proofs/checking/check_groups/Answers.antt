@@ -1,5 +1,4 @@
-use Rattle.std.proofs.Common.{rules, arith, refl, ◌∙◌}
-use Rattle.ripemd_files.specs.Types.{Ended, Failed}
+use Rattle.std.proofs.Common.{rules, arith, ◌∙◌}
 use Rattle.ripemd_files.proofs.Checked.{checks_begin, checks_on, checks_over, stops_lines, stops_misformatted, stops_over, stops_reading_list}
 use Rattle.ripemd_files.proofs.checking.check_groups.Goals as goal
 
@@ -28,24 +27,14 @@ pub returns-in_err-check_misformatted-clause-err : goal.returns-in_err-check_mis
 returns-in_err-check_misformatted-clause-err g c =
     search (rules, stops_misformatted c.groups.invariant.so_far c.requires.start c.in_ok-group.ensures.ok c.as_slice.ensures.value c.in_ok-check_lines.ensures.ok)
 
-pub returns-in-Ended-clause-ok : goal.returns-in-Ended-clause-ok
-returns-in-Ended-clause-ok g c =
+pub returns-in_default-clause-ok : goal.returns-in_default-clause-ok
+returns-in_default-clause-ok g c =
     checks_over c.groups.invariant.so_far c.requires.start c.in_ok-group.ensures.ok c.as_slice.ensures.value c.in_ok-check_lines.ensures.ok
-    c.in_ok-check_misformatted.ensures.told c.in_ok-check_misformatted.ensures.counts Ended c.in-Ended.is (search rules) c.in_ok-success-in-Ended.ensures.told c.in_ok-success-in-Ended.ensures.success
+    c.in_ok-check_misformatted.ensures.told c.in_ok-check_misformatted.ensures.counts c.in_default.not-Among
+    c.in_ok-success-in_default.ensures.told c.in_ok-success-in_default.ensures.success
 
-pub returns-in_err-success-in-Ended-clause-err : goal.returns-in_err-success-in-Ended-clause-err
-returns-in_err-success-in-Ended-clause-err g c =
+pub returns-in_err-success-in_default-clause-err : goal.returns-in_err-success-in_default-clause-err
+returns-in_err-success-in_default-clause-err g c =
     let stops = stops_over c.groups.invariant.so_far c.requires.start c.in_ok-group.ensures.ok c.as_slice.ensures.value c.in_ok-check_lines.ensures.ok
-    c.in_ok-check_misformatted.ensures.told c.in_ok-check_misformatted.ensures.counts Ended c.in-Ended.is c.in_err-success-in-Ended.ensures.err in
-    search (rules, stops)
-
-pub returns-in-Failed-clause-ok : goal.returns-in-Failed-clause-ok
-returns-in-Failed-clause-ok g c =
-    checks_over c.groups.invariant.so_far c.requires.start c.in_ok-group.ensures.ok c.as_slice.ensures.value c.in_ok-check_lines.ensures.ok
-    c.in_ok-check_misformatted.ensures.told c.in_ok-check_misformatted.ensures.counts Failed c.in-Failed.is (search rules) c.in_ok-remark-in-Failed.ensures.told refl
-
-pub returns-in_err-remark-in-Failed-clause-err : goal.returns-in_err-remark-in-Failed-clause-err
-returns-in_err-remark-in-Failed-clause-err g c =
-    let stops = stops_over c.groups.invariant.so_far c.requires.start c.in_ok-group.ensures.ok c.as_slice.ensures.value c.in_ok-check_lines.ensures.ok
-    c.in_ok-check_misformatted.ensures.told c.in_ok-check_misformatted.ensures.counts Failed c.in-Failed.is c.in_err-remark-in-Failed.ensures.err in
+    c.in_ok-check_misformatted.ensures.told c.in_ok-check_misformatted.ensures.counts c.in_err-success-in_default.ensures.err in
     search (rules, stops)

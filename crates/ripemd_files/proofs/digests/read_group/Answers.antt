@@ -1,4 +1,4 @@
-use Rattle.std.proofs.Common.{ℕ, List, subst, sym}
+use Rattle.ripemd_block.proofs.Library.{ℕ, List, subst, sym, IfOk-weaker}
 use Rattle.ripemd_files.specs.Types.{Content, Short, Read, Outcome, Digest}
 use Rattle.ripemd_files.specs.Files.{ComesTo, Follows, IsContent, Place}
 use Rattle.ripemd_files.proofs.Zips.{all_first, first_through}
@@ -13,5 +13,5 @@ comes_to place hash name _ _ is follows = absurd follows
 
 pub returns : goal.returns
 returns g c =
-    first_through _ _ _ _ _ _ (comes_to (g.F.Folder.place c.args.folder.now) _) c.in_ok-contents.ensures
-    (all_first _ _ _ c.in_ok-outcomes.ensures)
+    IfOk-weaker c.outcomes_of.result _ _ (λ outcomes follow. first_through _ _ _ _ _ _ (comes_to (g.F.Folder.place c.args.folder.now) _) c.in_ok-contents.ensures
+    (all_first _ _ _ follow)) c.outcomes_of.ensures
