@@ -7,8 +7,7 @@ use Rattle.ripemd_files.specs.Files.{ComesTo, Gives, Place, parameters_of}
 use Rattle.ripemd_files.specs.Checking.{checked, verdict_of}
 use Rattle.ripemd_files.specs.Lists.{IsEventOn, IsTaken, body_of_line}
 use Rattle.ripemd_files.specs.Printing.{IsPrinted, printed_line}
-use Rattle.ripemd_files.proofs.Written.{IsLine-line_of}
-use Rattle.ripemd_files.proofs.Ends.{no_end}
+use Rattle.ripemd_files.proofs.Written.{IsLine-line_of, no_end}
 use Rattle.ripemd_files.proofs.Sayings.{one_line}
 use Rattle.ripemd_files.proofs.Sizes.{bytes-ripemd, length-ripemd}
 

@@ -1,5 +1,5 @@
 -- Lists, split into lines.
-use Rattle.ripemd_block.proofs.Library.{◌≡◌, ◌≢◌, ℕ, ◌+◌, ◌-◌, ◌==◌, true, false, List, [], ◌∷◌, ◌++◌, length, take, Option, All, IfSome, refl, arith, inl, inr, append_assoc, ◌<◌, ne_eqb, list_any, StopsAt, appended_bytes, Consumes, take_through, drop_through, ends_with_byte, strip_last, DropsThrough, append-nil, take_all, take_more, All-weaker, list_any-append, list_any_none, nat_tests}
+use Rattle.ripemd_block.proofs.Library.{◌≡◌, ◌≢◌, ℕ, ◌+◌, ◌-◌, ◌==◌, true, false, List, [], ◌∷◌, ◌++◌, length, take, Option, All, IfSome, refl, arith, inl, inr, append_assoc, ◌<◌, ne_eqb, list_any, StopsAt, appended_bytes, Consumes, Consumes-nil, Consumes-trans, take_through, drop_through, ends_with_byte, strip_last, DropsThrough, append-nil, take_all, take_more, All-weaker, list_any-append, list_any_none, nat_tests}
 use Rattle.ripemd_files.specs.Splitting.{lines_of, IsEnded, IsWhole, IsWithout}
 
 -- ---- the lines of a list
@@ -81,3 +81,6 @@ module _ (byte : ℕ) where
 -- what ended ended what was there before
 pub ended_since : (old now next : Option (List ℕ)) (bytes : List ℕ) → Consumes old now bytes → IsEnded now next → IsEnded old next
 ended_since old now next bytes taken ends = grind arith
+
+-- what was read so far, and then more
+pub ruleset consumed = (Consumes-nil, Consumes-trans)

@@ -1,11 +1,8 @@
 pub use Rattle.ripemd_block.proofs.Library
 pub mod Places
-pub mod Names
 pub mod Bodies
 pub mod Sayings
 pub mod Written
-pub mod Ends
-pub mod Pieces
 pub mod Zips
 pub mod Telling
 pub mod InTurn

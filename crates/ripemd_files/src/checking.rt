@@ -289,7 +289,7 @@ fn names_of(alloc: Global, variant: Variant, lines: &[Line]) -> Result<Vec<&[u8]
 }
 
 // Remarks on a file, and adds its line to those not yet written.
-#[tactic(auto, using(crate::proofs::Telling::telling))]
+#[tactic(auto, using(crate::proofs::Telling::stops_in, crate::proofs::Telling::pends_line))]
 fn tell<L: Log>(
     options: Options,
     name: &[u8],

@@ -55,7 +55,7 @@ fn fill<F: Folder>(folder: &F, file: &mut F::File, buffer: &mut [u8]) -> Result<
 }
 
 // The digest of the bytes in the buffer and the rest of the file.
-#[tactic(auto, using(crate::proofs::Pieces::consumed))]
+#[tactic(auto, using(crate::proofs::Cutting::consumed))]
 fn hash_rest<D: Digest, F: Folder>(
     folder: &F,
     file: &mut F::File,

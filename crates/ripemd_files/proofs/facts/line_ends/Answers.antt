@@ -1,4 +1,4 @@
-use Rattle.ripemd_files.proofs.Ends.{no_end, no_zero, starts_line}
+use Rattle.ripemd_files.proofs.Written.{no_end, no_zero, starts_line}
 use Rattle.ripemd_files.proofs.facts.line_ends.Goals as goal
 
 pub returns : goal.returns
