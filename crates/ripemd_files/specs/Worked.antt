@@ -41,12 +41,8 @@ digits_then text = digits_of R160 ++ text
 
 pub record WrittenLines : Type 0 where
   pub as_text : written Newline Text R160 (codes "abc") ≡ digits_then (codes "  abc\n")
-  pub as_binary : written Newline Binary R160 (codes "abc") ≡ digits_then (codes " *abc\n")
   pub tagged128 : written Newline Tagged R128 (codes "abc") ≡ codes "RMD128 (abc) = " ++ (digits_of R128 ++ codes "\n")
-  pub tagged160 : written Newline Tagged R160 (codes "abc") ≡ codes "RMD160 (abc) = " ++ (digits_of R160 ++ codes "\n")
   pub tagged256 : written Newline Tagged R256 (codes "abc") ≡ codes "RMD256 (abc) = " ++ (digits_of R256 ++ codes "\n")
-  pub tagged320 : written Newline Tagged R320 (codes "abc") ≡ codes "RMD320 (abc) = " ++ (digits_of R320 ++ codes "\n")
-  pub ends_with_zero : written Zero Text R160 (codes "abc") ≡ digits_then (codes "  abc" ++ (0 ∷ []))
 
 -- names with special bytes
 pub record EscapedLines : Type 0 where
@@ -56,7 +52,6 @@ pub record EscapedLines : Type 0 where
   pub tagged : written Newline Tagged R160 (codes "b\\c") ≡ codes "\\RMD160 (b\\\\c) = " ++ digits_then (codes "\n")
   pub other_control : written Newline Text R160 (9 ∷ 11 ∷ []) ≡ digits_then (codes "  " ++ (9 ∷ 11 ∷ codes "\n"))
   pub ends_with_zero : written Zero Text R160 (codes "n\nl") ≡ digits_then (codes "  n\nl" ++ (0 ∷ []))
-  pub tagged_with_zero : written Zero Tagged R160 (codes "b\\c") ≡ codes "RMD160 (b\\c) = " ++ digits_then (0 ∷ [])
 
 -- ---- lines that are read
 
@@ -71,13 +66,9 @@ IsNoLine layout line = (variant : Variant) (digest name : List ℕ) → ¬ IsLin
 pub record UntaggedLines : Type 0 where
   pub as_text : IsLineOf (codes "abc") (digits_then (codes "  abc"))
   pub as_binary : IsLineOf (codes "abc") (digits_then (codes " *abc"))
-  pub of128 : IsLine Standard (digits_of R128 ++ codes "  abc") R128 (digest_of R128) (codes "abc")
-  pub of256 : IsLine Standard (digits_of R256 ++ codes "  abc") R256 (digest_of R256) (codes "abc")
-  pub of320 : IsLine Standard (digits_of R320 ++ codes "  abc") R320 (digest_of R320) (codes "abc")
   pub upper_case : IsLineOf (codes "abc") (codes "8EB208F7E05D987A9B044A8E98C6B087F15A0BFC  abc")
   pub behind_blanks : IsLineOf (codes "abc") (codes "  \t" ++ digits_then (codes "  abc"))
   pub tab_for_a_space : IsLineOf (codes "abc") (digits_then (codes "\t abc"))
-  pub tab_and_star : IsLineOf (codes "abc") (digits_then (codes "\t*abc"))
   pub space_in_the_name : IsLineOf (codes " sp") (digits_then (codes "   sp"))
   pub star_in_the_name : IsLineOf (codes "*st") (digits_then (codes "  *st"))
   pub no_text : IsLineOf (0xff ∷ 0xfe ∷ []) (digits_then (codes "  " ++ (0xff ∷ 0xfe ∷ [])))
@@ -88,7 +79,6 @@ pub record MarkedLines : Type 0 where
   pub carriage_return : IsLineOf (codes "c\rr") (codes "\\" ++ digits_then (codes "  c\\rr"))
   pub not_escaped : IsLineOf (codes "c\rr") (codes "\\" ++ digits_then (codes "  c\rr"))
   pub no_special_byte : IsLineOf (codes "abc") (codes "\\" ++ digits_then (codes "  abc"))
-  pub behind_a_blank : IsLineOf (codes "b\\c") (codes " \\" ++ digits_then (codes "  b\\\\c"))
   pub without_mark : IsLineOf (codes "b\\c") (digits_then (codes "  b\\c"))
 
 pub record TaggedLines : Type 0 where
@@ -100,12 +90,8 @@ pub record TaggedLines : Type 0 where
   pub of320 : IsLine Standard (codes "RIPEMD320 (abc) = " ++ digits_of R320) R320 (digest_of R320) (codes "abc")
   pub no_blanks : IsLineOf (codes "abc") (codes "RMD160(abc)=" ++ digits_of R160)
   pub more_blanks : IsLineOf (codes "abc") (codes "  RMD160 (abc)   =\t" ++ digits_of R160)
-  pub upper_case : IsLineOf (codes "abc") (codes "RMD160 (abc) = 8EB208F7E05D987A9B044A8E98C6B087F15A0BFC")
   pub last_parenthesis : IsLineOf (codes "x) = y") (codes "RMD160 (x) = y) = " ++ digits_of R160)
-  pub parenthesis : IsLineOf (codes ")") (codes "RMD160 ()) = " ++ digits_of R160)
   pub no_name : IsLineOf [] (codes "RMD160 () = " ++ digits_of R160)
-  pub marked : IsLineOf (codes "b\\c") (codes "\\RMD160 (b\\\\c) = " ++ digits_of R160)
-  pub without_mark : IsLineOf (codes "b\\c") (codes "RMD160 (b\\c) = " ++ digits_of R160)
   pub in_a_reversed_list : IsLine Reversed (codes "RMD160 (abc) = " ++ digits_of R160) R160 (digest_of R160) (codes "abc")
 
 pub record ReversedLines : Type 0 where
@@ -122,7 +108,6 @@ pub record RefusedLines : Type 0 where
   pub blank : IsNoLine Standard (codes " ")
   pub comment : IsNoLine Standard (codes "#x")
   pub digits_alone : IsNoLine Standard (digits_of R160)
-  pub no_name : IsNoLine Standard (digits_then (codes "  "))
   pub tab_alone : IsNoLine Standard (digits_then (codes " \tabc"))
   pub one_digit_less : IsNoLine Standard (codes "8eb208f7e05d987a9b044a8e98c6b087f15a0bf  abc")
   pub one_digit_more : IsNoLine Standard (digits_then (codes "0  abc"))
@@ -141,16 +126,11 @@ pub record RefusedTags : Type 0 where
   pub two_equals_signs : IsNoLine Standard (codes "RMD160 (abc) == " ++ digits_of R160)
   pub not_closed : IsNoLine Standard (codes "RMD160 (abc = " ++ digits_of R160)
   pub behind_the_parenthesis : IsNoLine Standard (codes "RMD160 (abc)d = " ++ digits_of R160)
-  pub one_digit_less : IsNoLine Standard (codes "RMD160 (abc) = 8eb208f7e05d987a9b044a8e98c6b087f15a0bf")
-  pub one_digit_more : IsNoLine Standard (codes "RMD160 (abc) = " ++ digits_then (codes "0"))
   pub blank_at_the_end : IsNoLine Standard (codes "RMD160 (abc) = " ++ digits_then (codes " "))
-  pub bad_escape : IsNoLine Standard (codes "\\RMD160 (b\\c) = " ++ digits_of R160)
 
 -- a byte 0 in a name, which coreutils takes for the end of an unmarked one
 pub record Zeros : Type 0 where
   pub untagged : IsNoLine Standard (digits_then (codes "  a" ++ (0 ∷ codes "b")))
-  pub tagged : IsNoLine Standard (codes "RMD160 (a" ++ (0 ∷ (codes "b) = " ++ digits_of R160)))
-  pub marked : IsNoLine Standard (codes "\\" ++ digits_then (codes "  a" ++ (0 ∷ codes "b")))
 
 -- ---- lists of lines
 
@@ -168,15 +148,10 @@ layout_in line = layout_of None line
 
 pub record StandardLayouts : Type 0 where
   pub as_text : layout_in (digits_then (codes "  abc")) ≡ Some Standard
-  pub as_binary : layout_in (digits_then (codes " *abc")) ≡ Some Standard
   pub of128 : layout_in (digits_of R128 ++ codes "  abc") ≡ Some Standard
   pub of256 : layout_in (digits_of R256 ++ codes "  abc") ≡ Some Standard
   pub of320 : layout_in (digits_of R320 ++ codes "  abc") ≡ Some Standard
-  pub upper_case : layout_in (codes "8EB208F7E05D987A9B044A8E98C6B087F15A0BFC  abc") ≡ Some Standard
   pub behind_blanks : layout_in (codes " \t" ++ digits_then (codes "  abc")) ≡ Some Standard
-  pub tab_for_a_space : layout_in (digits_then (codes "\t abc")) ≡ Some Standard
-  pub one_byte : layout_in (digits_then (codes "  a")) ≡ Some Standard
-  pub space_in_the_name : layout_in (digits_then (codes "   abc")) ≡ Some Standard
   pub marked : layout_in (codes "\\" ++ digits_then (codes "  b\\\\c")) ≡ Some Standard
   pub bad_escape : layout_in (codes "\\" ++ digits_then (codes "  b\\c")) ≡ Some Standard
   pub zero : layout_in (digits_then (codes "  " ++ (0 ∷ codes "abc"))) ≡ Some Standard
@@ -185,26 +160,11 @@ pub record StandardLayouts : Type 0 where
 pub record ReversedLayouts : Type 0 where
   pub one_space : layout_in (digits_then (codes " abc")) ≡ Some Reversed
   pub tab : layout_in (digits_then (codes "\tabc")) ≡ Some Reversed
-  pub tab_behind_a_space : layout_in (digits_then (codes " \tabc")) ≡ Some Reversed
-  pub one_byte : layout_in (digits_then (codes " a")) ≡ Some Reversed
   pub a_space : layout_in (digits_then (codes "  ")) ≡ Some Reversed
-  pub a_star : layout_in (digits_then (codes " *")) ≡ Some Reversed
-  pub marked : layout_in (codes "\\" ++ digits_then (codes " abc")) ≡ Some Reversed
-  pub bad_escape : layout_in (codes "\\" ++ digits_then (codes " b\\c")) ≡ Some Reversed
-  pub only_this : layout_of (Some R160) (digits_then (codes " abc")) ≡ Some Reversed
 
 pub record NoLayouts : Type 0 where
   pub empty : layout_in [] ≡ None
-  pub comment : layout_in (codes "# abc") ≡ None
-  pub digits_alone : layout_in (digits_of R160) ≡ None
-  pub no_name : layout_in (digits_then (codes " ")) ≡ None
-  pub one_digit_less : layout_in (codes "8eb208f7e05d987a9b044a8e98c6b087f15a0bf  abc") ≡ None
-  pub one_digit_more : layout_in (digits_then (codes "0  abc")) ≡ None
   pub no_digit : layout_in (codes "geb208f7e05d987a9b044a8e98c6b087f15a0bfc  abc") ≡ None
-  pub no_digit_reversed : layout_in (codes "8eb208f7e05d987a9b044a8e98c6b087f15a0bfg abc") ≡ None
   pub blank_behind_the_mark : layout_in (codes "\\ " ++ digits_then (codes "  abc")) ≡ None
   pub tagged : layout_in (codes "RMD160 (abc) = " ++ digits_of R160) ≡ None
-  pub tagged_by_openssl : layout_in (codes "RIPEMD-160(abc)= " ++ digits_of R160) ≡ None
-  pub tag_alone : layout_in (codes "RMD160 abc") ≡ None
   pub only_another : layout_of (Some R128) (digits_then (codes "  abc")) ≡ None
-  pub only_another_reversed : layout_of (Some R256) (digits_then (codes " abc")) ≡ None

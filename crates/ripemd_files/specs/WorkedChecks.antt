@@ -61,11 +61,9 @@ pub record LinesOfEvents (error : Error) : Type 0 where
   pub quiet_match : says_of_a quietly Matches ≡ []
   pub quiet_difference : says_of_a quietly Differs ≡ codes "a: FAILED\n"
   pub quiet_error : says_of_a quietly (Unreadable error) ≡ codes "a: FAILED open or read\n"
-  pub no_name : line_of_event plain (checked [] (Unreadable error)) ≡ codes ": FAILED open or read\n"
   pub backslash : line_of_event plain (checked (codes "b\\c") Matches) ≡ codes "b\\c: OK\n"
   pub carriage_return : line_of_event plain (checked (codes "c\rd") Matches) ≡ codes "c\rd: OK\n"
   pub control : line_of_event plain (checked (9 ∷ 11 ∷ []) Matches) ≡ 9 ∷ 11 ∷ codes ": OK\n"
-  pub newline : line_of_event plain (checked (codes "a\nb") Differs) ≡ codes "\\a\\nb: FAILED\n"
   pub newline_and_tab : line_of_event plain (checked (codes "a\n\tb") Differs) ≡ codes "\\a\\n\tb: FAILED\n"
   pub all_special : line_of_event plain (checked (codes "a\nb\\c\rd") Matches) ≡ codes "\\a\\nb\\\\c\\rd: OK\n"
 
@@ -80,7 +78,6 @@ pub record RemarksOnEvents (error : Error) : Type 0 where
 -- a remark on a file stands before its line
 pub record ItemsOfEvents (error : Error) : Type 0 where
   pub an_error : items_of_event plain (checked [] (Unreadable error)) ≡ unreadable [] error ∷ written (codes ": FAILED open or read\n")
-  pub a_match : items_of_event plain (checked (codes "a") Matches) ≡ written (codes "a: OK\n")
 
 -- ---- counts
 
@@ -98,21 +95,11 @@ all_kinds error =
     ∷ found (Unreadable error) ∷ []
 
 pub record Tallies (error : Error) : Type 0 where
-  pub none : IsTally [] (tally 0 0 0 false false)
   pub damaged : IsTally (misformatted 1 ∷ misformatted 2 ∷ []) (tally 2 0 0 false false)
-  pub one_match : IsTally (found Matches ∷ []) (tally 0 0 0 true true)
   pub one_difference : IsTally (found Differs ∷ []) (tally 0 1 0 false true)
   pub one_error : IsTally (found (Unreadable error) ∷ []) (tally 0 0 1 false true)
   pub one_missing : IsTally (found Missing ∷ []) (tally 0 0 0 false true)
   pub all : IsTally (all_kinds error) (tally 1 2 3 true true)
-
--- counts that are not those of all kinds, each in one of them
-pub record OtherTallies (error : Error) : Type 0 where
-  pub damaged : ¬ IsTally (all_kinds error) (tally 2 2 3 true true)
-  pub differences : ¬ IsTally (all_kinds error) (tally 1 1 3 true true)
-  pub failed : ¬ IsTally (all_kinds error) (tally 1 2 4 true true)
-  pub matched : ¬ IsTally (all_kinds error) (tally 1 2 3 false true)
-  pub any : ¬ IsTally (all_kinds error) (tally 1 2 3 true false)
 
 -- lists that are too long to be counted
 pub record LongCounts (events : List Event) : Type 0 where
@@ -120,28 +107,23 @@ pub record LongCounts (events : List Event) : Type 0 where
   pub past : count_by is_misformatted events ≡ 18446744073709551616 → counted is_misformatted events ≡ 18446744073709551615
 
 pub record ClosingRemarks : Type 0 where
-  pub nothing : closing_remarks plain (tally 0 0 0 true true) ≡ []
   pub damaged : closing_remarks plain (tally 2 0 0 true true) ≡ about_list (complaints.MisformattedLines 2) ∷ []
   pub errors : closing_remarks plain (tally 0 0 2 false true) ≡ about_list (complaints.UnreadableFiles 2) ∷ []
   pub differences : closing_remarks plain (tally 0 2 0 false true) ≡ about_list (complaints.Mismatches 2) ∷ []
   pub none_verified : closing_remarks ignoring (tally 0 0 0 false true) ≡ about_list complaints.NothingVerified ∷ []
   pub one_verified : closing_remarks ignoring (tally 0 0 0 true true) ≡ []
-  pub none_ignored : closing_remarks plain (tally 0 0 0 false true) ≡ []
   pub in_order : closing_remarks ignoring (tally 1 2 3 false true)
       ≡ about_list (complaints.MisformattedLines 1) ∷ about_list (complaints.UnreadableFiles 3) ∷ about_list (complaints.Mismatches 2)
       ∷ about_list complaints.NothingVerified ∷ []
-  pub no_lines : closing_remarks plain (tally 0 0 0 false false) ≡ about_list complaints.NoLines ∷ []
   pub no_lines_but_damaged : closing_remarks ignoring (tally 1 0 0 false false) ≡ about_list complaints.NoLines ∷ []
 
 pub record Answers : Type 0 where
-  pub all_match : is_success plain (tally 0 0 0 true true) ≡ true
   pub no_lines : is_success plain (tally 0 0 0 false false) ≡ false
   pub one_differs : is_success plain (tally 0 1 0 true true) ≡ false
   pub one_unreadable : is_success plain (tally 0 0 1 true true) ≡ false
   pub damaged : is_success plain (tally 1 0 0 true true) ≡ true
   pub strictly_damaged : is_success strictly (tally 1 0 0 true true) ≡ false
   pub strictly_all_match : is_success strictly (tally 0 0 0 true true) ≡ true
-  pub ignoring_one : is_success ignoring (tally 0 0 0 true true) ≡ true
   pub ignoring_all : is_success ignoring (tally 0 0 0 false true) ≡ false
   pub ignoring_damaged : is_success ignoring (tally 1 0 0 true true) ≡ true
 
@@ -163,15 +145,12 @@ pub record PassedOver : Type 0 where
   pub semicolon : is_passed_over (codes ";..") ≡ false
   pub empty : is_passed_over [] ≡ true
   pub carriage_return : is_passed_over (codes "\r") ≡ true
-  pub two_carriage_returns : is_passed_over (codes "\r\r") ≡ false
   pub blank : is_passed_over (codes " ") ≡ false
   pub behind_a_blank : is_passed_over (codes " #") ≡ false
   pub text : is_passed_over (codes "a\r") ≡ false
 
 pub record Bodies : Type 0 where
   pub empty : body_of_line [] ≡ []
-  pub no_carriage_return : body_of_line (codes "ab") ≡ codes "ab"
-  pub carriage_return : body_of_line (codes "ab\r") ≡ codes "ab"
   pub one_of_two : body_of_line (codes "ab\r\r") ≡ codes "ab\r"
   pub inside : body_of_line (codes "a\rb") ≡ codes "a\rb"
 
@@ -183,12 +162,7 @@ abbrev pub lines_of_128 : Rules
 lines_of_128 = record { only = Some R128; from_input = false }
 
 pub record NextLayouts : Type 0 where
-  pub first_standard : layout_after all_lines None (digits_then (codes "  abc")) ≡ Some Standard
-  pub first_reversed : layout_after all_lines None (digits_then (codes " abc")) ≡ Some Reversed
   pub later_reversed : layout_after all_lines (Some Standard) (digits_then (codes " abc")) ≡ Some Standard
-  pub later_standard : layout_after all_lines (Some Reversed) (digits_then (codes "  abc")) ≡ Some Reversed
-  pub tagged : layout_after all_lines None (codes "RMD160 (abc) = " ++ digits_of R160) ≡ None
-  pub comment : layout_after all_lines None (codes "#" ++ digits_then (codes " abc")) ≡ None
   pub empty : layout_after all_lines (Some Reversed) [] ≡ Some Reversed
   pub ended_by_two : layout_after all_lines None (digits_then (codes "  a\r")) ≡ Some Standard
   pub no_name : layout_after all_lines None (digits_then (codes " \r")) ≡ None
@@ -212,8 +186,6 @@ pub record PrintedLines (outcome : Outcome) : Type 0 where
   pub as_binary : line_for (style Binary Newline) (codes "a") outcome ≡ codes "01ab *a\n"
   pub tagged : line_for (style Tagged Newline) (codes "a") outcome ≡ codes "RMD320 (a) = 01ab\n"
   pub text_with_zero : line_for (style Text Zero) (codes "a") outcome ≡ codes "01ab  a" ++ 0 ∷ []
-  pub binary_with_zero : line_for (style Binary Zero) (codes "a") outcome ≡ codes "01ab *a" ++ 0 ∷ []
-  pub tagged_with_zero : line_for (style Tagged Zero) (codes "a") outcome ≡ codes "RMD320 (a) = 01ab" ++ 0 ∷ []
   pub special : line_for (style Text Newline) (codes "b\\c") outcome ≡ codes "\\01ab  b\\\\c\n"
   pub remarks : remarks_on (codes "a") outcome ≡ []
   pub read : was_read outcome ≡ true

@@ -8,7 +8,7 @@ ghost use Rattle.ripemd_files.specs.Determined.{IsKnown, Print, Report, Start};
 ghost use Rattle.ripemd_files.specs.Said.{Item};
 ghost use Rattle.ripemd_files.specs.Files.{IsDigest};
 ghost use Rattle.ripemd_files.specs.Checking.{Event};
-ghost use Rattle.ripemd_files.specs.WorkedChecks.{DigestVerdicts, ErrorVerdicts, ItemsOfEvents, LinesOfEvents, RemarksOnEvents, Tallies, OtherTallies, LongCounts, ClosingRemarks, Answers, OptionLaws, PassedOver, Bodies, NextLayouts, Wanted, PrintedLines, PrintedErrors, KnownFolders};
+ghost use Rattle.ripemd_files.specs.WorkedChecks.{DigestVerdicts, ErrorVerdicts, ItemsOfEvents, LinesOfEvents, RemarksOnEvents, Tallies, LongCounts, ClosingRemarks, Answers, OptionLaws, PassedOver, Bodies, NextLayouts, Wanted, PrintedLines, PrintedErrors, KnownFolders};
 
 use crate::folder::Folder;
 
@@ -46,7 +46,6 @@ pub fn worked_events()
 /// What is counted, said at the end, and answered.
 pub fn worked_counts()
     ensures tallies { (error : Error) → Tallies error }
-    ensures others { (error : Error) → OtherTallies error }
     ensures long { (events : List Event) → LongCounts events }
     ensures remarks { ClosingRemarks }
     ensures answers { Answers }
