@@ -86,10 +86,6 @@ module _ (kinds : Rules) (layout : Option Layout) (form : Form) (variant : Varia
     match_gives matches =
         same_digest place (ripemd (parameters_of variant)) name digest message refl ignore_missing event.2 came_to (sym is_verdict ∙ matches)
 
-none_found : {S T : Type 0} (wrap : S → T) (found : Option S) (answer : Option T)
-    → MatchOption found (answer ≡ None) (λ c. IsSomeAnd answer (λ m. m ≡ wrap c)) → IsNone answer → IsNone found
-none_found wrap found answer is nothing = grind (arith, is, nothing)
-
 -- a file that gives no other message matches, and there is no collision: it gave the printed one
 pub equal_messages : {File S T : Type 0} (place : Place File) (variant one : Variant) (message given : List ℕ) (wrap : S → T) (collision : Option S)
     (answer : Option T) → variant ≡ one
@@ -100,6 +96,6 @@ pub equal_messages : {File S T : Type 0} (place : Place File) (variant one : Var
     → ((m : List ℕ) → Gives (place.opens name) place.left m → m ≡ given) → IsNone answer → message ≡ given
 equal_messages place variant one message given wrap collision answer is none cases rules layout form name found ignore_missing number printed event gave nothing =
     let gives = match_gives rules layout form variant message name printed place ignore_missing number found _ event refl in
-    grind (arith, none.0 (none_found wrap collision answer cases nothing), is, gives.2, gave gives.0 gives.1)
+    grind (arith, none.0, cases, nothing, is, gives.2, gave gives.0 gives.1)
 
 pub ruleset digests = (length-ripemd, bytes-ripemd)

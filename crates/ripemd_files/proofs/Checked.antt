@@ -7,7 +7,7 @@ use Rattle.ripemd_files.specs.Types.{Fault, Write, NoMemory, TooManyLines, Line,
 use Rattle.ripemd_files.specs.Files.{OfFirst, Place, ComesTo, parameters_of}
 use Rattle.ripemd_files.specs.Said.{Explains, Stops, Tells, Told}
 use Rattle.ripemd_files.specs.Splitting.{IsEnded, IsWhole, ListState, lines_of}
-use Rattle.ripemd_files.specs.Checking.{Counts, Event, IsEventOf, IsNamed, IsOutcomeOf, IsTally, checked, counted, has_verdict, is_difference, is_match, is_misformatted, is_unreadable, items_of_event, verdict_of}
+use Rattle.ripemd_files.specs.Checking.{Counts, Event, IsEventOf, IsNamed, IsOutcomeOf, IsTally, checked, items_of_event, verdict_of}
 use Rattle.ripemd_files.specs.Groups.{ChecksFirst, ChecksLines, ChecksSoFar, EndsAs, ExplainsReading, ReadsGroup, StopsReading, misformatted_events}
 use Rattle.ripemd_files.specs.Lists.{ChecksList, IsReport, Reaches, Reports, StopsList, last_remarks, layout_behind, succeeds}
 use Rattle.ripemd_files.proofs.Cutting.{cut, ended_since, whole_more}
@@ -18,13 +18,7 @@ use Rattle.ripemd_files.proofs.Zips.{all_zip_at, first_of}
 -- some events have counts
 some_tally : (events : List Event) → (tally : Tally) × IsTally events tally
 some_tally events = (
-  record {
-    misformatted = counted is_misformatted events;
-    differing = counted (has_verdict is_difference) events;
-    unreadable = counted (has_verdict is_unreadable) events;
-    matched = list_any (has_verdict is_match) events;
-    checked = list_any (has_verdict (λ verdict. true)) events;
-  },
+  record { misformatted = _; differing = _; unreadable = _; matched = _; checked = _ },
   record { misformatted = refl; differing = refl; unreadable = refl; matched = refl; checked = refl },
 )
 

@@ -146,20 +146,13 @@ module _ (kinds : Rules) (old now next : Option (List ℕ)) (before cursor : Cur
 
   -- a line that can't be counted, or for which there is no memory
   module _ (text : List ℕ) (fault : Fault) (why : ExplainsReading (cursor.number + 1) [] fault) where
-    stops : (tail : List ℕ) → lines_of tail ≡ text ∷ [] → Consumes now next tail → StopsReading old next before.number fault
+    pub stops : (tail : List ℕ) → lines_of tail ≡ text ∷ [] → Consumes now next tail → StopsReading old next before.number fault
     unfolding lines_of
     stops tail is_line read = record {
       bytes = so_far.bytes ++ tail;
       consumed = Consumes-trans old now next so_far.bytes tail taken read;
       why = grind (arith, why, so_far.numbered, cut so_far.bytes tail whole, length-append, is_line);
     }
-
-    pub stops_at_line : IsPiece 10 now next text pieces.Whole → StopsReading old next before.number fault
-    unfolding lines_of
-    stops_at_line piece = stops (text ++ 10 ∷ []) (lines_first text [] piece.1) piece.0
-
-    pub stops_at_last : IsPiece 10 now next text pieces.Last → StopsReading old next before.number fault
-    stops_at_last (read, ended, filled, one) = stops text (lines_last text one filled) read
 
   pub stops_reading : ReadsOn now next → StopsReading old next before.number NoMemory
   stops_reading (more, read) = record { bytes = so_far.bytes ++ more; consumed = Consumes-trans old now next so_far.bytes more taken read; why = tt }
@@ -183,8 +176,11 @@ module _ (kinds : Rules) (old now : Option (List ℕ)) (state : ListState) (befo
   -- a line that can't be taken
   pub stops_piece : (piece : Piece) → (piece ≡ pieces.Whole) ⊎ (piece ≡ pieces.Last) → IsPiece 10 now state.left text piece
       → (fault : Fault) → ExplainsReading (cursor.number + 1) [] fault → StopsReading old state.left before.number fault
-  stops_piece piece (inl is) given fault why = stops_at_line _ _ _ _ _ _ _ so_far whole text fault why (rw is at given)
-  stops_piece piece (inr is) given fault why = stops_at_last _ _ _ _ _ _ _ so_far whole text fault why (rw is at given)
+  unfolding lines_of
+  stops_piece piece (inl is) given fault why =
+      let (read, one) = rw is at given in stops _ _ _ _ _ _ _ so_far whole text fault why (text ++ 10 ∷ []) (lines_first text [] one) read
+  stops_piece piece (inr is) given fault why =
+      let (read, ended, filled, one) = rw is at given in stops _ _ _ _ _ _ _ so_far whole text fault why text (lines_last text one filled) read
 
   -- no line, at the end of the list or after a failed read
   pub ends_list : (piece : Piece) → (piece ≡ pieces.Nothing) ⊎ ((error : Error) × (piece ≡ pieces.Failed error)) → ¬ (stage_after piece ≡ Among)

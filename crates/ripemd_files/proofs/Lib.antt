@@ -9,7 +9,6 @@ pub mod InTurn
 pub mod Printed
 pub mod Checked
 pub mod Cutting
-pub mod Layouts
 pub mod Listed
 pub mod Grouped
 pub mod Sizes

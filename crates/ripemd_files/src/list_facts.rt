@@ -26,7 +26,7 @@ pub fn list_layouts()
 {}
 
 /// A line's layout is found, and no other; the standard one, if it has both.
-#[tactic(auto, using(crate::proofs::Layouts::finding))]
+#[tactic(auto, using(crate::proofs::Sayings::finding))]
 pub fn found_layouts()
     ensures found { (only : Option Variant) (layout : Layout) (line : List ℕ) → layout_of only line ≡ Some layout → HasLayout only layout line }
     ensures standard { (only : Option Variant) (line : List ℕ) → HasLayout only Standard line → layout_of only line ≡ Some Standard }
