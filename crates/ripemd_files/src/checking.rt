@@ -1,6 +1,6 @@
 //! The check of a list.
 
-ghost use Rattle.std.specs.Prelude.{◌≡◌, ◌&&◌, not, ◌<◌, ◌++◌, [], ◌∷◌, flat_map, get_or, length, IfErr, IfOk, IsErr, None, OnOk, List};
+ghost use Rattle.std.specs.Prelude.{◌≡◌, ◌<◌, ◌++◌, [], ◌∷◌, flat_map, get_or, length, IfErr, IfOk, IsErr, None, OnOk, List};
 ghost use Rattle.std.specs.List.{AllZip};
 ghost use Rattle.ripemd_batch.specs.Lanes.{targets};
 ghost use Rattle.ripemd_files.specs.Types.{Among};
@@ -166,14 +166,8 @@ fn remark_counts<L: Log>(options: Options, tally: &Tally, log: &mut L) -> Result
     remark_if(log, tally.unreadable != 0, unreadable)?;
     let differing = Complaint::Mismatches(tally.differing);
     remark_if(log, tally.differing != 0, differing)?;
-    let nothing = verified_nothing(options, tally);
+    let nothing = options.ignore_missing && !tally.matched;
     remark_if(log, nothing, Complaint::NothingVerified)
-}
-
-fn verified_nothing(options: Options, tally: &Tally) -> bool
-    ensures { result ≡ options.ignore_missing && not tally.now.matched }
-{
-    options.ignore_missing && !tally.matched
 }
 
 fn remark<L: Log>(log: &mut L, complaint: Complaint) -> Result<(), Fault>

@@ -45,10 +45,9 @@ fn fill<F: Folder>(folder: &F, file: &mut F::File, buffer: &mut [u8]) -> Result<
 {
     let mut count = 0;
     while count < buffer.len() {
-        match folder.read(file, &mut buffer[count..]) {
-            Ok(0) => return Ok(count),
-            Ok(more) => count += more,
-            Err(error) => return Err(error),
+        match folder.read(file, &mut buffer[count..])? {
+            0 => return Ok(count),
+            more => count += more,
         }
     }
     Ok(count)
@@ -73,13 +72,12 @@ fn hash_rest<D: Digest, F: Folder>(
     let mut hasher = D::new_with_prefix(buffer);
     let mut length = buffer.len() as u64;
     while length < TOO_LONG {
-        match folder.read(file, buffer) {
-            Ok(0) => return Ok(hasher.finalize()),
-            Ok(count) => {
+        match folder.read(file, buffer)? {
+            0 => return Ok(hasher.finalize()),
+            count => {
                 hasher.update(&buffer[..count]);
                 length += count as u64;
             }
-            Err(error) => return Err(error),
         }
     }
     Err(too_large())
@@ -139,10 +137,7 @@ fn read_files<D: Digest, F: Folder>(
 {
     let mut contents = Vec::with_capacity(alloc, FILES_AT_ONCE)?;
     for name in names {
-        if contents.len() == FILES_AT_ONCE {
-            return Ok(contents);
-        }
-        let short = folder.is_short(name);
+        let short = contents.len() < FILES_AT_ONCE && folder.is_short(name);
         if !short && !contents.is_empty() {
             return Ok(contents);
         }

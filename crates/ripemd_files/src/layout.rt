@@ -8,26 +8,17 @@ ghost use Rattle.ripemd_files.specs.Reading.{has_digits, is_wanted_length, untag
 use crate::line::{Layout, Variant};
 use crate::reading::untagged_parts;
 
-fn is_digit(byte: u8) -> bool
-    ensures { result ≡ is_hex_digit byte }
-{
-    byte.is_ascii_hexdigit()
-}
-
 fn are_digits(text: &[u8]) -> bool
     ensures { result ≡ list_all is_hex_digit text.now }
 {
-    text.iter().all(|byte| is_digit(*byte))
+    text.iter().all(|byte| byte.is_ascii_hexdigit())
 }
 
 // Whether so many digits count.
 fn has_wanted_length(only: Option<Variant>, count: usize) -> bool
     ensures { result ≡ is_wanted_length only count }
 {
-    match only {
-        None => true,
-        Some(variant) => count == 2 * variant.digest_size(),
-    }
+    only.is_none_or(|variant| count == 2 * variant.digest_size())
 }
 
 // Whether a body has digits that count and a name, in this layout.

@@ -75,8 +75,7 @@ fn print_groups<F: Folder, L: Log>(
         let outcomes = read_digests(alloc, folder, style.variant, &names[start..], buffer)?;
         let end = start + outcomes.len();
         let group = &names[start..end];
-        let read = print_outcomes(alloc, folder, style, group, outcomes.as_slice(), log)?;
-        all &= read;
+        all &= print_outcomes(alloc, folder, style, group, outcomes.as_slice(), log)?;
         start = end;
     }
     Ok(all)
@@ -107,8 +106,7 @@ fn print_outcomes<F: Folder, L: Log>(
     let mut all = true;
     for k in 0..outcomes.len() {
         let name = names[k];
-        let read = print_outcome(alloc, style, name, &outcomes[k], &mut lines, log)?;
-        all &= read;
+        all &= print_outcome(alloc, style, name, &outcomes[k], &mut lines, log)?;
     }
     put(log, lines.as_slice())?;
     Ok(all)

@@ -9,26 +9,18 @@ use crate::printing::Style;
 use std::alloc::{AllocError, Global};
 
 // Whether a byte is escaped.
-fn is_special_byte(byte: u8) -> bool
-    ensures { result ≡ is_special byte }
-{
-    byte == b'\\' || byte == b'\n' || byte == b'\r'
-}
-
 fn has_special(name: &[u8]) -> bool
     ensures { result ≡ list_any is_special name.now }
 {
-    name.iter().any(|byte| is_special_byte(*byte))
+    name.iter()
+        .any(|byte| matches!(byte, b'\\' | b'\n' | b'\r'))
 }
 
 // Whether a line is marked, and its name escaped.
 fn needs_mark(ending: Ending, name: &[u8]) -> bool
     ensures { result ≡ is_marked ending name.now }
 {
-    match ending {
-        Ending::Newline => has_special(name),
-        Ending::Zero => false,
-    }
+    ending == Ending::Newline && has_special(name)
 }
 
 fn push_escaped(line: &mut Vec<u8>, byte: u8) -> Result<(), AllocError>

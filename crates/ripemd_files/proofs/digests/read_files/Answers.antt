@@ -3,10 +3,6 @@ use Rattle.ripemd_batch.specs.Lanes.{targets}
 use Rattle.ripemd_files.proofs.Zips.{all_first, all_zip_map_next, first_of}
 use Rattle.ripemd_files.proofs.digests.read_files.Goals as goal
 
-pub returns-then-len-eq-FILES_AT_ONCE : goal.returns-then-len-eq-FILES_AT_ONCE
-returns-then-len-eq-FILES_AT_ONCE g c =
-    first_of _ c.loop-name.name-index _ _ (rw length-map (omega (arith, c.loop-name-test.true))) c.loop-name.invariant.each (λ _. search rules)
-
 pub returns-then-not-is_empty : goal.returns-then-not-is_empty
 returns-then-not-is_empty g c =
     first_of _ c.loop-name.name-index _ _ (rw length-map (omega (arith, c.loop-name-test.true))) c.loop-name.invariant.each (λ _. search rules)

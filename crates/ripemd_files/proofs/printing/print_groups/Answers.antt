@@ -15,13 +15,13 @@ print_outcomes-requires g c = record {
 pub returns-in_err-outcomes-clause-err : goal.returns-in_err-outcomes-clause-err
 returns-in_err-outcomes-clause-err g c = search (rules, first_all read_none read_more _ _ c.loop-start.invariant.printed)
 
-pub returns-in_err-read-clause-err : goal.returns-in_err-read-clause-err
-returns-in_err-read-clause-err g c =
-    search (rules, first_on read_none read_more _ _ c.loop-start.invariant.printed _ _ _ (rw (← take-map, ← drop-map) at c.in_err-read.ensures.err))
+pub returns-in_err-all-clause-err : goal.returns-in_err-all-clause-err
+returns-in_err-all-clause-err g c =
+    search (rules, first_on read_none read_more _ _ c.loop-start.invariant.printed _ _ _ (rw (← take-map, ← drop-map) at c.in_err-all.ensures.err))
 
 pub loop-start-preserved : goal.loop-start-preserved
 loop-start-preserved g c = record {
   printed = each_on read_none read_more _ _ c.loop-start.invariant.printed _ _ _ (omega arith)
-      (prints_after (g.F.Folder.place c.args.folder.now) _ _ _ _ _ _ (rw (← take-map, ← drop-map) at c.in_ok-read.ensures.ok));
+      (prints_after (g.F.Folder.place c.args.folder.now) _ _ _ _ _ _ (rw (← take-map, ← drop-map) at c.in_ok-all.ensures.ok));
   within = (first_from _ c.args.names.now _ c.loop-start.start c.len.result c.loop-start.invariant.within (search rules) c.in_ok-outcomes.ensures).0;
 }

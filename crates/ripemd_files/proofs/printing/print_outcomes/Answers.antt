@@ -16,14 +16,14 @@ loop-k-preserved g c =
     let is_name = get_or-map (λ r. r.now) c.args.names.now c.loop-k.k _ _ (omega (arith, within, length-map c.args.names.now (λ r. r.now))) in
     so_far_next read_none read_more _ _ c.loop-k.invariant _ _ within is_name
     (reading_at (g.F.Folder.place c.args._folder.now) c.args.style _ _ c.requires.read _ _ _ c.loop-k-test.true is_name c.index-outcomes-k.is)
-    _ _ _ c.in_ok-read.ensures.told (read_one _ _ _ c.in_ok-read.ensures.read)
+    _ _ _ c.in_ok-all.ensures.told (read_one _ _ _ c.in_ok-all.ensures.read)
 
-pub returns-in_err-read-clause-err : goal.returns-in_err-read-clause-err
-returns-in_err-read-clause-err g c =
+pub returns-in_err-all-clause-err : goal.returns-in_err-all-clause-err
+returns-in_err-all-clause-err g c =
     let within : c.loop-k.k < length (targets c.args.names.now) = omega (arith, c.loop-k-test.true, AllZip-long _ _ _ c.requires.read) in
     let is_name = get_or-map (λ r. r.now) c.args.names.now c.loop-k.k _ _ (omega (arith, within, length-map c.args.names.now (λ r. r.now))) in
     let stops = first_next read_none read_more _ _ c.loop-k.invariant _ _ within is_name
-    (reading_at (g.F.Folder.place c.args._folder.now) c.args.style _ _ c.requires.read _ _ _ c.loop-k-test.true is_name c.index-outcomes-k.is) _ _ c.in_err-read.ensures.err in
+    (reading_at (g.F.Folder.place c.args._folder.now) c.args.style _ _ c.requires.read _ _ _ c.loop-k-test.true is_name c.index-outcomes-k.is) _ _ c.in_err-all.ensures.err in
     search (rules, stops)
 
 pub returns-in_err-put-clause-err : goal.returns-in_err-put-clause-err
