@@ -79,6 +79,7 @@ pub record MarkedLines : Type 0 where
   pub carriage_return : IsLineOf (codes "c\rr") (codes "\\" ++ digits_then (codes "  c\\rr"))
   pub not_escaped : IsLineOf (codes "c\rr") (codes "\\" ++ digits_then (codes "  c\rr"))
   pub no_special_byte : IsLineOf (codes "abc") (codes "\\" ++ digits_then (codes "  abc"))
+  pub behind_a_blank : IsLineOf (codes "b\\c") (codes " \\" ++ digits_then (codes "  b\\\\c"))
   pub without_mark : IsLineOf (codes "b\\c") (digits_then (codes "  b\\c"))
 
 pub record TaggedLines : Type 0 where
@@ -92,6 +93,8 @@ pub record TaggedLines : Type 0 where
   pub more_blanks : IsLineOf (codes "abc") (codes "  RMD160 (abc)   =\t" ++ digits_of R160)
   pub last_parenthesis : IsLineOf (codes "x) = y") (codes "RMD160 (x) = y) = " ++ digits_of R160)
   pub no_name : IsLineOf [] (codes "RMD160 () = " ++ digits_of R160)
+  pub marked : IsLineOf (codes "b\\c") (codes "\\RMD160 (b\\\\c) = " ++ digits_of R160)
+  pub without_mark : IsLineOf (codes "b\\c") (codes "RMD160 (b\\c) = " ++ digits_of R160)
   pub in_a_reversed_list : IsLine Reversed (codes "RMD160 (abc) = " ++ digits_of R160) R160 (digest_of R160) (codes "abc")
 
 pub record ReversedLines : Type 0 where
@@ -108,6 +111,7 @@ pub record RefusedLines : Type 0 where
   pub blank : IsNoLine Standard (codes " ")
   pub comment : IsNoLine Standard (codes "#x")
   pub digits_alone : IsNoLine Standard (digits_of R160)
+  pub no_name : IsNoLine Standard (digits_then (codes "  "))
   pub tab_alone : IsNoLine Standard (digits_then (codes " \tabc"))
   pub one_digit_less : IsNoLine Standard (codes "8eb208f7e05d987a9b044a8e98c6b087f15a0bf  abc")
   pub one_digit_more : IsNoLine Standard (digits_then (codes "0  abc"))
@@ -127,10 +131,13 @@ pub record RefusedTags : Type 0 where
   pub not_closed : IsNoLine Standard (codes "RMD160 (abc = " ++ digits_of R160)
   pub behind_the_parenthesis : IsNoLine Standard (codes "RMD160 (abc)d = " ++ digits_of R160)
   pub blank_at_the_end : IsNoLine Standard (codes "RMD160 (abc) = " ++ digits_then (codes " "))
+  pub bad_escape : IsNoLine Standard (codes "\\RMD160 (b\\c) = " ++ digits_of R160)
 
 -- a byte 0 in a name, which coreutils takes for the end of an unmarked one
 pub record Zeros : Type 0 where
   pub untagged : IsNoLine Standard (digits_then (codes "  a" ++ (0 ∷ codes "b")))
+  pub tagged : IsNoLine Standard (codes "RMD160 (a" ++ (0 ∷ (codes "b) = " ++ digits_of R160)))
+  pub marked : IsNoLine Standard (codes "\\" ++ digits_then (codes "  a" ++ (0 ∷ codes "b")))
 
 -- ---- lists of lines
 

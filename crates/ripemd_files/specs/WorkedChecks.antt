@@ -95,6 +95,7 @@ all_kinds error =
     ∷ found (Unreadable error) ∷ []
 
 pub record Tallies (error : Error) : Type 0 where
+  pub none : IsTally [] (tally 0 0 0 false false)
   pub damaged : IsTally (misformatted 1 ∷ misformatted 2 ∷ []) (tally 2 0 0 false false)
   pub one_difference : IsTally (found Differs ∷ []) (tally 0 1 0 false true)
   pub one_error : IsTally (found (Unreadable error) ∷ []) (tally 0 0 1 false true)
@@ -107,6 +108,7 @@ pub record LongCounts (events : List Event) : Type 0 where
   pub past : count_by is_misformatted events ≡ 18446744073709551616 → counted is_misformatted events ≡ 18446744073709551615
 
 pub record ClosingRemarks : Type 0 where
+  pub nothing : closing_remarks plain (tally 0 0 0 true true) ≡ []
   pub damaged : closing_remarks plain (tally 2 0 0 true true) ≡ about_list (complaints.MisformattedLines 2) ∷ []
   pub errors : closing_remarks plain (tally 0 0 2 false true) ≡ about_list (complaints.UnreadableFiles 2) ∷ []
   pub differences : closing_remarks plain (tally 0 2 0 false true) ≡ about_list (complaints.Mismatches 2) ∷ []
@@ -115,6 +117,7 @@ pub record ClosingRemarks : Type 0 where
   pub in_order : closing_remarks ignoring (tally 1 2 3 false true)
       ≡ about_list (complaints.MisformattedLines 1) ∷ about_list (complaints.UnreadableFiles 3) ∷ about_list (complaints.Mismatches 2)
       ∷ about_list complaints.NothingVerified ∷ []
+  pub no_lines : closing_remarks plain (tally 0 0 0 false false) ≡ about_list complaints.NoLines ∷ []
   pub no_lines_but_damaged : closing_remarks ignoring (tally 1 0 0 false false) ≡ about_list complaints.NoLines ∷ []
 
 pub record Answers : Type 0 where
@@ -145,6 +148,7 @@ pub record PassedOver : Type 0 where
   pub semicolon : is_passed_over (codes ";..") ≡ false
   pub empty : is_passed_over [] ≡ true
   pub carriage_return : is_passed_over (codes "\r") ≡ true
+  pub two_carriage_returns : is_passed_over (codes "\r\r") ≡ false
   pub blank : is_passed_over (codes " ") ≡ false
   pub behind_a_blank : is_passed_over (codes " #") ≡ false
   pub text : is_passed_over (codes "a\r") ≡ false
@@ -163,6 +167,7 @@ lines_of_128 = record { only = Some R128; from_input = false }
 
 pub record NextLayouts : Type 0 where
   pub later_reversed : layout_after all_lines (Some Standard) (digits_then (codes " abc")) ≡ Some Standard
+  pub later_standard : layout_after all_lines (Some Reversed) (digits_then (codes "  abc")) ≡ Some Reversed
   pub empty : layout_after all_lines (Some Reversed) [] ≡ Some Reversed
   pub ended_by_two : layout_after all_lines None (digits_then (codes "  a\r")) ≡ Some Standard
   pub no_name : layout_after all_lines None (digits_then (codes " \r")) ≡ None

@@ -4,7 +4,6 @@ ghost use Rattle.ripemd_mac.specs.Worked.{WorkedTags, WorkedSaved, WorkedKeys, W
 
 /// The definition gives the tags of RFC 2286 under keys shorter and longer than a block, and OpenSSL's under a key of a
 /// block.
-#[tactic(auto, unfolding(ripemd_block::specs::Standard::Compression::registers_after, ripemd_block::specs::Standard::Compression::lines_after, ripemd_block::specs::Standard::Compression::compress, ripemd_block::specs::Standard::Hashing::with_padding, ripemd_block::specs::Standard::Hashing::blocks, ripemd_block::specs::Standard::Hashing::hash, crate::specs::Hmac::key_block, crate::specs::Hmac::inner_message, crate::specs::Hmac::outer_message, crate::specs::Hmac::hmac))]
 pub fn tags()
     ensures { WorkedTags }
 {}
