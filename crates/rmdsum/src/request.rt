@@ -1,7 +1,7 @@
 //! What the program is to do, by what its arguments say.
 
 ghost use Rattle.std.specs.Prelude.{◌≡◌, List, [], ◌∷◌, IfOk, MatchResult, map, option_map, vec_items, codes};
-ghost use Rattle.rmdsum.specs.Options.{Said, is};
+ghost use Rattle.rmdsum.specs.Options.{Said};
 ghost use Rattle.rmdsum.specs.Asked.{Holds, Asks, IsRefused, IsExtra, conflict, excluded, needs_check, form_of, options_of, AreNames, or_input};
 
 use crate::refusals::Misuse;
@@ -94,7 +94,7 @@ impl Settings {
     fn conflict(&self) -> Option<Misuse>
         ensures { (words : List Said) → Holds words self.now → result ≡ conflict words }
     {
-        if self.tag && is(Flag::Text, self.mode) {
+        if self.tag && self.mode == Some(Flag::Text) {
             Some(Misuse::TextWithTag)
         } else if self.check {
             self.conflict_with_check()
@@ -133,10 +133,10 @@ impl Settings {
     {
         Options {
             ignore_missing: self.ignore_missing,
-            quiet: is(Flag::Quiet, self.telling),
-            status: is(Flag::Status, self.telling),
+            quiet: self.telling == Some(Flag::Quiet),
+            status: self.telling == Some(Flag::Status),
             strict: self.strict,
-            warn: is(Flag::Warn, self.telling),
+            warn: self.telling == Some(Flag::Warn),
         }
     }
 
@@ -145,7 +145,7 @@ impl Settings {
     {
         if self.tag {
             Form::Tagged
-        } else if is(Flag::Binary, self.mode) {
+        } else if self.mode == Some(Flag::Binary) {
             Form::Binary
         } else {
             Form::Text
@@ -187,16 +187,6 @@ impl Settings {
             }),
             Err(misuse) => Err(misuse),
         })
-    }
-}
-
-// Whether this is the option, by its name.
-fn is(flag: Flag, given: Option<Flag>) -> bool
-    ensures { result ≡ is flag given }
-{
-    match given {
-        Some(other) => flag.long_name() == other.long_name(),
-        None => false,
     }
 }
 
