@@ -1,7 +1,6 @@
 -- Hash states and HMAC states as callers have them, a mark and the bytes that they are kept as, and what the calls that
 -- take them do.
-use Rattle.std.specs.Prelude.{◌≡◌, ◌↔◌, ℕ, ◌+◌, ◌-◌, ◌*◌, List, [], ◌++◌, length, drop, Bool, IsTrue, IsFalse, ⊤}
-use Rattle.std.specs.Prelude.{slice_index, slice_range}
+use Rattle.std.specs.Prelude.{◌≡◌, ◌↔◌, ℕ, ◌+◌, ◌-◌, ◌*◌, List, [], ◌++◌, length, drop, Bool, IsTrue, IsFalse, ⊤, slice_index, slice_range}
 use Rattle.ripemd.specs.Standard.{word_bytes, Parameters, compress, ripemd}
 use Rattle.ripemd.specs.States.{HashState, AreWords, IsState, new_state, fed, finish, hasher_bytes}
 use Rattle.ripemd_mac.specs.Hmac.{KeyedState, hmac, keyed_state, fed_text, tag_of}

@@ -8,8 +8,7 @@ use Rattle.ripemd_c.specs.KeptBytes.{cleared, cleared_hmac}
 use Rattle.ripemd_c.specs.Variants.{Refuses, WritesDigest, WritesTag, VerifiesTag}
 use Rattle.ripemd_c.specs.Pbkdf2.{FillsKey, DerivesKey, FillsKeys, DerivesKeys}
 use Rattle.ripemd_c.specs.Records.{WritesDigests, WritesTags, WritesEachDigest, WritesEachTag}
-use Rattle.ripemd_c.specs.KeptStates.{InitsState, UpdatesState, FinalizesState, LoadsState, SavesState}
-use Rattle.ripemd_c.specs.KeptStates.{InitsHmac, UpdatesHmac, FinalizesHmac, VerifiesHmac, LoadsHmac, SavesHmac}
+use Rattle.ripemd_c.specs.KeptStates.{InitsState, UpdatesState, FinalizesState, LoadsState, SavesState, InitsHmac, UpdatesHmac, FinalizesHmac, VerifiesHmac, LoadsHmac, SavesHmac}
 
 -- a call that does this fills a place of so many bytes with an output
 abbrev pub Gives : (Does : (old new : List ℕ) → Bool → Type 0) → (size : ℕ) → (output : List ℕ) → Type 0

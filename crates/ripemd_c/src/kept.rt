@@ -8,8 +8,7 @@ ghost use Rattle.ripemd.specs.States.{HashState, IsHashState, core_and_tail, fed
 ghost use Rattle.ripemd_mac.specs.Hmac.{keyed_state};
 ghost use Rattle.ripemd_mac.specs.Saved.{IsKeyedState, hmac_bytes};
 ghost use Rattle.ripemd_c.specs.KeptBytes.{HasTail, IsAppended, cleared, cleared_hmac};
-ghost use Rattle.ripemd.specs.Laws.{fed_nothing_at_first};
-ghost use Rattle.ripemd.specs.Laws.{core_and_tail_injective};
+ghost use Rattle.ripemd.specs.Laws.{fed_nothing_at_first, core_and_tail_injective};
 ghost use Rattle.ripemd_mac.specs.Laws.{fed_nothing, hmac_bytes_injective};
 
 use ripemd::block_api::{BlockCore, ByteArray, SerializableState, update_saved, write_short};

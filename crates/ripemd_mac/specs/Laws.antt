@@ -6,8 +6,7 @@ use Rattle.ripemd.specs.States.{HashState, initial_state, fed, core_and_tail}
 use Rattle.ripemd.specs.OverLists.{IsInjectiveOutput}
 use Rattle.ripemd.specs.Laws as laws
 use Rattle.ripemd.specs.Laws.{length-core_and_tail, core_and_tail_injective}
-use Rattle.ripemd_mac.specs.Hmac.{key_block, masked, inner_message, outer_message, hmac}
-use Rattle.ripemd_mac.specs.Hmac.{KeyedState, fed_text, tag_of, keyed_state, StandsFor}
+use Rattle.ripemd_mac.specs.Hmac.{key_block, masked, inner_message, outer_message, hmac, KeyedState, fed_text, tag_of, keyed_state, StandsFor}
 use Rattle.ripemd_mac.specs.Saved.{IsKeyedState, hmac_bytes}
 
 same_states : (s t : KeyedState) → s.inner ≡ t.inner → s.outer ≡ t.outer → s ≡ t
