@@ -1,5 +1,6 @@
 -- The digest of a digest, and one more tag.
-use Rattle.ripemd_block.proofs.Library.{◌≡◌, ℕ, zero, suc, ◌+◌, ◌-◌, ◌≤◌, List, [], ◌∷◌, length, map, arith, refl, ap, ◌∙◌, bit_xor, zip2, range_with_len, fold, iterate, fold-append, map-range_with_len_more}
+use Rattle.ripemd_block.proofs.Library.{◌≡◌, ℕ, zero, suc, ◌+◌, ◌-◌, ◌≤◌, List, [], ◌∷◌, length, map, arith, refl, ap, ◌∙◌, bit_xor, zip2, range_with_len, fold, iterate, fold-append, map-range_with_len_more, fun_ext, zero-add}
+use Rattle.ripemd_block.specs.Standard.{hash}
 use Rattle.ripemd_block.specs.Laws.Blocks.{blocks_of_one}
 use Rattle.ripemd_batch.specs.Pbkdf2.{combined_tags}
 use Rattle.ripemd_batch.specs.Lanes.{padded_after, hash_after}
@@ -10,6 +11,12 @@ pub hash_of_one : (step : List ℕ → List ℕ → List ℕ) (output : List ℕ
     → output last ≡ hash_after 64 first step output message
 unfolding hash_after
 hash_of_one step output first message last size is = rw (blocks_of_one (padded_after 64 message) size) (ap output is)
+
+-- from the start it is the hash
+pub hash_after_start : (start : List ℕ) (step : List ℕ → List ℕ → List ℕ) (output : List ℕ → List ℕ)
+    → hash_after 0 start step output ≡ hash start step output
+unfolding hash_after hash
+hash_after_start start step output = fun_ext (λ m. rw (zero-add (length m)) refl)
 
 -- ---- one more tag
 

@@ -76,6 +76,7 @@ impl<D: BatchDigest> Model for ListHasher<D> {
 
 impl<D: BatchDigest> ListHasher<D> {
     /// A hasher that makes digests.
+    #[tactic(auto, using(crate::proofs::Chaining::hash_after_start))]
     pub fn new() -> ListHasher<D>
         ensures { made_by D.step D.output result ≡ hash D.start D.step D.output }
     {

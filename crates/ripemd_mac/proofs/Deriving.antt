@@ -133,6 +133,3 @@ combined_filled a b same =
     let room : 64 - length b ≡ 64 - length a = omega (arith, same) in
     let both : 64 - length (zip2 bit_xor a b) ≡ 64 - length a = omega (arith, size) in
     rw (room, both) (before_zeros a b (64 - length a) same)
-
-pub length-combined : (a b : List ℕ) → length a ≡ length b → length (zip2 bit_xor a b) ≡ length a
-length-combined = length-zip2 bit_xor

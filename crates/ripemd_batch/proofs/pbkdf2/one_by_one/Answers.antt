@@ -1,5 +1,5 @@
-use Rattle.ripemd_block.proofs.Library.{◌≡◌, ℕ, ◌+◌, ◌-◌, List, length, iterate}
-use Rattle.ripemd_mac.proofs.Deriving.{combined_filled, length-combined}
+use Rattle.ripemd_block.proofs.Library.{◌≡◌, ℕ, ◌+◌, ◌-◌, List, length, iterate, bit_xor, length-zip2}
+use Rattle.ripemd_mac.proofs.Deriving.{combined_filled}
 use Rattle.ripemd_batch.specs.Pbkdf2.{combined_tags, tag_after}
 use Rattle.ripemd_batch.proofs.Chaining.{next_tag, next_combined}
 use Rattle.ripemd_batch.proofs.pbkdf2.one_by_one.Goals as goal
@@ -32,4 +32,4 @@ loop-k-preserved g c =
     ) in
     let added = next_combined tag_of first k c.loop-k.auto.k in
     let many : length sum ≡ length next = cc in
-    record { tag = tag; sum = cc (added, combined_filled sum next many); size = cc (added, length-combined sum next many) }
+    record { tag = tag; sum = cc (added, combined_filled sum next many); size = cc (added, length-zip2 bit_xor sum next many) }

@@ -1,8 +1,8 @@
-use Rattle.std.proofs.Common.{◌≡◌, ℕ, ◌+◌, List, [], ◌++◌, length, ap, sym, ◌∙◌}
+use Rattle.ripemd.proofs.Library.{◌≡◌, ℕ, ◌+◌, List, [], ◌++◌, length, ap, sym, ◌∙◌, bit_xor, length-zip2}
 use Rattle.ripemd.specs.Standard.{hash}
 use Rattle.ripemd_mac.specs.Hmac.{filled, hmac}
 use Rattle.ripemd_mac.specs.Pbkdf2.{U, F}
-use Rattle.ripemd_mac.proofs.Deriving.{next_U, next_F, combined_filled, length-combined}
+use Rattle.ripemd_mac.proofs.Deriving.{next_U, next_F, combined_filled}
 use Rattle.ripemd_mac.proofs.pbkdf2.derived_block.Goals as goal
 
 pub loop-j-init : goal.loop-j-init
@@ -33,5 +33,5 @@ loop-j-preserved g c password stands =
     record {
       tag = tag;
       block = cc (combined_filled (so_far j) (u (j + 1)) same);
-      size = cc (length-combined (so_far j) (u (j + 1)) same);
+      size = cc (length-zip2 bit_xor (so_far j) (u (j + 1)) same);
     }
