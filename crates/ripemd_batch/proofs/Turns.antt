@@ -1,8 +1,8 @@
 -- The turns of one message: its blocks one after another, and then, if there is a state for it, its output hashed
 -- again.
-use Rattle.ripemd_block.proofs.Library.{◌≡◌, ℕ, ◌+◌, ◌<◌, ◌≤◌, inl, inr, arith, refl, ap, ◌∙◌, take_all, List, [], length, take, get_or, Option, None, Some, is_some, unwrap_or, cond, cases_lt, fold_more}
+use Rattle.ripemd_block.proofs.Library.{◌≡◌, ℕ, ◌+◌, ◌<◌, ◌≤◌, inl, inr, arith, refl, ap, ◌∙◌, take_all, List, [], length, take, get_or, Option, None, Some, is_some, option_map, unwrap_or, cond, cases_lt, fold_more}
 use Rattle.ripemd_block.specs.Standard.{blocks, walk}
-use Rattle.ripemd_batch.specs.Lanes.{padded_after, hash_after, hashed_again, listed}
+use Rattle.ripemd_batch.specs.Lanes.{padded_after, hash_after, hashed_again}
 
 -- the number of turns, for at most so many blocks
 abbrev pub turns_of : {S : Type 0} → Option S → ℕ → ℕ
@@ -37,7 +37,7 @@ module _ (step : List ℕ → List ℕ → List ℕ) (output : List ℕ → List
 
   pub all_turned : (outer : Option S) (before i : ℕ) (words message : List ℕ) → length bs ≤ most
       → i ≡ turns_of outer most → bs ≡ blocks (padded_after before message) → Turned outer i words
-      → output words ≡ hashed_again step output (listed list outer) (hash_after before first step output) message
+      → output words ≡ hashed_again step output (option_map list outer) (hash_after before first step output) message
   unfolding hash_after
   all_turned None before i words message top end are t =
       ap output (t.walked (omega (arith, end)) ∙ ap (walk step first) (take_all i bs (omega (arith, end)) ∙ are))

@@ -34,12 +34,9 @@ line_of rounds Right = right_line rounds
 abbrev pub targets : List (Bor (List ℕ)) → List (List ℕ)
 targets refs = map (λ r. r.now) refs
 
-abbrev pub list_at : List (List ℕ) → ℕ → List ℕ
+-- message j, or its blocks
+abbrev pub list_at : {A : Type 0} → List (List A) → ℕ → List A
 list_at xs j = slice_index_or xs j []
-
--- the blocks of message j
-abbrev pub blocks_of : List (List (List ℕ)) → ℕ → List (List ℕ)
-blocks_of blocks j = slice_index_or blocks j []
 
 -- ---- messages with bytes before them
 
@@ -82,8 +79,3 @@ PutFrom at elements old new =
 -- the whole chunks of n elements
 unfoldable pub chunks : {A : Type 0} → ℕ → List A → List (List A)
 chunks n xs = first_chunks n (length xs / n) xs
-
--- an optional state as a list of numbers
-abbrev pub listed : {S : Type 0} → (S → List ℕ) → Option S → Option (List ℕ)
-listed list None = None
-listed list (Some state) = Some (list state)

@@ -1,9 +1,9 @@
 //! Groups of at most eight messages, and the hash functions that can hash them at once.
 
-ghost use Rattle.std.specs.Prelude.{◌≡◌, ℕ, ◌+◌, ◌-◌, ◌*◌, ◌^◌, ◌<◌, ◌≤◌, min, true, false, length, map, replicate, slice_index, slice_index_or, [], refl};
+ghost use Rattle.std.specs.Prelude.{◌≡◌, ℕ, ◌+◌, ◌-◌, ◌*◌, ◌^◌, ◌<◌, ◌≤◌, min, true, false, length, map, option_map, replicate, slice_index, slice_index_or, [], refl};
 ghost use Rattle.std.proofs.Common.{arith};
 ghost use Rattle.ripemd_block.specs.Standard.{block_size, blocks};
-ghost use Rattle.ripemd_batch.specs.Lanes.{HasWords, blocks_of, hash_after, hashed_again, list_at, listed, padded_after, targets};
+ghost use Rattle.ripemd_batch.specs.Lanes.{HasWords, hash_after, hashed_again, list_at, padded_after, targets};
 
 use crate::eight::Eight;
 use crate::four::Four;
@@ -224,7 +224,7 @@ pub(crate) fn walk_messages<S: LaneStates>(
 ) -> S
     ensures { (j : ℕ) → j < S.Vector.COUNT → j < length messages.now
         → S.Function.output (S.words_of j result)
-        ≡ hashed_again S.Function.step S.Function.output (listed S.Function.list outer)
+        ≡ hashed_again S.Function.step S.Function.output (option_map S.Function.list outer)
         (hash_after before (S.Function.list first) S.Function.step S.Function.output)
         (list_at (targets messages.now) j) }
 {
@@ -262,7 +262,7 @@ pub(crate) fn walk_messages<S: LaneStates>(
 
 fn block_counts(blocks: &[MessageBlocks; 8]) -> [usize; 8]
     ensures fits { (j : ℕ) → j < 8 → slice_index result j < 2 ^ 64 - 1 }
-    ensures value { (j : ℕ) → j < 8 → slice_index result j ≡ length (blocks_of blocks.now j) }
+    ensures value { (j : ℕ) → j < 8 → slice_index result j ≡ length (list_at blocks.now j) }
 {
     [
         blocks[0].count(),
@@ -302,11 +302,11 @@ fn next_states<S: LaneStates>(
     again: bool,
     second: <S::Function as BlockFunction>::State,
 ) -> S
-    requires { (j : ℕ) → j < 8 → slice_index counts.now j ≡ length (blocks_of blocks.now j) }
-    ensures taken { again ≡ false → (j : ℕ) → j < S.Vector.COUNT → i < length (blocks_of blocks.now j)
+    requires { (j : ℕ) → j < 8 → slice_index counts.now j ≡ length (list_at blocks.now j) }
+    ensures taken { again ≡ false → (j : ℕ) → j < S.Vector.COUNT → i < length (list_at blocks.now j)
         → S.words_of j result ≡ S.Function.step (S.words_of j states)
-        (slice_index_or (blocks_of blocks.now j) i []) }
-    ensures kept { again ≡ false → (j : ℕ) → j < S.Vector.COUNT → length (blocks_of blocks.now j) ≤ i
+        (slice_index_or (list_at blocks.now j) i []) }
+    ensures kept { again ≡ false → (j : ℕ) → j < S.Vector.COUNT → length (list_at blocks.now j) ≤ i
         → S.words_of j result ≡ S.words_of j states }
     ensures again { again ≡ true → (j : ℕ) → j < S.Vector.COUNT
         → S.Function.output (S.words_of j result)
@@ -333,8 +333,8 @@ fn taken_in<S: LaneStates>(
     second: <S::Function as BlockFunction>::State,
 ) -> (S, [S::Vector; 16])
     ensures from { again ≡ false → result.0 ≡ states }
-    ensures block { again ≡ false → (j : ℕ) → j < S.Vector.COUNT → i < length (blocks_of blocks.now j)
-        → HasWords (map S.Vector.words result.1) j (slice_index_or (blocks_of blocks.now j) i []) }
+    ensures block { again ≡ false → (j : ℕ) → j < S.Vector.COUNT → i < length (list_at blocks.now j)
+        → HasWords (map S.Vector.words result.1) j (slice_index_or (list_at blocks.now j) i []) }
     ensures second { again ≡ true → (j : ℕ) → j < S.Vector.COUNT
         → S.words_of j result.0 ≡ S.Function.list second }
     ensures last { again ≡ true → (j : ℕ) → j < S.Vector.COUNT
@@ -380,8 +380,8 @@ fn is_live(count: usize, i: usize) -> u32
 // Block `i` of each message that has one.
 #[inline(always)]
 fn blocks_at<'a>(blocks: &'a [MessageBlocks; 8], i: usize) -> [&'a [u8; 64]; 8]
-    ensures { (j : ℕ) → j < 8 → i < length (blocks_of blocks.now j)
-        → list_at (targets result) j ≡ slice_index_or (blocks_of blocks.now j) i [] }
+    ensures { (j : ℕ) → j < 8 → i < length (list_at blocks.now j)
+        → list_at (targets result) j ≡ slice_index_or (list_at blocks.now j) i [] }
 {
     [
         blocks[0].at(i),

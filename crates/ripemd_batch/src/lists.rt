@@ -1,10 +1,10 @@
 //! Digests of many messages, and tags of many texts under one key.
 
-ghost use Rattle.std.specs.Prelude.{◌≡◌, ◌+◌, ◌*◌, ◌^◌, ◌<◌, ◌≤◌, length, map, IfSome};
+ghost use Rattle.std.specs.Prelude.{◌≡◌, ◌+◌, ◌*◌, ◌^◌, ◌<◌, ◌≤◌, length, map, option_map, IfSome};
 ghost use Rattle.std.specs.List.{flat_map};
 ghost use Rattle.ripemd_block.specs.Standard.{hash};
 ghost use Rattle.ripemd_mac.specs.Hmac.{hmac};
-ghost use Rattle.ripemd_batch.specs.Lanes.{PutFrom, made_by, targets, ListStates, listed};
+ghost use Rattle.ripemd_batch.specs.Lanes.{PutFrom, made_by, targets, ListStates};
 
 use crate::groups::{
     BatchDigest, StateOf, count_blocks, digest_of_digest, digest_one, group_end, message_at,
@@ -67,7 +67,7 @@ impl<D: BatchDigest> Model for ListHasher<D> {
     ghost view = { λ h. record {
       before = h.before;
       first = D.Function.list h.first;
-      outer = listed D.Function.list h.outer;
+      outer = option_map D.Function.list h.outer;
     } };
 
     ghost invariant = { λ h. D.Function.is_state h.first

@@ -1,6 +1,6 @@
 use Rattle.ripemd_block.proofs.Library.{◌≡◌, ℕ, ◌<◌, List, [], ◌∷◌, length, arith, ◌∙◌, lt-leb, le-leb}
 use Rattle.ripemd_block.specs.Standard.{blocks}
-use Rattle.ripemd_batch.specs.Lanes.{targets, list_at, blocks_of, padded_after}
+use Rattle.ripemd_batch.specs.Lanes.{targets, list_at, padded_after}
 use Rattle.ripemd_batch.proofs.EightLanes.{below_eight}
 use Rattle.ripemd_batch.proofs.Turns.{turns_of, turn_on, all_turned}
 use Rattle.ripemd_batch.proofs.groups.walk_messages.Goals as goal
@@ -27,8 +27,8 @@ returns g c j h within =
     let own : List (List (List ℕ)) = c.blocks_of_message.result ∷ c.blocks_of_message-2.result ∷ c.blocks_of_message-3.result
     ∷ c.blocks_of_message-4.result ∷ c.blocks_of_message-5.result ∷ c.blocks_of_message-6.result ∷ c.blocks_of_message-7.result
     ∷ c.blocks_of_message-8.result ∷ [] in
-    let blocks_are : blocks_of own j ≡ blocks (padded_after c.args.before (list_at all j)) =
-    below_eight (λ i. i < length c.args.messages.now → blocks_of own i ≡ blocks (padded_after c.args.before (list_at all i)))
+    let blocks_are : list_at own j ≡ blocks (padded_after c.args.before (list_at all j)) =
+    below_eight (λ i. i < length c.args.messages.now → list_at own i ≡ blocks (padded_after c.args.before (list_at all i)))
     c.blocks_of_message.ensures c.blocks_of_message-2.ensures c.blocks_of_message-3.ensures c.blocks_of_message-4.ensures
     c.blocks_of_message-5.ensures c.blocks_of_message-6.ensures c.blocks_of_message-7.ensures c.blocks_of_message-8.ensures
     j lane within in

@@ -1,6 +1,6 @@
 -- The states are those after so many turns.
 use Rattle.std.proofs.Common.{◌≡◌, ℕ, ◌<◌}
-use Rattle.ripemd_batch.specs.Lanes.{blocks_of}
+use Rattle.ripemd_batch.specs.Lanes.{list_at}
 use Rattle.ripemd_batch.proofs.Turns.{Turned, turns_of}
 use Rattle.ripemd_batch.proofs.groups.walk_messages.Given as goal
 
@@ -10,6 +10,6 @@ invariant-loop-i g l =
     record {
       turns : l.turns ≡ turns_of l.fn.outer l.most;
       turned : (j : ℕ) → j < g.S.Vector.Lanes.COUNT
-          → Turned f.step f.output f.list (f.list l.fn.first) (blocks_of l.blocks j) l.most l.fn.outer l.i
+          → Turned f.step f.output f.list (f.list l.fn.first) (list_at l.blocks j) l.most l.fn.outer l.i
           (g.S.LaneStates.words_of j l.states);
     }
