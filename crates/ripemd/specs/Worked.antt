@@ -58,12 +58,13 @@ pub record WorkedCollisions : Type 0 where
 
 -- ---- the machine of `replay`
 
--- commands of each kind, over some bytes and a saved state. They make hashers 0 and 1, a copy of 0 (2), one from what
--- was saved of 0 (3), and one from the saved state (4)
+-- commands of each kind, over some bytes and a saved state. They make hasher 0, one from the saved state (1), a copy of
+-- 0 (2), one from what was saved of 0 (3), one more from the saved state (4), and a last new one (5)
 abbrev pub each_command : Bor (List ℕ) → Bor (List ℕ) → Bor (List ℕ) → List Command
 each_command a b saved =
-    New ∷ New ∷ Update 0 a ∷ Update 1 b ∷ Fork 0 ∷ Save 0 ∷ Update 0 a ∷ Update 2 b ∷ Reset 1 ∷ Load 0 ∷ Import saved
-    ∷ Update 4 b ∷ Finish 4 ∷ Finish 3 ∷ Finish 2 ∷ Finish 1 ∷ Finish 0 ∷ Update 0 b ∷ Finish 0 ∷ []
+    New ∷ Import saved ∷ Update 0 a ∷ Update 1 b ∷ Fork 0 ∷ Save 0 ∷ Update 0 a ∷ Update 2 b ∷ Reset 1 ∷ Load 0
+    ∷ Import saved ∷ Update 4 b ∷ New ∷ Finish 4 ∷ Finish 3 ∷ Finish 2 ∷ Finish 1 ∷ Finish 0 ∷ Update 4 b ∷ Finish 4
+    ∷ Finish 5 ∷ []
 
 -- for a hash with these start words, step and output, and its states
 module _ (start : List ℕ) (step : List ℕ → List ℕ → List ℕ) (output : List ℕ → List ℕ)
@@ -93,7 +94,7 @@ module _ (start : List ℕ) (step : List ℕ → List ℕ → List ℕ) (output 
     pub digests : (a b saved : Bor (List ℕ)) (h : HashState) → is_valid h → state_bytes h ≡ saved.now
         → Gives start step output is_valid state_bytes (each_command a b saved)
         (digest_from h b.now ∷ digest_of a.now ∷ digest_of (a.now ++ b.now) ∷ digest_of []
-        ∷ digest_of (a.now ++ a.now) ∷ digest_of b.now ∷ [])
+        ∷ digest_of (a.now ++ a.now) ∷ digest_of b.now ∷ digest_of [] ∷ [])
     pub no_hasher : (a : Bor (List ℕ))
         → NoSecond (Update 1 a) × NoSecond (Reset 1) × NoSecond (Finish 1) × NoSecond (Fork 1) × NoSecond (Save 1)
     pub no_saved : Fails (New ∷ Save 0 ∷ Load 1 ∷ []) (NoSaved 2 1)

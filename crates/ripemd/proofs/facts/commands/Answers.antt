@@ -36,7 +36,7 @@ module _ (start : List ℕ) (step : List ℕ → List ℕ → List ℕ) (output 
 
 pub returns : goal.returns
 returns g c = record {
-  digests = λ a b saved h valid same. (_, (_, refl, (_, refl, (_, (omega arith, refl), (_, (omega arith, refl), (_, (omega arith, refl), (_, (omega arith, refl), (_, (omega arith, refl), (_, (omega arith, refl), (_, (omega arith, refl), (_, (omega arith, refl), (_, (h, valid, same, refl), (_, (omega arith, refl), (_, (omega arith, refl), (_, (omega arith, refl), (_, (omega arith, refl), (_, (omega arith, refl), (_, (omega arith, refl), (_, (omega arith, refl), (_, (omega arith, refl), refl))))))))))))))))))), refl);
+  digests = λ a b saved h valid same. (_, (_, refl, (_, (h, valid, same, refl), (_, (omega arith, refl), (_, (omega arith, refl), (_, (omega arith, refl), (_, (omega arith, refl), (_, (omega arith, refl), (_, (omega arith, refl), (_, (omega arith, refl), (_, (omega arith, refl), (_, (h, valid, same, refl), (_, (omega arith, refl), (_, refl, (_, (omega arith, refl), (_, (omega arith, refl), (_, (omega arith, refl), (_, (omega arith, refl), (_, (omega arith, refl), (_, (omega arith, refl), (_, (omega arith, refl), (_, (omega arith, refl), refl))))))))))))))))))))), refl);
   no_hasher = λ a. (
     no_second _ _ _ _ _ _ refl,
     no_second _ _ _ _ _ _ refl,
