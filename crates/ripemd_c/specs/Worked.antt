@@ -132,6 +132,7 @@ pub record WorkedStates : Type 0 where
   pub short : RefusesRoom (FinalizesState (kept saved_bytes)) 19
   pub not_finalized : RefusesRoom (FinalizesState (kept forged)) 20
   pub other_kind : RefusesRoom (FinalizesState (148 ∷ saved_bytes ++ replicate 20 0)) 20
+  pub other_mark : RefusesRoom (FinalizesState (41 ∷ replicate 112 0)) 40
   pub not_updated : (piece new : List ℕ) (done : Bool) → UpdatesState (kept forged) piece new done → Refuses (kept forged) new done
   pub short_saved : RefusesRoom (SavesState (kept saved_bytes)) 91
   pub not_saved : RefusesRoom (SavesState (kept forged)) 92
@@ -153,6 +154,7 @@ pub record WorkedHmacStates : Type 0 where
   pub short : RefusesRoom (FinalizesHmac (kept_hmac saved_inner saved_outer)) 19
   pub not_finalized : RefusesRoom (FinalizesHmac (kept_hmac saved_inner forged)) 20
   pub other_kind : (answer : Bool) → VerifiesHmac (20 ∷ (saved_inner ++ saved_outer) ++ replicate 40 0) tag answer → IsFalse answer
+  pub other_mark : RefusesRoom (FinalizesHmac (169 ∷ replicate 224 0)) 40
   pub verified : (bytes : List ℕ) (answer : Bool) → VerifiesHmac (kept_hmac saved_inner saved_outer) bytes answer
       → IsTrue answer ↔ (bytes ≡ tag)
   pub not_verified : (some : List ℕ) (answer : Bool) → VerifiesHmac (kept_hmac saved_inner forged) some answer

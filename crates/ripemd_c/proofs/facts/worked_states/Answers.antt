@@ -79,6 +79,7 @@ returns-clause-states c = record {
   short = λ new done does. refused done (λ fits. absurd (omega (arith, fits))) (does.state after is_saved);
   not_finalized = λ new done does. does.refused not_state;
   other_kind = λ new done does. does;
+  other_mark = λ new done does. does;
   not_updated = λ piece new done does. let unfit = does.kept.refused.1 not_state in (unfit, does.unchanged unfit);
   short_saved = λ new done does. refused done (λ fits. absurd (omega (arith, fits))) (does.state after is_saved);
   not_saved = λ new done does. does.refused not_state;
@@ -107,6 +108,7 @@ returns-clause-hmac_states c =
       short = λ new done does. refused done (λ fits. absurd (omega (arith, fits))) (does.message key there text);
       not_finalized = λ new done does. does.refused none;
       other_kind = λ answer does. does;
+      other_mark = λ new done does. does;
       verified = λ bytes answer does. does.message key there text;
       not_verified = λ some answer does. does.refused none;
       not_updated = λ piece new done does. let unfit = does.kept.refused.1 none in (unfit, does.unchanged unfit);
