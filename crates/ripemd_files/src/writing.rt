@@ -8,7 +8,7 @@ use crate::line::{Ending, Form, Variant};
 use crate::printing::Style;
 use std::alloc::{AllocError, Global};
 
-// Whether a byte is escaped.
+// Whether a name has a byte that is escaped.
 fn has_special(name: &[u8]) -> bool
     ensures { result ≡ list_any is_special name.now }
 {
