@@ -52,16 +52,20 @@ def build(name, levels):
     return {f"{name}, built for {level}": ROOT / "crates" / name / "out" / level / name for level in levels}
 
 
-def processor_time(command, message=None):
-    """Seconds of a run with this file as standard input."""
+def timed(command, message=None, **options):
+    """Seconds of processor time of a run with this file as standard input, and what it printed, if that is kept."""
     if message:
         message.seek(0)
-    running = subprocess.Popen(command, stdin=message or subprocess.DEVNULL, stdout=subprocess.DEVNULL, stderr=subprocess.DEVNULL)
-    _, status, used = os.wait4(running.pid, 0)
-    running.returncode = os.waitstatus_to_exitcode(status)
-    if running.returncode:
-        sys.exit(f"bench.py: {command} ended with {running.returncode}")
-    return used.ru_utime + used.ru_stime
+    options = {"stdin": message or subprocess.DEVNULL, "stdout": subprocess.DEVNULL, "stderr": subprocess.DEVNULL, **options}
+    before = resource.getrusage(resource.RUSAGE_CHILDREN)
+    said = subprocess.run(command, text=True, check=True, **options).stdout
+    after = resource.getrusage(resource.RUSAGE_CHILDREN)
+    return after.ru_utime + after.ru_stime - before.ru_utime - before.ru_stime, said
+
+
+def least(commands, message=None):
+    """The least time of each command, of runs in turn."""
+    return [min(times) for times in zip(*([timed(words, message)[0] for words in commands] for _ in range(RUNS)))]
 
 
 def by_program(ours):
@@ -72,8 +76,7 @@ def by_program(ours):
         for _ in range(MIB):
             message.write(b"a" * 2**20)
         message.flush()
-        runs = [[processor_time(words, message) for words in commands.values()] for _ in range(RUNS)]
-    speeds = {cell: f"{MIB * 2**20 / min(times) / 1e6:.0f}" for cell, times in zip(commands, zip(*runs))}
+        speeds = {cell: f"{MIB * 2**20 / time / 1e6:.0f}" for cell, time in zip(commands, least(commands.values(), message))}
     title(f"{MIB} MiB of standard input in memory, MB for each second of processor time")
     table(["", *VARIANTS], *([name, *(speeds.get((name, variant), "") for variant in VARIANTS)]
                              for name in dict.fromkeys(name for name, _ in commands)))
@@ -84,7 +87,6 @@ def by_files(ours):
     rows = [(name, [program]) for name, program in ours.items()]
     rows += [(words[0], words) for words in (["rhash", "--ripemd160"], ["openssl", "dgst", "-rmd160"], ["sha256sum"])
              if shutil.which(words[0])]
-    columns = []
     with tempfile.TemporaryDirectory(dir="/dev/shm") as name:
         folder = pathlib.Path(name)
         small = [folder / f"{i:04}" for i in range(SMALL_FILES)]
@@ -94,9 +96,7 @@ def by_files(ours):
         with large.open("wb") as file:
             for _ in range(1024):
                 file.write(b"a" * 2**20)
-        for paths in small, [large]:
-            runs = [[processor_time([*words, *paths]) for _, words in rows] for _ in range(RUNS)]
-            columns.append([min(times) for times in zip(*runs)])
+        columns = [least([[*words, *paths] for _, words in rows]) for paths in (small, [large])]
     title("Files, RIPEMD-160, processor time in seconds")
     table(["", f"{SMALL_FILES:,} files of 4 KiB", "one file of 1 GiB"],
           *([name, f"{few:.3f}", f"{one:.2f}"] for (name, _), few, one in zip(rows, *columns)))
@@ -113,13 +113,6 @@ def by_c(levels, folder):
     subprocess.run([folder / "linked", *(f"{level}={libraries[level]}" for level in levels)], check=True)
 
 
-def user_time(command, environment):
-    """Seconds of a run, and what it printed."""
-    before = resource.getrusage(resource.RUSAGE_CHILDREN).ru_utime
-    said = subprocess.run(command, env={**os.environ, **environment}, capture_output=True, text=True, check=True).stdout
-    return resource.getrusage(resource.RUSAGE_CHILDREN).ru_utime - before, said
-
-
 def by_openssl(levels, folder):
     """The provider beside OpenSSL's own, by the program openssl: the best of runs in turn."""
     if not (folder / "ossl-modules/nattizhu.so").exists() or not shutil.which("openssl"):
@@ -132,15 +125,16 @@ def by_openssl(levels, folder):
     speeds, rounds = {}, {}
     for _ in range(RUNS):
         for name, provider, tunables in rows:
-            environment = {"OPENSSL_MODULES": str(folder / "ossl-modules"), "GLIBC_TUNABLES": tunables}
+            options = {"stdout": subprocess.PIPE, "env": {**os.environ, "OPENSSL_MODULES": str(folder / "ossl-modules"),
+                                                          "GLIBC_TUNABLES": tunables}}
             words = ["-provider", "nattizhu", "-provider", "default"]
-            _, said = user_time(["openssl", "speed", *words, "-propquery", f"provider={provider}", "-mr", "-seconds", "1",
-                                 "-evp", "ripemd160"], environment)
+            _, said = timed(["openssl", "speed", *words, "-propquery", f"provider={provider}", "-mr", "-seconds", "1",
+                             "-evp", "ripemd160"], **options)
             sizes = re.search(r"^\+H:(.*)$", said, re.MULTILINE)[1].split(":")
             speeds.setdefault(name, []).append([float(speed) / 1e6 for speed in said.split("+F:")[1].split(":")[2:]])
-            time, _ = user_time(["openssl", "kdf", *words, "-keylen", "20", "-kdfopt", "digest:RIPEMD-160",
-                                 "-kdfopt", f"properties:provider={provider}", "-kdfopt", "pass:password",
-                                 "-kdfopt", "salt:saltsalt", "-kdfopt", f"iter:{ROUNDS}", "PBKDF2"], environment)
+            time, _ = timed(["openssl", "kdf", *words, "-keylen", "20", "-kdfopt", "digest:RIPEMD-160",
+                             "-kdfopt", f"properties:provider={provider}", "-kdfopt", "pass:password",
+                             "-kdfopt", "salt:saltsalt", "-kdfopt", f"iter:{ROUNDS}", "PBKDF2"], **options)
             rounds.setdefault(name, []).append(ROUNDS / time / 1000)
     best = {name: [*map(max, zip(*speeds[name])), max(rounds[name])] for name in speeds}
     title("Through OpenSSL, RIPEMD-160: messages, MB/s; PBKDF2, thousands of rounds a second")

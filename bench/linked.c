@@ -109,17 +109,24 @@ static int has(const struct library *by, int v, const struct task *task) {
   return (by->all || v == 1) && (task->keyed ? by->tag || by->tag_each : by->digest != NULL);
 }
 
+// Whether bytes are those that stand there in hexadecimal.
+static bool are(const uint8_t *found, const char *digits, size_t size) {
+  uint8_t byte = 0;
+  for (size_t i = 0; i < size; i++)
+    if (sscanf(digits + 2 * i, "%2hhx", &byte) != 1 || byte != found[i])
+      return false;
+  return true;
+}
+
 static void check_tag(const struct library *by) {
-  uint8_t tag[20], wanted[20];
-  for (int i = 0; i < 20; i++)
-    sscanf(TAG + 2 * i, "%2hhx", &wanted[i]);
+  uint8_t tag[20];
   for (int again = 0; again < 2; again++) {
     if (by->tag_each)
       by->tag_each(160, key, sizeof key, (const uint8_t *)TEXT, strlen(TEXT), strlen(TEXT), tag,
                    20);
     else
       by->tag((const uint8_t *)TEXT, strlen(TEXT), tag);
-    if (memcmp(tag, wanted, 20))
+    if (!are(tag, TAG, 20))
       fail(by->name, "a wrong tag");
   }
 }
@@ -127,10 +134,8 @@ static void check_tag(const struct library *by) {
 static void check(const struct library *by, int v) {
   const int size = SIZES[v], bits = 8 * size;
   uint8_t digest[40], wanted[40];
-  for (int i = 0; i < size; i++)
-    sscanf(DIGESTS[v] + 2 * i, "%2hhx", &wanted[i]);
   by->digest(bits, (const uint8_t *)MESSAGE, strlen(MESSAGE), digest, size);
-  int wrong = memcmp(digest, wanted, size);
+  int wrong = !are(digest, DIGESTS[v], size);
   for (size_t length = 0; length < 300; length++) {
     by->digest(bits, bytes + length, length, digest, size);
     libraries[0].digest(bits, bytes + length, length, wanted, size);
@@ -152,15 +157,13 @@ static void check(const struct library *by, int v) {
 
 // The published message, byte by byte.
 static void check_pieces(const struct library *by) {
-  uint8_t digest[20], wanted[20];
-  for (int i = 0; i < 20; i++)
-    sscanf(DIGESTS[1] + 2 * i, "%2hhx", &wanted[i]);
+  uint8_t digest[20];
   for (int again = 0; again < 2; again++) {
     by->inits(by, 1);
     for (const char *at = MESSAGE; *at; at++)
       by->updates(by, (const uint8_t *)at, 1, 1);
     by->finals(by, digest, 1);
-    if (memcmp(digest, wanted, 20))
+    if (!are(digest, DIGESTS[1], 20))
       fail(by->name, "a wrong digest of pieces");
   }
 }
@@ -179,10 +182,8 @@ static void check_keys(const struct library *by) {
   uint8_t password[PASSWORD], salt[PASSWORD], derived[DERIVED_SIZE], wanted[192];
   for (int i = 0; i < PASSWORD; i++)
     password[i] = i + 1, salt[i] = i;
-  for (int i = 0; i < DERIVED_SIZE; i++)
-    sscanf(DERIVED + 2 * i, "%2hhx", &wanted[i]);
   int wrong = !by->derive(160, password, PASSWORD, salt, PASSWORD, 3, derived, DERIVED_SIZE) ||
-              memcmp(derived, wanted, DERIVED_SIZE);
+              !are(derived, DERIVED, DERIVED_SIZE);
   for (int k = 0; k < KEYS_COUNT; k++) {
     size_t length = KEYS[k].length;
     memset(digests, 0, sizeof digests);
@@ -320,23 +321,18 @@ static void print_spread(int first, int cells, int rounds) {
          100 * (all - 1), rounds, 100 * (middle - 1));
 }
 
-// A figure, and behind one of ours the ratio to the fastest of the others.
-static void print_cell(int l, int cell, double figure, const char *form) {
-  printf(form, figure);
-  double part = l < ours ? ratio(l, cell, false) : 0;
-  if (part)
-    printf(" (%.2f)", part);
-}
-
-// Of a task the MB of a second, or the ns for each message; of keys the thousands of rounds of a second.
+// Of a task the MB of a second, or the ns for each message; of pieces the ns for each call; of keys
+// the thousands of rounds of a second.
 static double figure(int cell, double taken) {
   if (cell >= KEY_CELLS)
     return KEYS[cell - KEY_CELLS].count * KEY_ROUNDS / taken / 1e3;
+  if (cell >= PIECE_CELLS)
+    return 1e9 * taken;
   const struct task *task = &TASKS[cell / VARIANTS];
   return task->in_ns ? 1e9 * taken / task->count : task->size * task->count / taken / 1e6;
 }
 
-// A row for each library.
+// A row for each library, with the ratio to the fastest of the others behind each figure of ours.
 static void print_rows(int first, int cells, int rounds) {
   for (int l = 0; l < count; l++) {
     bool any = false;
@@ -346,41 +342,17 @@ static void print_rows(int first, int cells, int rounds) {
       continue;
     printf("| %s |", libraries[l].name);
     for (int cell = first; cell < first + cells; cell++) {
-      double taken = times[l][cell].least;
+      const double taken = times[l][cell].least;
+      const double part = taken && l < ours ? ratio(l, cell, false) : 0;
       if (taken)
-        print_cell(l, cell, figure(cell, taken), " %.0f");
+        printf(cell >= PIECE_CELLS && taken < 1e-7 ? " %.1f" : " %.0f", figure(cell, taken));
+      if (part)
+        printf(" (%.2f)", part);
       printf(" |");
     }
     printf("\n");
   }
   print_spread(first, cells, rounds);
-}
-
-// A row for each call of pieces.
-static void print_pieces(int rounds) {
-  printf("\nMessages in pieces, RIPEMD-160, ns for each call:\n\n| |");
-  for (int l = 0; l < count; l++)
-    if (libraries[l].updates)
-      printf(" %s |", libraries[l].name);
-  printf("\n|---|");
-  for (int l = 0; l < count; l++)
-    if (libraries[l].updates)
-      printf("---|");
-  for (int c = 0; c < CALLS_COUNT; c++) {
-    if (c < PIECES_COUNT)
-      printf("\n| update, %s |", PIECES[c].name);
-    else
-      printf("\n| init%s |", c == INIT_AND_FINAL ? " and final" : "");
-    for (int l = 0; l < count; l++) {
-      if (!libraries[l].updates)
-        continue;
-      double taken = times[l][PIECE_CELLS + c].least;
-      print_cell(l, PIECE_CELLS + c, 1e9 * taken, taken < 1e-7 ? " %.1f" : " %.0f");
-      printf(" |");
-    }
-  }
-  printf("\n");
-  print_spread(PIECE_CELLS, CALLS_COUNT, rounds);
 }
 
 int main(int argc, char **argv) {
@@ -412,7 +384,11 @@ int main(int argc, char **argv) {
     printf("\n%s:\n\n| | 128 | 160 | 256 | 320 |\n|---|---|---|---|---|\n", TASKS[t].title);
     print_rows(t * VARIANTS, VARIANTS, round);
   }
-  print_pieces(round);
+  printf("\nMessages in pieces, RIPEMD-160, ns for each call:\n\n|");
+  for (int c = 0; c < PIECES_COUNT; c++)
+    printf(" | update, %s", PIECES[c].name);
+  printf(" | init | init and final |\n|---|---|---|---|---|---|---|---|---|---|\n");
+  print_rows(PIECE_CELLS, CALLS_COUNT, round);
   printf("\nKeys from passwords, PBKDF2 with HMAC and RIPEMD-160, thousands of rounds a second:\n\n"
          "| | 20 bytes | 64 bytes | 192 bytes | eight of 20 bytes, ours at once |\n"
          "|---|---|---|---|---|\n");
