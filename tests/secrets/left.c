@@ -29,17 +29,17 @@ static void make_tags(void) {
 
 int main(int argc, char **argv) {
   static void (*const calls[])(void) = {make_tag, make_state, make_tags};
-  static Left left;
+  static uint8_t left[STACK];
   fill(key, KEY);
   list[0].bytes = key;
   list[0].length = KEY;
-  run(calls[argc > 1 ? atoi(argv[1]) : 0], &left);
+  run(calls[argc > 1 ? atoi(argv[1]) : 0], left);
   for (int mask = 0; mask < 3; mask++) {
     static const uint8_t masks[] = {0, 0x36, 0x5c};
     uint8_t masked[KEY];
     for (int i = 0; i < KEY; i++)
       masked[i] = key[i] ^ masks[mask];
-    printf("%zu ", words_of(masked, KEY, &left, sizeof left));
+    printf("%zu ", words_of(masked, KEY, left));
   }
   printf("\n");
   return !answer;

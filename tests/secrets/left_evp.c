@@ -30,7 +30,7 @@ static void make_tag(void) {
 }
 
 int main(int argc, char **argv) {
-  static Left left;
+  static uint8_t left[STACK];
   char digest[] = "RIPEMD-160", properties[50];
   uint8_t inner[KEY], outer[KEY], saved[NATTIZHU_HMAC_SAVED_SIZE(SIZE)];
   nattizhu_hmac_state state;
@@ -43,7 +43,7 @@ int main(int argc, char **argv) {
   must(context);
   make_tag(); // once elsewhere, since the first call finds the digest
   fill(key, sizeof key);
-  run(make_tag, &left);
+  run(make_tag, left);
   for (int i = 0; i < KEY; i++) {
     inner[i] = key[i] ^ 0x36;
     outer[i] = key[i] ^ 0x5c;
@@ -53,7 +53,7 @@ int main(int argc, char **argv) {
   const uint8_t *const secrets[] = {key, inner, outer, saved, saved + SIZE + 72};
   const size_t sizes[] = {KEY, KEY, KEY, SIZE, SIZE};
   for (int i = 0; i < 5; i++)
-    printf("%zu ", words_of(secrets[i], sizes[i], left.stack, sizeof left.stack));
+    printf("%zu ", words_of(secrets[i], sizes[i], left));
   printf("\n");
   return 0;
 }
