@@ -27,7 +27,7 @@ def fixture_build(request, arm64, tmp_path):
 
 def test_calls(build, values):
     """With shorter lists, since the emulator is slow."""
-    assert_tried(838000, *build(CALLS, "-DMOST=70"), values)
+    assert_tried(2057000, *build(CALLS, "-DMOST=70"), values)
 
 
 def test_vectors_from_python(arm64, tmp_path):

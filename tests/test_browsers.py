@@ -5,7 +5,6 @@ import functools
 import http.server
 import json
 import os
-import pathlib
 import random
 import re
 import shutil
@@ -185,33 +184,26 @@ def test_small_files(shown, files):
     assert shown.ended(3)[2] == ["one", ["read"], ONE]
 
 
-def memory(parent):
-    """How many bytes a process and all below it hold."""
-    below = {}
-    for status in pathlib.Path("/proc").glob("[0-9]*/status"):
-        with contextlib.suppress(OSError):
-            words = dict(line.split(":", 1) for line in status.read_text().splitlines() if ":" in line)
-            below.setdefault(int(words["PPid"]), []).append(int(words["Pid"]))
-    family = [parent]
-    for pid in family:
-        family += below.get(pid, [])
-    total = 0
-    for pid in family:
-        with contextlib.suppress(OSError):
-            total += int(re.search("^Pss: +([0-9]+)", pathlib.Path(f"/proc/{pid}/smaps_rollup").read_text(), re.M)[1])
-    return total << 10
-
-
 def test_big_file(shown, files):
     """The bar moves on, the browser's memory does not hold the file, and the digests are those of other
     implementations."""
+    psutil = pytest.importorskip("psutil", reason="there is no psutil (Debian's python3-psutil)")
+    browser = psutil.Process(shown.browser.process.pid)
+
+    def memory():
+        held = 0
+        for process in [browser, *browser.children(recursive=True)]:
+            with contextlib.suppress(psutil.NoSuchProcess):
+                held += process.memory_full_info().pss
+        return held
+
     shown.choose(files / "one")
     shown.ended(1)
-    before, most, places = memory(shown.browser.process.pid), 0, []
+    before, most, places = memory(), 0, []
     shown.choose(files / "big")
     while not places or places[-1] < MEBIBYTES << 19:
         places.append(shown.begun())
-        most = max(most, memory(shown.browser.process.pid))
+        most = max(most, memory())
         time.sleep(0.1)
     [name, said, digests] = shown.ended(2)[1]
     assert (name, digests) == ("big", BIG)

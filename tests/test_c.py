@@ -220,13 +220,13 @@ def assert_tried(least, *command, by=run, **options):
 
 
 def test_calls(build, values):
-    assert_tried(2145000, *build(CALLS), values)
+    assert_tried(2147000, *build(CALLS), values)
 
 
 def test_calls_with_sanitizers(library, values, tmp_path, sanitizers):
     run(*sanitizers, "-std=c99", *CHECKED, "-I", CRATE, CALLS, CRATE / "nattizhu.c", library / "libnattizhu.a",
         "-o", tmp_path / "program")
-    assert_tried(2084000, tmp_path / "program", values)
+    assert_tried(2086000, tmp_path / "program", values)
 
 
 @pytest.mark.parametrize("variant", [128, 160, 256, 320])

@@ -122,12 +122,18 @@ def test_installed_package(project):
                      "nattizhu.wasm", "package.json", "ripemd160.d.ts", "ripemd160.js", "ripemd160.wasm", "src"}
 
 
+def tap(folder, name, **environment):
+    """How many of the tests of a file pass, and how many fail."""
+    said = run("node", "--test", "--test-reporter=tap", name, cwd=folder, status=None, timeout=300,
+               env={"NATTIZHU_DATA": str(DATA), **environment}).stdout
+    assert "# skipped 0\n" in said and "# cancelled 0\n" in said
+    return [int(said.split(f"# {what} ")[1].split()[0]) for what in ("pass", "fail")]
+
+
 @pytest.mark.parametrize("name", TESTS)
 def test_tests_of_the_package(project, name):
-    said = run("node", "--test", "--test-reporter=tap", name, cwd=project, timeout=300,
-               env={"NATTIZHU_DATA": str(DATA)}).stdout
-    assert "# fail 0\n" in said and "# skipped 0\n" in said
-    assert int(said.split("# pass ")[1].split()[0]) >= 2
+    passed, failed = tap(project, name)
+    assert passed >= 2 and not failed
 
 
 def test_commands_of_the_page(archive, tmp_path):
@@ -193,13 +199,16 @@ def test_state_of_one_process_taken_up_by_another(project, library, prefix, tmp_
     assert "".join(said) == printed
 
 
+def packed(bundle):
+    """How many bytes a bundle has, packed by brotli."""
+    code = "process.stdout.write(String(require('zlib').brotliCompressSync(require('fs').readFileSync(0)).length))"
+    return int(run("node", "-e", code, input=bundle).stdout)
+
+
 # What a bundle holds, and how many bytes it has at most, packed by brotli.
 @pytest.mark.parametrize("entry, most", [("nattizhu/ripemd160.js", 5000), ("nattizhu", 20480)])
-def test_size_of_a_bundle(project, entry, most, tmp_path):
+def test_size_of_a_bundle(project, entry, most):
     need("esbuild", "esbuild")
     bundle = run("esbuild", "--bundle", "--minify", "--format=esm", cwd=project, input=f"export * from '{entry}'").stdout
-    (tmp_path / "bundle.js").write_text(bundle)
-    packed = run("node", "-e", "process.stdout.write(String(require('zlib').brotliCompressSync("
-                 "require('fs').readFileSync('bundle.js')).length))", cwd=tmp_path).stdout
-    print(f"{entry}: {len(bundle)} bytes, {len(gzip.compress(bundle.encode(), 9))} by gzip, {packed} by brotli")
-    assert int(packed) <= most
+    print(f"{entry}: {len(bundle)} bytes, {len(gzip.compress(bundle.encode(), 9))} by gzip, {packed(bundle)} by brotli")
+    assert packed(bundle) <= most

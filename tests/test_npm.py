@@ -11,12 +11,13 @@ import tarfile
 import urllib.request
 
 import pytest
-from conftest import ABC, DATA, ROOT, fences, need, programs, run, version
+from conftest import ABC, ROOT, fences, need, programs, run, version
+from test_javascript import packed, tap
 
 DEBIAN = pathlib.Path("/usr/share/nodejs")
 DEPENDENTS = ("create-hash", "create-hmac", "pbkdf2")
 TESTS = sorted(path.name for path in (ROOT / "js/ripemd160/test").glob("*.test.js"))
-ENVIRONMENT = {"NODE_PATH": str(DEBIAN), "NATTIZHU_DATA": str(DATA), "RIPEMD160_REPLACED": str(DEBIAN / "ripemd160")}
+ENVIRONMENT = {"NODE_PATH": str(DEBIAN), "RIPEMD160_REPLACED": str(DEBIAN / "ripemd160")}
 
 # The suite of each package, how many of its assertions pass at least, and how many fail at least with wrong digests.
 SUITES = {"ripemd160": ("test/index.js", 392, 392), "create-hash": ("test.js", 6272, 1568),
@@ -129,16 +130,9 @@ def test_installed_packages(project):
         assert files and [file for file in files if (DEBIAN / file).read_bytes() != (modules / file).read_bytes()] == []
 
 
-def tap(folder, name):
-    """How many of the tests of a file pass, and how many fail."""
-    said = run("node", "--test", "--test-reporter=tap", name, cwd=folder, status=None, timeout=300, env=ENVIRONMENT).stdout
-    assert "# skipped 0\n" in said and "# cancelled 0\n" in said
-    return [int(said.split(f"# {what} ")[1].split()[0]) for what in ("pass", "fail")]
-
-
 @pytest.mark.parametrize("name", TESTS)
 def test_tests_of_the_package(project, name):
-    passed, failed = tap(project, name)
+    passed, failed = tap(project, name, **ENVIRONMENT)
     assert passed and not failed
 
 
@@ -149,7 +143,7 @@ def test_program_of_its_readme(project):
 
 
 def test_dependents_use_it(broken):
-    assert tap(broken, "dependents.test.js") == [0, len(DEPENDENTS)]
+    assert tap(broken, "dependents.test.js", **ENVIRONMENT) == [0, len(DEPENDENTS)]
 
 
 @pytest.mark.parametrize("name", SUITES)
@@ -189,11 +183,10 @@ def test_bundle_for_browsers(project, broken, tmp_path):
 def test_size_in_a_bundle(project):
     """Packed by brotli, without hash-base, beside the package that is replaced."""
     need("esbuild", "esbuild")
-    code = "process.stdout.write(String(require('zlib').brotliCompressSync(require('fs').readFileSync(0)).length))"
     sizes = []
     for folder in (project / "node_modules", DEBIAN):
         bundle = run("esbuild", "--bundle", "--minify", "--format=cjs", *(f"--external:{name}" for name in
                      ("buffer", "hash-base", "inherits")), folder / "ripemd160/index.js").stdout
-        sizes.append(int(run("node", "-e", code, input=bundle).stdout))
+        sizes.append(packed(bundle))
     print(f"{sizes[0]} bytes, in place of {sizes[1]}")
     assert sizes[0] <= 5100
