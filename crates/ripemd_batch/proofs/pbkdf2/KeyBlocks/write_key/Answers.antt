@@ -1,9 +1,9 @@
-use Rattle.ripemd_block.proofs.Library.{◌≡◌, ℕ, ◌+◌, ◌-◌, ◌*◌, ◌%◌, ◌<◌, min, List, length, take, drop, length-take-le, length-drop, ap, sym, ◌∙◌, arith, rules, subst, div_ceil}
+use Rattle.ripemd_block.proofs.Library.{◌≡◌, ℕ, ◌+◌, ◌-◌, ◌*◌, ◌%◌, ◌<◌, min, List, length, take, drop, length-take-le, length-drop, ap, refl, sym, ◌∙◌, arith, rules, subst, div_ceil}
 use Rattle.ripemd_block.specs.Standard.{hash}
 use Rattle.ripemd_mac.specs.Hmac.{hmac}
 use Rattle.ripemd_mac.specs.Pbkdf2.{F, pbkdf2}
-use Rattle.ripemd_mac.proofs.Deriving.{Written, all_written, block_begins, one_more}
-use Rattle.ripemd_batch.specs.Pbkdf2.{HasBlocks, KeyList}
+use Rattle.ripemd_mac.proofs.Deriving.{Written, all_written, block_begins, none_written, one_more}
+use Rattle.ripemd_batch.specs.Pbkdf2.{HasBlocks, InGroup, KeyList}
 use Rattle.ripemd_batch.specs.Lanes.{list_at}
 use Rattle.ripemd_batch.proofs.KeyBlocks.{in_group, next_group}
 use Rattle.ripemd_batch.proofs.pbkdf2.KeyBlocks.write_key.Goals as goal
@@ -55,3 +55,18 @@ returns-clause-key g c =
     rw (← is)
     (all_written f size n c.loop-b.key c.digest_size-size.ensures.some
     (subst (λ (b : ℕ). Written f size n b c.loop-b.key) end c.loop-b.invariant.written))
+
+pub loop-b-init : goal.loop-b-init
+loop-b-init g c =
+    let keys = c.args.self.now in
+    record {
+      group = subst (λ n. InGroup g.D.OutputSizeUser.OUTPUT_SIZE (hmac (hash g.D.Digest.start g.D.Digest.step g.D.Digest.output)) keys n c.args.group.now) (omega arith) c.requires.group;
+      written = none_written _ c.digest_size-size.result (length c.args.key.now) c.args.key.now refl;
+    }
+
+pub returns-clause-group : goal.returns-clause-group
+returns-clause-group g c =
+    let keys = c.args.self.now in
+    let end : c.loop-b.b ≡ keys.count = search (rules, arith) ∙ ap (λ (keys : KeyList). keys.count) c.self.view_is in
+    let next : keys.count * c.args.i + c.loop-b.b ≡ keys.count * (c.args.i + 1) = omega (arith, end) in
+    subst (λ n. InGroup g.D.OutputSizeUser.OUTPUT_SIZE (hmac (hash g.D.Digest.start g.D.Digest.step g.D.Digest.output)) keys n c.loop-b.group) next c.loop-b.invariant.group
