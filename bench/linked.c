@@ -110,7 +110,7 @@ static int has(const struct library *by, int v, const struct task *task) {
 }
 
 // Whether bytes are those that stand there in hexadecimal.
-static bool are(const uint8_t *found, const char *digits, size_t size) {
+static bool is_hex_of(const uint8_t *found, const char *digits, size_t size) {
   uint8_t byte = 0;
   for (size_t i = 0; i < size; i++)
     if (sscanf(digits + 2 * i, "%2hhx", &byte) != 1 || byte != found[i])
@@ -126,7 +126,7 @@ static void check_tag(const struct library *by) {
                    20);
     else
       by->tag((const uint8_t *)TEXT, strlen(TEXT), tag);
-    if (!are(tag, TAG, 20))
+    if (!is_hex_of(tag, TAG, 20))
       fail(by->name, "a wrong tag");
   }
 }
@@ -135,7 +135,7 @@ static void check(const struct library *by, int v) {
   const int size = SIZES[v], bits = 8 * size;
   uint8_t digest[40], wanted[40];
   by->digest(bits, (const uint8_t *)MESSAGE, strlen(MESSAGE), digest, size);
-  int wrong = !are(digest, DIGESTS[v], size);
+  int wrong = !is_hex_of(digest, DIGESTS[v], size);
   for (size_t length = 0; length < 300; length++) {
     by->digest(bits, bytes + length, length, digest, size);
     libraries[0].digest(bits, bytes + length, length, wanted, size);
@@ -163,7 +163,7 @@ static void check_pieces(const struct library *by) {
     for (const char *at = MESSAGE; *at; at++)
       by->updates(by, (const uint8_t *)at, 1, 1);
     by->finals(by, digest, 1);
-    if (!are(digest, DIGESTS[1], 20))
+    if (!is_hex_of(digest, DIGESTS[1], 20))
       fail(by->name, "a wrong digest of pieces");
   }
 }
@@ -183,7 +183,7 @@ static void check_keys(const struct library *by) {
   for (int i = 0; i < PASSWORD; i++)
     password[i] = i + 1, salt[i] = i;
   int wrong = !by->derive(160, password, PASSWORD, salt, PASSWORD, 3, derived, DERIVED_SIZE) ||
-              !are(derived, DERIVED, DERIVED_SIZE);
+              !is_hex_of(derived, DERIVED, DERIVED_SIZE);
   for (int k = 0; k < KEYS_COUNT; k++) {
     size_t length = KEYS[k].length;
     memset(digests, 0, sizeof digests);
