@@ -49,8 +49,9 @@ all: toolchain
 	@build/tell $(MAKE) --no-print-directory -j2 ripemd_sum rmdsum >/dev/null
 	$(if $(CPU),,@build/program $(FILES_PROGRAM))
 
+# Beside it rmdsum goes first, which takes longer.
 ripemd_sum:
-	@build/crate $@ $(PROCESSOR)
+	@nice build/crate $@ $(PROCESSOR)
 
 rmdsum:
 	@build/crate $@ $(if $(CPU),$(CPU),x86-64 x86-64-v3)
