@@ -156,6 +156,19 @@ def test_a_build_that_waits_says_so():
     assert build.returncode == 0
 
 
+def test_a_library_that_changed_is_built_again(tmp_path):
+    """Also where `rt ci` built it."""
+    for name in ("build", "crates"):
+        shutil.copytree(ROOT / name, tmp_path / name, ignore=shutil.ignore_patterns("out"))
+    shutil.copy(ROOT / "crates.txt", tmp_path)
+    for name in ("ripemd_block", "ripemd", "ripemd_mac"):
+        (tmp_path / f"crates/{name}/out/rlib/{name}.rlib").mkdir(parents=True)
+    changed = tmp_path / "crates/ripemd_block/src/padding.rt"
+    changed.write_text("none")
+    os.utime(changed, (2 ** 31, 2 ** 31))
+    assert "padding.rt" in run("build/crate", "ripemd_sum", "x86-64", cwd=tmp_path, status=1).stdout
+
+
 @pytest.mark.parametrize("resolution, module", [("node16", "node16"), ("node", "esnext")])
 def test_types(project, tmp_path, resolution, module):
     need("tsc", "node-typescript")
